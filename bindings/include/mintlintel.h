@@ -17,15 +17,24 @@
  * A handle that is not closed keeps its memory.
  *
  * The calls of all hosts of a shared device are in one order, which has the calls of each handle in their order: they are sequentially
- * consistent, and not claimed to be linearizable. There is no mintlintel_host_meet, which would tie what two hosts have seen, since nothing
- * shows that two handles are of one device, and no mintlintel_broom_block, since loading a block's state spoils the broom's last survey.
+ * consistent, and not claimed to be linearizable.
  *
- * A refused call, with any code except 0, 1 and 26, doesn't change the device, except as the call's comment says. */
+ * A call with any code except 0, 1, 23, 26 and 27 has changed no sector, no page and no block. 23 is an erase that is done. 20 to 22, 24 and 25
+ * may have changed which blocks a broom has marked: see mintlintel_broom_drain_next and mintlintel_broom_drain_dead.
+ *
+ * The calls at this header's end are plain C over the others, and not proved. */
 #ifndef MINTLINTEL_H
 #define MINTLINTEL_H
 
 #include <stddef.h>
 #include <stdint.h>
+
+/* The version of this header: 0.1.0 is 1000, 1.2.3 would be 1002003. */
+#define MINTLINTEL_VERSION "0.1.0"
+#define MINTLINTEL_VERSION_MAJOR 0
+#define MINTLINTEL_VERSION_MINOR 1
+#define MINTLINTEL_VERSION_PATCH 0
+#define MINTLINTEL_VERSION_NUMBER (1000000 * MINTLINTEL_VERSION_MAJOR + 1000 * MINTLINTEL_VERSION_MINOR + MINTLINTEL_VERSION_PATCH)
 
 #ifdef __cplusplus
 extern "C" {
@@ -41,61 +50,87 @@ enum mintlintel_code {
     MINTLINTEL_NOT_A_PAGE = 4,      /* the buffer is not as long as a page */
     MINTLINTEL_WORN_OUT = 5,        /* one thread: no page is left for a write, and none can be reclaimed */
     MINTLINTEL_NO_MEMORY = 6,       /* there is no memory for the device */
-    MINTLINTEL_NO_BLOCK = 7,        /* shared: no block is free for a write; let a broom erase, and try again */
+    MINTLINTEL_NO_BLOCK = 7,        /* shared: no block was free for a write; let a broom erase, pause, and try again a bounded number of times */
     MINTLINTEL_ALREADY_OPEN = 8,    /* the handle, or one of the handles, is open already */
     MINTLINTEL_WRONG_KIND = 9,      /* the handle is of another kind: see the kinds of a seat below */
     MINTLINTEL_NO_SUCH_BLOCK = 10,  /* the device has no such block, or a page no such word */
     MINTLINTEL_NOTHING_TO_GAIN = 20, /* a drain: no block is closed, or the best one is all live */
-    MINTLINTEL_NO_SPARE = 21,       /* a drain: the broom has no block to copy to; a restock: no block is free; erase something */
+    MINTLINTEL_NO_SPARE = 21,       /* a drain: the broom has no block to copy to; a restock: no block is free; erase something, or drain_dead */
     MINTLINTEL_LOST = 22,           /* a drain: the block's state changed since it was loaded; try again */
     MINTLINTEL_RETIRED = 23,        /* an erase: done, and it was the block's last */
     MINTLINTEL_PINNED = 24,         /* an erase: a host reads the block; try again later */
     MINTLINTEL_STALE = 25,          /* an erase: the block isn't drained; forget it */
     MINTLINTEL_KEPT = 26,           /* an erase: done, and the broom keeps the block as its spare */
-    MINTLINTEL_BAD_LUNS = 101,      /* luns: 1 to 8 */
-    MINTLINTEL_BAD_BLOCKS = 102,    /* blocks: 3 to 4096, and a multiple of luns */
-    MINTLINTEL_BAD_PAGES = 103,     /* pages of a block: 1 to 16384 */
-    MINTLINTEL_BAD_WORDS = 104,     /* words of a page: 1 to 512, of 8 bytes each */
-    MINTLINTEL_BAD_SECTORS = 105,   /* sectors: 1 to 1048576 */
-    MINTLINTEL_BAD_ENDURANCE = 106, /* erases of a block: 1 to 1000000 */
-    MINTLINTEL_BAD_SEATS = 107,     /* hosts: up to 500; brooms: up to 32, and none without a host */
-    MINTLINTEL_TOO_MANY_WORDS = 108, /* all pages and tables together: up to 16777216 words */
-    MINTLINTEL_TOO_FEW_BLOCKS = 109 /* the sectors leave no room to collect */
+    MINTLINTEL_EXHAUSTED = 27,      /* counts, a collection: no block is free, and none can become free while each closed one has a live page */
+    MINTLINTEL_BAD_LUNS = 101,      /* luns: 1 to MAX_LUNS */
+    MINTLINTEL_BAD_BLOCKS = 102,    /* blocks: MIN_BLOCKS to MAX_BLOCKS, and a multiple of luns */
+    MINTLINTEL_BAD_PAGES = 103,     /* pages of a block: 1 to MAX_PAGES */
+    MINTLINTEL_BAD_WORDS = 104,     /* words of a page: 1 to MAX_WORDS, of WORD_BYTES bytes each */
+    MINTLINTEL_BAD_SECTORS = 105,   /* sectors: 1 to MAX_SECTORS */
+    MINTLINTEL_BAD_ENDURANCE = 106, /* erases of a block: 1 to MAX_ENDURANCE */
+    MINTLINTEL_BAD_SEATS = 107,     /* hosts: up to MAX_HOSTS; brooms: up to MAX_BROOMS, and none without a host */
+    MINTLINTEL_TOO_MANY_WORDS = 108, /* sectors + blocks + blocks * pages * (words + 1): up to MAX_TABLE_WORDS */
+    MINTLINTEL_TOO_FEW_BLOCKS = 109 /* the sectors leave no room to collect: more than mintlintel_most_sectors */
+};
+
+/* The limits of a device's numbers. */
+enum mintlintel_limit {
+    MINTLINTEL_MAX_LUNS = 8,
+    MINTLINTEL_MIN_BLOCKS = 3,
+    MINTLINTEL_MAX_BLOCKS = 4096,
+    MINTLINTEL_MAX_PAGES = 16384,        /* of a block */
+    MINTLINTEL_MAX_WORDS = 512,          /* of a page */
+    MINTLINTEL_MAX_SECTORS = 1048576,
+    MINTLINTEL_MAX_ENDURANCE = 1000000,  /* erases of a block */
+    MINTLINTEL_MAX_HOSTS = 500,
+    MINTLINTEL_MAX_BROOMS = 32,
+    MINTLINTEL_MAX_TABLE_WORDS = 16777216, /* sectors + blocks + blocks * pages * (words + 1) */
+    MINTLINTEL_WORD_BYTES = 8
 };
 
 /* A code's name, for messages. */
 static inline const char *mintlintel_code_name(uint32_t code)
 {
     switch (code) {
-    case 0: return "done, or the sector was empty";
-    case 1: return "the sector was written";
-    case 2: return "the handle is closed";
-    case 3: return "no such sector";
-    case 4: return "not a page";
-    case 5: return "worn out";
-    case 6: return "out of memory";
-    case 7: return "no block is free";
-    case 8: return "already open";
-    case 9: return "wrong kind of handle";
-    case 10: return "no such block or word";
-    case 20: return "nothing to gain";
-    case 21: return "no spare block";
-    case 22: return "lost the block to another";
-    case 23: return "erased and retired";
-    case 24: return "the block is being read";
-    case 25: return "the block isn't drained";
-    case 26: return "erased and kept";
-    case 101: return "luns out of range";
-    case 102: return "blocks out of range";
-    case 103: return "pages out of range";
-    case 104: return "words out of range";
-    case 105: return "sectors out of range";
-    case 106: return "endurance out of range";
-    case 107: return "hosts or brooms out of range";
-    case 108: return "too many words";
-    case 109: return "too few blocks";
+    case MINTLINTEL_DONE: return "done, or the sector was empty";
+    case MINTLINTEL_WRITTEN: return "the sector was written";
+    case MINTLINTEL_CLOSED: return "the handle is closed";
+    case MINTLINTEL_NO_SECTOR: return "no such sector";
+    case MINTLINTEL_NOT_A_PAGE: return "not a page";
+    case MINTLINTEL_WORN_OUT: return "worn out";
+    case MINTLINTEL_NO_MEMORY: return "out of memory";
+    case MINTLINTEL_NO_BLOCK: return "no block is free";
+    case MINTLINTEL_ALREADY_OPEN: return "already open";
+    case MINTLINTEL_WRONG_KIND: return "wrong kind of handle";
+    case MINTLINTEL_NO_SUCH_BLOCK: return "no such block or word";
+    case MINTLINTEL_NOTHING_TO_GAIN: return "nothing to gain";
+    case MINTLINTEL_NO_SPARE: return "no spare block";
+    case MINTLINTEL_LOST: return "lost the block to another";
+    case MINTLINTEL_RETIRED: return "erased and retired";
+    case MINTLINTEL_PINNED: return "the block is being read";
+    case MINTLINTEL_STALE: return "the block isn't drained";
+    case MINTLINTEL_KEPT: return "erased and kept";
+    case MINTLINTEL_EXHAUSTED: return "no block is free, and none can become free";
+    case MINTLINTEL_BAD_LUNS: return "luns out of range";
+    case MINTLINTEL_BAD_BLOCKS: return "blocks out of range";
+    case MINTLINTEL_BAD_PAGES: return "pages out of range";
+    case MINTLINTEL_BAD_WORDS: return "words out of range";
+    case MINTLINTEL_BAD_SECTORS: return "sectors out of range";
+    case MINTLINTEL_BAD_ENDURANCE: return "endurance out of range";
+    case MINTLINTEL_BAD_SEATS: return "hosts or brooms out of range";
+    case MINTLINTEL_TOO_MANY_WORDS: return "too many words";
+    case MINTLINTEL_TOO_FEW_BLOCKS: return "too few blocks";
     default: return "no such code";
     }
+}
+
+/* The most sectors that these blocks have room for, or 0 if they are too few for any. A device for one thread has no hosts, and keeps a block
+ * and a page to collect; a shared device keeps a block for each host and two for each broom. */
+static inline uint64_t mintlintel_most_sectors(uint32_t blocks, uint32_t pages, uint32_t hosts, uint32_t brooms)
+{
+    uint64_t kept = hosts == 0 ? 1 : hosts + 2 * (uint64_t)brooms;
+    uint64_t room = blocks > kept ? (blocks - kept) * pages : 0;
+    return hosts == 0 && room > 0 ? room - 1 : room;
 }
 
 /* The numbers that a device was made with. A device for one thread has no hosts and no brooms. */
@@ -150,6 +185,28 @@ struct mintlintel_seat { void *at; uint64_t is_open; };
 /* A page that a host holds: its block, in this generation of the block. */
 struct mintlintel_page { uint32_t block, generation; };
 
+/* What a block is, from one erase to the next: free; open, while a host or a broom programs it or a broom keeps it as its spare; closed; then
+ * a broom's victim, drained, and being erased. After its last erase it is retired for ever. */
+enum mintlintel_phase {
+    MINTLINTEL_PHASE_FREE = 0,
+    MINTLINTEL_PHASE_OPEN = 1,
+    MINTLINTEL_PHASE_CLOSED = 2,
+    MINTLINTEL_PHASE_VICTIM = 3,
+    MINTLINTEL_PHASE_DRAINED = 4,
+    MINTLINTEL_PHASE_ERASING = 5,
+    MINTLINTEL_PHASE_RETIRED = 6
+};
+
+/* A block: its phase, the hosts that read it now, the pages that are written since its last erase (of a retired block: before it), and its
+ * erases. */
+struct mintlintel_state { uint32_t phase, readers, written, erases; };
+
+/* The erases of all blocks, how many blocks are in each phase, and 1 if the broom that counts has a spare. */
+struct mintlintel_counts {
+    uint64_t erases;
+    uint32_t free, open, closed, victims, drained, erasing, retired, spares;
+};
+
 /* Opens a device with a seat for each of these handles, every sector empty: 0; 6, 8, or the first fault of the numbers, 101 to 109.
  * 107 if there is no host; 8 if a handle is open, before the faults; 6 after them. With any code but 0 all handles are as they were. */
 uint32_t mintlintel_shared_open(struct mintlintel_seat *hosts, size_t host_count, struct mintlintel_seat *brooms, size_t broom_count,
@@ -164,7 +221,9 @@ uint32_t mintlintel_seat_numbers(struct mintlintel_seat *handle, struct mintlint
 /* Reads a sector into `out`: 1 with the page in `out`; 0 for an empty sector, and 2, 3, 4 or 9, with `out` as it was. */
 uint32_t mintlintel_host_read(struct mintlintel_seat *handle, uint32_t sector, uint8_t *out, size_t bytes);
 
-/* Writes a page to a sector: 0 or 1 for what the sector was; 2, 3, 4, 7 or 9. */
+/* Writes a page to a sector: 0 or 1 for what the sector was; 2, 3, 4, 7 or 9. 7 says that each block was found taken, and not why: brooms may be
+ * behind, the device may be full of live pages, or worn out. So bound the loop that tries again, and pause in it: hosts that try again at
+ * once keep each other and the brooms from going on. mintlintel_write_within does both. */
 uint32_t mintlintel_host_write(struct mintlintel_seat *handle, uint32_t sector, const uint8_t *bytes, size_t count);
 
 /* Writes a page to a sector that is empty: 0 if it wrote, 1 if the sector was written and has stayed so, with a page of the device used up;
@@ -198,15 +257,64 @@ uint32_t mintlintel_host_release(struct mintlintel_seat *handle);
 uint32_t mintlintel_broom_drain(struct mintlintel_seat *handle, uint32_t *block, uint32_t *moved);
 
 /* Drains the next block by the survey that this broom's last drain made, without a new survey: of the blocks that were closed then, and that the
- * broom has neither drained nor found changed nor erased since, the one with the fewest live pages then. The codes are those of a drain, with
+ * broom has neither drained nor found changed nor been asked to erase since, the one with the fewest live pages then. An erase takes the block's
+ * mark away whatever it returns, also 24 and 25. The codes are those of a drain, with
  * `block` and `moved` as they were unless it returns 0: 20 if no such block is left (as before the broom's first drain) or it was all live. */
 uint32_t mintlintel_broom_drain_next(struct mintlintel_seat *handle, uint32_t *block, uint32_t *moved);
+
+/* Drains the closed block with the fewest live pages, by a new survey, if it has none: no page moves, so no spare is needed, and after a trim a
+ * broom without one can go on. 0 with its number in `block` and 0 in `moved`; 2, 9, 20 as a drain, 21 if the block has a live page, or 22, with
+ * both as they were. */
+uint32_t mintlintel_broom_drain_dead(struct mintlintel_seat *handle, uint32_t *block, uint32_t *moved);
 
 /* Erases a drained block: 0 if it is free, 26 if the broom keeps it as its spare, 23 if it was the block's last erase; 2, 9, 10, 24 or 25. */
 uint32_t mintlintel_broom_erase(struct mintlintel_seat *handle, uint32_t block);
 
 /* Makes a free block the spare of a broom that has none: 0 if the broom has a spare now; 2, 9, or 21 if it has none and no block is free. */
 uint32_t mintlintel_broom_restock(struct mintlintel_seat *handle);
+
+/* The state of a block, by one load: 0; 2, 9 or 10 leave `state` as it was. Other threads may change the block meanwhile. The broom keeps the
+ * survey of its last drain; only a block whose state has changed since then may lose its mark. */
+uint32_t mintlintel_broom_block(struct mintlintel_seat *handle, uint32_t block, struct mintlintel_state *state);
+
+/* Counts the blocks by their phases: each block's state is loaded once, one after the other, while other threads go on. The broom keeps its
+ * survey, as with mintlintel_broom_block. 0; 27 with the counts too, if no block is free and none can become free while each closed block has a
+ * live page: the device has this broom alone, it has no spare, and no block is free, a victim, drained or being erased. 2 or 9 leave `counts`
+ * as it was.
+ * With several brooms it returns 0, since another one may have a spare. If each of them has counted, all without a spare, and the last one,
+ * while the others made no call, has found no block that is free, a victim, drained or being erased, then it is the same. */
+uint32_t mintlintel_broom_counts(struct mintlintel_seat *handle, struct mintlintel_counts *counts);
+
+/* ---- Plain C over the calls above, and not proved ---- */
+
+/* The version of the library that is linked: MINTLINTEL_VERSION, and ", not proved" behind it if it was built without proof. */
+const char *mintlintel_version(void);
+
+/* Why an open of these numbers returned this code, in at most `bytes` bytes with a zero at the end: of 101 to 109 what was given, what the limit
+ * is, and what would do; of any other code its name. */
+void mintlintel_explain(uint32_t code, const struct mintlintel_numbers *numbers, char *text, size_t bytes);
+
+/* Changes numbers that an open refuses to near ones that it takes: each into its limits, then the number of blocks, and only if that doesn't do
+ * the pages of a block and the sectors. A device for one thread has no hosts; to ask for a shared one, give at least one. */
+void mintlintel_nearest(struct mintlintel_numbers *numbers);
+
+/* What a collection did: blocks that came free, blocks that were erased and are the broom's spare now, free blocks that became its spare, blocks
+ * that were retired, live pages that were moved, and erases that a reader of the block put off. */
+struct mintlintel_collected { uint32_t freed, kept, restocked, retired, moved, pinned; };
+
+/* Collects until `goal` blocks have come free: it erases what is drained already, drains and erases the blocks with the fewest live pages, and
+ * takes a free block as the broom's spare if it has lost its own. If none is free, it drains and erases a block without live pages, and that is
+ * the spare. It surveys the device once at most, and once more each time that it looks for such a block. 0 if the goal is reached. With any other
+ * code pause before the next call: 20 if there is nothing more to gain until hosts write or trim; 21 if the broom has no spare, no block is free,
+ * and each closed one has a live page; 24 if what is left to erase is being read; 27 as 21, if moreover mintlintel_broom_counts returns it: then
+ * this broom is done, unless hosts go on to trim. 2 or 9. `did` says what it did with each of these codes.
+ *
+ * A broom that never rests moves pages that would soon have died: rest while mintlintel_broom_counts finds enough free blocks. */
+uint32_t mintlintel_collect(struct mintlintel_seat *broom, uint32_t goal, struct mintlintel_collected *did);
+
+/* Writes as mintlintel_host_write does; while that returns 7, it pauses, 20 microseconds at first and a millisecond at most, and tries again, up
+ * to this many milliseconds. It returns what the last try did: 7 then says that no block came free in this time. */
+uint32_t mintlintel_write_within(struct mintlintel_seat *handle, uint32_t sector, const uint8_t *bytes, size_t count, uint32_t milliseconds);
 
 #ifdef __cplusplus
 }

@@ -1,10 +1,11 @@
 """Packs the package with the shared object as a wheel: PEP 517, without any other package. The shared object is that of the
-folder that MINTLINTEL_LIB names, or it is made by make, which needs the toolchain."""
+folder that MINTLINTEL_LIB names, or it is made by make, which needs the toolchain. One that is not proved is not packed."""
 
 import base64
 import hashlib
 import os
 import subprocess
+import sys
 import sysconfig
 import tarfile
 import time
@@ -26,11 +27,19 @@ def shared_object():
     return Path(folder) / "libmintlintel.so"
 
 
+def proved(path):
+    """The bytes of a library that is proved: one that isn't says so in its version."""
+    data = path.read_bytes()
+    if b", not proved" in data:
+        sys.exit(f"{path} is not proved, and is not packed")
+    return data
+
+
 def build_wheel(wheel_directory, config_settings=None, metadata_directory=None):
     name = f"{NAME}-{VERSION}-{TAG}.whl"
     described = f"{NAME}-{VERSION}.dist-info"
     files = {f"{NAME}/{path.name}": path.read_bytes() for path in sorted((HERE / NAME).iterdir()) if path.suffix in (".py", ".typed")}
-    files[f"{NAME}/libmintlintel.so"] = shared_object().read_bytes()
+    files[f"{NAME}/libmintlintel.so"] = proved(shared_object())
     files[f"{described}/METADATA"] = METADATA.encode()
     files[f"{described}/WHEEL"] = f"Wheel-Version: 1.0\nGenerator: packing\nRoot-Is-Purelib: false\nTag: {TAG}\n".encode()
     record = "".join(f"{path},sha256={digest(data)},{len(data)}\n" for path, data in files.items())

@@ -6,7 +6,8 @@
 enum call {
     CALL_one_open, CALL_one_read, CALL_one_write, CALL_one_write_new, CALL_one_trim, CALL_one_counts, CALL_one_block, CALL_shared_open,
     CALL_seat_numbers, CALL_host_read, CALL_host_write, CALL_host_write_new, CALL_host_trim, CALL_host_look, CALL_host_hold, CALL_host_copy,
-    CALL_host_word, CALL_host_held, CALL_host_release, CALL_broom_drain, CALL_broom_drain_next, CALL_broom_erase, CALL_broom_restock, CALLS
+    CALL_host_word, CALL_host_held, CALL_host_release, CALL_broom_drain, CALL_broom_drain_next, CALL_broom_drain_dead, CALL_broom_erase, CALL_broom_restock,
+    CALL_broom_block, CALL_broom_counts, CALLS
 };
 enum { CODES = 128 };
 #define CALL(name, ...) counted(CALL_##name, mintlintel_##name(__VA_ARGS__))
@@ -209,6 +210,22 @@ static uint32_t block_by(uint32_t byte)
     return byte / 2 % (BLOCKS + 1);
 }
 
+static void report_call(uint32_t seat, uint32_t block, uint32_t unfit_code)
+{
+    struct mintlintel_state state = {7, 7, 7, 7}, expected = state;
+    uint32_t wanted = unfit_code ? unfit_code : block >= BLOCKS ? MINTLINTEL_NO_SUCH_BLOCK : 0;
+    if (!wanted)
+        expected = shared_block(&m, 0, block);
+    CHECK(CALL(broom_block, &seats[seat], block, &state) == wanted && memcmp(&state, &expected, sizeof state) == 0);
+}
+
+static void counts_call(uint32_t seat, uint32_t unfit_code)
+{
+    struct mintlintel_counts counts = {7, 7, 7, 7, 7, 7, 7, 7, 7}, expected = counts;
+    uint32_t wanted = unfit_code ? unfit_code : shared_counts(&m, 0, &expected);
+    CHECK(CALL(broom_counts, &seats[seat], &counts) == wanted && memcmp(&counts, &expected, sizeof counts) == 0);
+}
+
 static void broom_call(uint32_t call, uint32_t seat, struct input *in)
 {
     uint32_t number = block_by(next(in)), wanted = unfit(seat, BROOM), code;
@@ -221,9 +238,17 @@ static void broom_call(uint32_t call, uint32_t seat, struct input *in)
         wanted = wanted ? wanted : number >= BLOCKS ? MINTLINTEL_NO_SUCH_BLOCK : 0;
         code = CALL(broom_erase, &seats[seat], number);
         CHECK(code == (wanted ? wanted : shared_erase(&m, 0, number)));
-    } else {
+    } else if (call == 5) {
         code = CALL(broom_restock, &seats[seat]);
         CHECK(code == (wanted ? wanted : shared_restock(&m, 0)));
+    } else if (call == 6) {
+        report_call(seat, number, wanted);
+    } else if (call == 7) {
+        counts_call(seat, wanted);
+    } else {
+        code = CALL(broom_drain_dead, &seats[seat], &block, &moved);
+        CHECK(code == (wanted ? wanted : shared_drain_dead(&m, 0, &model_block, &model_moved)));
+        CHECK(block == model_block && moved == model_moved);
     }
 }
 
@@ -259,7 +284,7 @@ static void seat_call(uint32_t call, uint32_t seat, struct input *in)
             begin_shared();
         break;
     case 1:
-        if (byte < 32)
+        if (byte < 8)
             close_seat(seat);
         break;
     default:
@@ -271,17 +296,17 @@ static void seat_call(uint32_t call, uint32_t seat, struct input *in)
 
 static void shared_call(struct input *in)
 {
-    uint32_t call = next(in) % 24, seat = next(in) % SEATS;
+    uint32_t call = next(in) % 27, seat = next(in) % SEATS;
     if (call < 9)
         host_call(call % 7, seat, in);
     else if (call < 13)
         holder_call(call - 9, seat, in);
-    else if (call < 19)
+    else if (call < 22)
         broom_call(call - 13, seat, in);
-    else if (call < 21)
-        broom_call(call - 18, SWEEP, in);
+    else if (call < 24)
+        broom_call(call - 21, SWEEP, in);
     else
-        seat_call(call - 21, seat, in);
+        seat_call(call - 24, seat, in);
 }
 
 /* Each sector reads as the models have it, by each host. */

@@ -215,6 +215,23 @@ static inline void make_survey(const struct shared_model *m, struct survey *s)
     }
 }
 
+/* The marked block with the fewest live pages, the lowest on a tie, or NONE if there is nothing to gain. */
+static inline int victim_of(const struct survey *s)
+{
+    int victim = NONE;
+    for (int i = 0; i < BLOCKS; i++)
+        if (s->marked[i] && (victim == NONE || s->live[i] < s->live[victim]))
+            victim = i;
+    return victim == NONE || s->live[victim] == PAGES ? NONE : victim;
+}
+
+/* Whether a block has another state than the survey has. */
+static inline int has_changed(const struct shared_model *m, const struct survey *s, int block)
+{
+    const struct state *now = &m->blocks[block].state, *then = &s->states[block];
+    return now->phase != then->phase || now->readers != then->readers || now->generation != then->generation;
+}
+
 /* Moves a page that is live to the destination, which is the spare if there is none yet. */
 static inline void move_page(struct shared_model *m, struct broom_model *b, int block, int page)
 {
@@ -231,19 +248,16 @@ static inline uint32_t shared_drain(struct shared_model *m, int broom, int anew,
 {
     struct broom_model *b = &m->brooms[broom];
     struct survey *s = &b->survey;
-    int victim = NONE;
     if (b->spare == NONE)
         return MINTLINTEL_NO_SPARE;
     if (anew)
         make_survey(m, s);
-    for (int i = 0; i < BLOCKS; i++)
-        if (s->marked[i] && (victim == NONE || s->live[i] < s->live[victim]))
-            victim = i;
-    if (victim == NONE || s->live[victim] == PAGES)
+    int victim = victim_of(s);
+    if (victim == NONE)
         return MINTLINTEL_NOTHING_TO_GAIN;
     s->marked[victim] = 0;
-    struct state *now = &m->blocks[victim].state, *then = &s->states[victim];
-    if (now->phase != then->phase || now->readers != then->readers || now->generation != then->generation)
+    struct state *now = &m->blocks[victim].state;
+    if (has_changed(m, s, victim))
         return MINTLINTEL_LOST;
     *block = (uint32_t)victim;
     *moved = 0;
@@ -256,6 +270,23 @@ static inline uint32_t shared_drain(struct shared_model *m, int broom, int anew,
     return MINTLINTEL_DONE;
 }
 
+/* A drain of the block with the fewest live pages, by a new survey, if it has none. It needs no spare. */
+static inline uint32_t shared_drain_dead(struct shared_model *m, int broom, uint32_t *block, uint32_t *moved)
+{
+    struct survey *s = &m->brooms[broom].survey;
+    make_survey(m, s);
+    int victim = victim_of(s);
+    if (victim == NONE)
+        return MINTLINTEL_NOTHING_TO_GAIN;
+    if (s->live[victim] > 0)
+        return MINTLINTEL_NO_SPARE;
+    s->marked[victim] = 0;
+    m->blocks[victim].state.phase = DRAINED;
+    *block = (uint32_t)victim;
+    *moved = 0;
+    return MINTLINTEL_DONE;
+}
+
 static inline uint32_t shared_erase(struct shared_model *m, int broom, uint32_t block)
 {
     struct shared_block *b = &m->blocks[block];
@@ -264,12 +295,12 @@ static inline uint32_t shared_erase(struct shared_model *m, int broom, uint32_t 
         return MINTLINTEL_STALE;
     if (b->state.readers > 0)
         return MINTLINTEL_PINNED;
-    b->programmed = 0;
     b->state.generation++;
     if (b->state.generation == ENDURANCE) {
         b->state.phase = RETIRED;
         return MINTLINTEL_RETIRED;
     }
+    b->programmed = 0;
     if (m->brooms[broom].spare == NONE) {
         b->state.phase = OPENED;
         m->brooms[broom].spare = (int)block;
@@ -284,6 +315,35 @@ static inline uint32_t shared_restock(struct shared_model *m, int broom)
     if (m->brooms[broom].spare == NONE)
         m->brooms[broom].spare = lowest_free(m);
     return m->brooms[broom].spare == NONE ? MINTLINTEL_NO_SPARE : MINTLINTEL_DONE;
+}
+
+/* The state of a block, whose mark goes if the survey has another one. */
+static inline struct mintlintel_state shared_block(struct shared_model *m, int broom, uint32_t block)
+{
+    static const uint32_t phases[] = {
+        [FREE] = MINTLINTEL_PHASE_FREE, [OPENED] = MINTLINTEL_PHASE_OPEN, [FULL] = MINTLINTEL_PHASE_CLOSED, [DRAINED] = MINTLINTEL_PHASE_DRAINED,
+        [RETIRED] = MINTLINTEL_PHASE_RETIRED,
+    };
+    const struct shared_block *b = &m->blocks[block];
+    struct survey *s = &m->brooms[broom].survey;
+    s->marked[block] &= !has_changed(m, s, (int)block);
+    return (struct mintlintel_state){phases[b->state.phase], (uint32_t)b->state.readers, (uint32_t)b->programmed, b->state.generation};
+}
+
+/* The counts of the blocks, and the code: without a spare, and with no block that is free or to be erased, only a dead one can become free. */
+static inline uint32_t shared_counts(struct shared_model *m, int broom, struct mintlintel_counts *counts)
+{
+    int blocks[RETIRED + 1] = {0};
+    uint64_t erases = 0;
+    for (uint32_t block = 0; block < BLOCKS; block++) {
+        erases += shared_block(m, broom, block).erases;
+        blocks[m->blocks[block].state.phase]++;
+    }
+    *counts = (struct mintlintel_counts){
+        .erases = erases, .free = (uint32_t)blocks[FREE], .open = (uint32_t)blocks[OPENED], .closed = (uint32_t)blocks[FULL],
+        .drained = (uint32_t)blocks[DRAINED], .retired = (uint32_t)blocks[RETIRED], .spares = m->brooms[broom].spare != NONE,
+    };
+    return counts->spares + counts->free + counts->drained > 0 ? MINTLINTEL_DONE : MINTLINTEL_EXHAUSTED;
 }
 
 /* A block that a seat has open counts as full as soon as the seat is closed. */

@@ -1,43 +1,19 @@
 /* The fuzzer's calls from random bytes, the same in each run: each call returns each of its codes, and no other one. */
 #include "fuzz.c"
+#include "each_code.h"
 
 /* The codes of each call, except 6 of an open, and 22 of a drain, which needs another thread. */
-static const char *codes_of[CALLS] = {
+static const char *const codes_of[CALLS] = {
     [CALL_one_open] = "0 8 102", [CALL_one_read] = "0 1 2 3 4", [CALL_one_write] = "0 1 2 3 4 5", [CALL_one_write_new] = "0 1 2 3 4 5",
     [CALL_one_trim] = "0 1 2 3", [CALL_one_counts] = "0 2", [CALL_one_block] = "0 2 10", [CALL_shared_open] = "0 8 104",
     [CALL_seat_numbers] = "0 2", [CALL_host_read] = "0 1 2 3 4 9", [CALL_host_write] = "0 1 2 3 4 7 9",
     [CALL_host_write_new] = "0 1 2 3 4 7 9", [CALL_host_trim] = "0 1 2 3 9", [CALL_host_look] = "0 1 2 3 9", [CALL_host_hold] = "0 1 2 3 9",
     [CALL_host_copy] = "1 2 4 9", [CALL_host_word] = "0 2 9 10", [CALL_host_held] = "0 2 9", [CALL_host_release] = "0 2 9",
-    [CALL_broom_drain] = "0 2 9 20 21", [CALL_broom_drain_next] = "0 2 9 20 21 22", [CALL_broom_erase] = "0 2 9 10 23 24 25 26",
-    [CALL_broom_restock] = "0 2 9 21",
+    [CALL_broom_drain] = "0 2 9 20 21", [CALL_broom_drain_next] = "0 2 9 20 21 22", [CALL_broom_drain_dead] = "0 2 9 20 21",
+    [CALL_broom_erase] = "0 2 9 10 23 24 25 26", [CALL_broom_restock] = "0 2 9 21", [CALL_broom_block] = "0 2 9 10", [CALL_broom_counts] = "0 2 9 27",
 };
-
-static int is_named(const char *codes, uint32_t code)
-{
-    char *end;
-    for (const char *at = codes; *at; at = end)
-        if (strtoul(at, &end, 10) == code)
-            return 1;
-    return 0;
-}
 
 int main(void)
 {
-    static uint8_t bytes[40000];
-    uint64_t state = 88172645463325252u, calls = 0;
-    for (int round = 0; round < 200; round++) {
-        for (size_t i = 0; i < sizeof bytes; i++)
-            bytes[i] = (uint8_t)drawn(&state);
-        LLVMFuzzerTestOneInput(bytes, sizeof bytes);
-    }
-    for (uint32_t call = 0; call < CALLS; call++)
-        for (uint32_t code = 0; code < CODES; code++) {
-            calls += returned[call][code];
-            if ((returned[call][code] > 0) != is_named(codes_of[call], code)) {
-                fprintf(stderr, "call %u returned code %u %llu times\n", call, code, (unsigned long long)returned[call][code]);
-                return 1;
-            }
-        }
-    printf("random_calls: %llu calls agree with the models, and return each code\n", (unsigned long long)calls);
-    return 0;
+    return !returns_each_code("random_calls", codes_of, 200);
 }

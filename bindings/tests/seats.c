@@ -186,6 +186,31 @@ static void test_drain_next(void)
     close_device();
 }
 
+/* A broom without a spare drains a block as soon as it has no live page, and after its erase it has a spare again. */
+static void test_drain_of_a_dead_block(void)
+{
+    uint32_t block = 77, moved = 78, lost;
+    open_device();
+    CHECK(mintlintel_broom_drain_dead(broom, &block, &moved) == MINTLINTEL_NOTHING_TO_GAIN && block == 77 && moved == 78);
+    CHECK(write_byte(first, 0, 1) == MINTLINTEL_EMPTY && write_byte(first, 1, 1) == MINTLINTEL_EMPTY && write_byte(second, 1, 2) == MINTLINTEL_WRITTEN);
+    lost = block_of(first, 0);
+    CHECK(mintlintel_broom_drain_dead(broom, &block, &moved) == MINTLINTEL_NO_SPARE && block == 77 && moved == 78);
+    check_drain(MINTLINTEL_DONE, lost, 1);
+    while (write_byte(second, 2, 3) <= MINTLINTEL_WRITTEN)
+        ;
+    CHECK(mintlintel_broom_restock(broom) == MINTLINTEL_NO_SPARE);
+    check_drain(MINTLINTEL_NO_SPARE, 0, 0);
+    for (uint32_t sector = 0; sector < SECTORS; sector++)
+        mintlintel_host_trim(first, sector);
+    check_drain(MINTLINTEL_NO_SPARE, 0, 0);
+    CHECK(mintlintel_broom_drain_dead(broom, &block, &moved) == MINTLINTEL_DONE && block == 1 && moved == 0);
+    CHECK(mintlintel_broom_erase(broom, block) == MINTLINTEL_KEPT);
+    CHECK(mintlintel_broom_drain_next(broom, &block, &moved) == MINTLINTEL_DONE && block == 2 && moved == 0);
+    CHECK(mintlintel_broom_erase(broom, block) == MINTLINTEL_DONE && write_byte(second, 2, 4) == MINTLINTEL_EMPTY);
+    check_read(first, 2, 4);
+    close_device();
+}
+
 /* One look says whether a sector is written. */
 static void test_look(void)
 {
@@ -230,6 +255,7 @@ static void test_handle_of_the_other_type(void)
     CHECK(mintlintel_host_held(one, &place) == MINTLINTEL_WRONG_KIND && mintlintel_host_release(one) == MINTLINTEL_WRONG_KIND);
     CHECK(mintlintel_broom_drain(one, &block, &moved) == MINTLINTEL_WRONG_KIND);
     CHECK(mintlintel_broom_drain_next(one, &block, &moved) == MINTLINTEL_WRONG_KIND);
+    CHECK(mintlintel_broom_drain_dead(one, &block, &moved) == MINTLINTEL_WRONG_KIND);
     CHECK(mintlintel_broom_erase(one, 0) == MINTLINTEL_WRONG_KIND && mintlintel_broom_restock(one) == MINTLINTEL_WRONG_KIND);
     CHECK(memcmp(page, kept, PAGE) == 0 && memcmp(&totals, &totals_kept, sizeof totals) == 0 && memcmp(&report, &report_kept, sizeof report) == 0);
     CHECK(memcmp(&numbers, &numbers_kept, sizeof numbers) == 0 && memcmp(&place, &place_kept, sizeof place) == 0);
@@ -240,8 +266,25 @@ static void test_handle_of_the_other_type(void)
     close_device();
 }
 
+/* A drain marks the other closed blocks; an erase of one of them is stale, and takes its mark away: no drain by this survey finds it. */
+static void test_stale_erase_takes_the_mark_away(void)
+{
+    uint32_t number, count;
+    for (int erases = 0; erases < 2; erases++) {
+        open_device();
+        for (int i = 0; i < 6; i++)
+            write_byte(first, 0, i);
+        check_drain(MINTLINTEL_DONE, 0, 0);
+        if (erases)
+            CHECK(mintlintel_broom_erase(broom, 1) == MINTLINTEL_STALE);
+        CHECK(mintlintel_broom_drain_next(broom, &number, &count) == MINTLINTEL_DONE && number == (erases ? 2u : 1u));
+        close_device();
+    }
+}
+
 int main(void)
 {
+    test_stale_erase_takes_the_mark_away();
     test_close_of_host_leaves_its_block_full();
     test_close_of_holder_removes_its_pin();
     test_release_removes_the_pin();
@@ -249,6 +292,7 @@ int main(void)
     test_last_erase();
     test_spare();
     test_drain_next();
+    test_drain_of_a_dead_block();
     test_look();
     test_handle_of_the_other_type();
     puts("seats: what remains of a closed seat, and each code of a broom's calls");

@@ -27,6 +27,8 @@ struct sweep { uint32_t number; long moved, drains[32], erases[32]; };
 
 /* how often a write that finds no block is tried again; if blocks don't wear out, each write succeeds in the end */
 static long most_tries;
+/* the pages that the last run has programmed */
+static long programs;
 
 static void fill(uint8_t *page, uint32_t writer, uint32_t sector, uint32_t count)
 {
@@ -200,6 +202,7 @@ static void test_refused_calls(void)
     CHECK(mintlintel_host_trim(&brooms[0], 0) == MINTLINTEL_WRONG_KIND);
     CHECK(mintlintel_broom_drain(&hosts[0], &block, &moved) == MINTLINTEL_WRONG_KIND);
     CHECK(mintlintel_broom_drain_next(&hosts[0], &block, &moved) == MINTLINTEL_WRONG_KIND);
+    CHECK(mintlintel_broom_drain_dead(&hosts[0], &block, &moved) == MINTLINTEL_WRONG_KIND);
     CHECK(mintlintel_broom_erase(&hosts[0], 0) == MINTLINTEL_WRONG_KIND);
     CHECK(mintlintel_broom_restock(&hosts[0]) == MINTLINTEL_WRONG_KIND);
     CHECK(mintlintel_host_look(&brooms[0], 0) == MINTLINTEL_WRONG_KIND && mintlintel_host_hold(&brooms[0], 0) == MINTLINTEL_WRONG_KIND);
@@ -260,6 +263,7 @@ static void test_closed_seat(void)
     CHECK(mintlintel_broom_drain(&closed, &block, &moved) == MINTLINTEL_CLOSED && mintlintel_broom_erase(&closed, 0) == MINTLINTEL_CLOSED);
     CHECK(mintlintel_host_look(&closed, 0) == MINTLINTEL_CLOSED && mintlintel_broom_restock(&closed) == MINTLINTEL_CLOSED);
     CHECK(mintlintel_broom_drain_next(&closed, &block, &moved) == MINTLINTEL_CLOSED);
+    CHECK(mintlintel_broom_drain_dead(&closed, &block, &moved) == MINTLINTEL_CLOSED);
     CHECK(mintlintel_seat_numbers(&closed, &n) == MINTLINTEL_CLOSED);
     mintlintel_seat_close(&closed);
     CHECK(block == 77 && moved == 78 && word == 79 && place.block == 80 && place.generation == 81 && n.luns == 82);
@@ -285,6 +289,19 @@ static void test_faults_of_counts(void)
         mintlintel_seat_close(&few[i]);
 }
 
+/* The pages programmed since the open, by the blocks: while no call is made, and before a seat is closed, each erase was of a full block. The
+ * pages of a retired block were written before its last erase. */
+static long count_programs(void)
+{
+    struct mintlintel_state state;
+    long sum = 0;
+    for (uint32_t block = 0; block < BLOCKS; block++) {
+        CHECK(mintlintel_broom_block(AT(&brooms[0]), block, &state) == MINTLINTEL_DONE);
+        sum += (long)state.erases * PAGES + (state.phase == MINTLINTEL_PHASE_RETIRED ? 0 : state.written);
+    }
+    return sum;
+}
+
 /* All threads at the open device, until each host has made its calls. */
 static void run_all(struct thread *threads, struct sweep *sweeps)
 {
@@ -292,6 +309,7 @@ static void run_all(struct thread *threads, struct sweep *sweeps)
     memset(threads, 0, HOSTS * sizeof *threads);
     memset(sweeps, 0, BROOMS * sizeof *sweeps);
     atomic_store(&hosts_left, HOSTS);
+    programs = count_programs();
     for (uint32_t i = 0; i < BROOMS; i++) {
         sweeps[i].number = i;
         pthread_create(&broom_threads[i], NULL, run_broom, &sweeps[i]);
@@ -307,6 +325,7 @@ static void run_all(struct thread *threads, struct sweep *sweeps)
     for (int i = 0; i < BROOMS; i++)
         pthread_join(broom_threads[i], NULL);
     check_threads_agree(threads);
+    programs = count_programs() - programs;
     for (int i = 0; i < HOSTS; i++)
         mintlintel_seat_close(AT(&hosts[i]));
     for (int i = 0; i < BROOMS; i++)
@@ -332,10 +351,14 @@ static void print_counts(const char *device, const struct thread *threads, const
             broom->erases[code] += sweeps[i].erases[code];
         }
     }
+    /* Each write has programmed a page, and each copy one, also if its sector was written meanwhile: then the drain has not moved it. */
+    long overtaken = programs - host->writes - broom->moved;
+    CHECK(overtaken >= 0 && overtaken <= host->writes);
     const long *d = broom->drains, *e = broom->erases;
-    printf("shared: %s: %ld writes, %ld reads, %ld holds, %ld times no block, %ld writes given up; %ld pages moved; drains: %ld done, %ld with "
-           "nothing to gain, %ld without a spare, %ld lost; erases: %ld free, %ld kept, %ld retired, %ld put off\n", device, host->writes, host->reads,
-           host->holds, host->no_block, host->given_up, broom->moved, d[0], d[20], d[21], d[22], e[0], e[26], e[23], e[24]);
+    printf("shared: %s: %ld writes, %ld reads, %ld holds, %ld times no block, %ld writes given up; %ld pages moved, %ld copies overtaken; drains: "
+           "%ld done, %ld with nothing to gain, %ld without a spare, %ld lost; erases: %ld free, %ld kept, %ld retired, %ld put off\n", device,
+           host->writes, host->reads, host->holds, host->no_block, host->given_up, broom->moved, overtaken, d[0], d[20], d[21], d[22], e[0], e[26], e[23],
+           e[24]);
 }
 
 int main(int count, char **words)

@@ -1,4 +1,4 @@
-"""A proved flash translation layer: `Device` for one thread, and `SharedDevice` for many.
+"""A proved flash translation layer: `Device` for one thread, `SharedDevice` for many, and `Image`, a device in a file that survives power cuts.
 
 >>> import mintlintel
 >>> with mintlintel.Device(blocks=24, pages=64, words=64, sectors=1000, endurance=1000) as device:
@@ -8,16 +8,24 @@ False
 b'a page'
 """
 
+from ._library import VERSION as __version__
 from .buffers import Buffer, WritableBuffer
-from .device import Block, Counts, Device, Numbers
+from .codes import Code
+from .device import Block, Counts, Device
+from .durable import Chip, ChipDevice, CommandFailed, DurableDevice, DurableNumbers, Image, PageLost, PowerLost
 from .faults import (
-    BadNumbers, Closed, MintlintelError, NoBlock, NoSuchBlock, NoSuchSector, NotAPage, OutOfMemory, Released, WornOut, WrongKind,
+    BadNumbers, Closed, CutShort, FileFailed, FlashFailed, InUse, MintlintelError, NoBlock, NoRoom, NoSuchBlock, NoSuchSector, NoSuchWord, NotAPage,
+    NotAnImage, OtherDevice, OtherNumbers, OtherVersion, OutOfMemory, OutOfNumbers, PowerGone, Released, Unreadable, WornOut, WrongKind,
 )
+from .numbers import Numbers, nearest
 from .replaying import Request, replay
-from .shared import Broom, Drain, Drained, Erase, Held, Host, Page, SharedDevice
+from .shared import BlockCounts, Broom, Collect, Collected, Drain, Drained, Erase, Held, Host, Page, Phase, SharedDevice, State
 
 __all__ = [
-    "BadNumbers", "Block", "Broom", "Buffer", "Closed", "Counts", "Device", "Drain", "Drained", "Erase", "Held", "Host",
-    "MintlintelError", "NoBlock", "NoSuchBlock", "NoSuchSector", "NotAPage", "Numbers", "OutOfMemory", "Page", "Released", "Request",
-    "SharedDevice", "WornOut", "WritableBuffer", "WrongKind", "replay",
+    "BadNumbers", "Block", "BlockCounts", "Broom", "Buffer", "Chip", "ChipDevice", "Closed", "Code", "Collect", "Collected",
+    "CommandFailed", "Counts", "CutShort", "Device", "Drain", "Drained", "DurableDevice", "DurableNumbers", "Erase",
+    "FileFailed", "FlashFailed", "Held", "Host", "Image", "InUse", "MintlintelError", "NoBlock", "NoRoom", "NoSuchBlock",
+    "NoSuchSector", "NoSuchWord", "NotAPage", "NotAnImage", "Numbers", "OtherDevice", "OtherNumbers", "OtherVersion",
+    "OutOfMemory", "OutOfNumbers", "Page", "PageLost", "Phase", "PowerGone", "PowerLost", "Released", "Request", "SharedDevice",
+    "State", "Unreadable", "WornOut", "WritableBuffer", "WrongKind", "__version__", "nearest", "replay",
 ]

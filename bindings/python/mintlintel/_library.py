@@ -3,10 +3,10 @@
 from __future__ import annotations
 
 import ctypes
-import operator
 from pathlib import Path
+from typing import Any
 
-LIBRARY = ctypes.CDLL(str(Path(__file__).resolve().parent / "libmintlintel.so"))
+LIBRARY = ctypes.CDLL(str(Path(__file__).resolve().parent / "libmintlintel.so"), use_errno=True)
 
 
 class Handle(ctypes.Structure):
@@ -31,8 +31,59 @@ class Page(ctypes.Structure):
     _fields_ = [(name, ctypes.c_uint32) for name in ("block", "generation")]
 
 
+class State(ctypes.Structure):
+    _fields_ = [(name, ctypes.c_uint32) for name in ("phase", "readers", "written", "erases")]
+
+
+class BlockCounts(ctypes.Structure):
+    _fields_ = [
+        ("erases", ctypes.c_uint64),
+        *((name, ctypes.c_uint32) for name in ("free", "open", "closed", "victims", "drained", "erasing", "retired", "spares")),
+    ]
+
+
+class Collected(ctypes.Structure):
+    _fields_ = [(name, ctypes.c_uint32) for name in ("freed", "kept", "restocked", "retired", "moved", "pinned")]
+
+
+class Durable(ctypes.Structure):
+    """The handle of a device that survives power cuts."""
+
+    _fields_ = [("core", Handle), ("flash", ctypes.c_void_p)]
+
+
+class Image(ctypes.Structure):
+    """The handle of an image."""
+
+    _fields_ = [("device", Durable), ("file", ctypes.c_void_p)]
+
+
+class DurableNumbers(ctypes.Structure):
+    _fields_ = [(name, ctypes.c_uint32) for name in ("luns", "blocks", "pages", "page_bytes", "sectors")]
+
+
+class ImageHead(ctypes.Structure):
+    _fields_ = [("version", ctypes.c_uint32), ("numbers", DurableNumbers)]
+
+
+def _of_chip(*arguments: Any) -> Any:
+    return ctypes.CFUNCTYPE(ctypes.c_int, ctypes.c_void_p, *arguments)
+
+
+_BLOCK, _AT = [ctypes.c_uint32], [ctypes.c_uint32, ctypes.c_uint32]
+NAND_TYPES = {
+    "read": _of_chip(*_AT, ctypes.c_void_p, ctypes.c_void_p), "program": _of_chip(*_AT, ctypes.c_void_p, ctypes.c_void_p),
+    "copyback": _of_chip(*_AT, *_AT), "erase": _of_chip(*_BLOCK), "is_bad": _of_chip(*_BLOCK), "mark_bad": _of_chip(*_BLOCK), "sync": _of_chip(),
+}
+
+
+class Nand(ctypes.Structure):
+    _fields_ = [("chip", ctypes.c_void_p), *NAND_TYPES.items()]
+
+
 _HANDLE, _U32, _SIZE, _BYTES = ctypes.POINTER(Handle), ctypes.c_uint32, ctypes.c_size_t, ctypes.c_void_p
 _NUMBERS = [_U32] * 6
+_DURABLE, _IMAGE = ctypes.POINTER(Durable), ctypes.POINTER(Image)
 
 _CALLS = {
     "one_open": [_HANDLE, *_NUMBERS],
@@ -59,18 +110,37 @@ _CALLS = {
     "host_release": [_HANDLE],
     "broom_drain": [_HANDLE, ctypes.POINTER(_U32), ctypes.POINTER(_U32)],
     "broom_drain_next": [_HANDLE, ctypes.POINTER(_U32), ctypes.POINTER(_U32)],
+    "broom_drain_dead": [_HANDLE, ctypes.POINTER(_U32), ctypes.POINTER(_U32)],
     "broom_erase": [_HANDLE, _U32],
     "broom_restock": [_HANDLE],
+    "broom_block": [_HANDLE, _U32, ctypes.POINTER(State)],
+    "broom_counts": [_HANDLE, ctypes.POINTER(BlockCounts)],
+    "durable_open": [_DURABLE, ctypes.POINTER(Nand), *[_U32] * 5],
+    "durable_close": [_DURABLE],
+    "durable_read": [_DURABLE, _U32, _BYTES, _SIZE],
+    "durable_write": [_DURABLE, _U32, _BYTES, _SIZE],
+    "durable_write_new": [_DURABLE, _U32, _BYTES, _SIZE],
+    "durable_trim": [_DURABLE, _U32, _U32],
+    "durable_flush": [_DURABLE],
+    "durable_counts": [_DURABLE, ctypes.POINTER(Totals)],
+    "durable_block": [_DURABLE, _U32, ctypes.POINTER(Block)],
+    "durable_numbers": [_DURABLE, ctypes.POINTER(DurableNumbers)],
+    "image_open": [_IMAGE, ctypes.c_char_p, *[_U32] * 6],
+    "image_close": [_IMAGE],
+    "image_look": [ctypes.c_char_p, ctypes.POINTER(ImageHead)],
+    "image_copy": [_IMAGE, ctypes.c_char_p],
+    "image_errno": [_IMAGE],
+    "explain": [_U32, ctypes.POINTER(Numbers), ctypes.c_char_p, _SIZE],
+    "nearest": [ctypes.POINTER(Numbers)],
+    "collect": [_HANDLE, _U32, ctypes.POINTER(Collected)],
+    "write_within": [_HANDLE, _U32, _BYTES, _SIZE, _U32],
 }
 
 for _name, _arguments in _CALLS.items():
     _call = getattr(LIBRARY, f"mintlintel_{_name}")
     _call.argtypes = _arguments
-    _call.restype = None if _name.endswith("_close") else _U32
+    _call.restype = None if _name.endswith(("_close", "explain", "nearest")) else _U32
 
+LIBRARY.mintlintel_version.restype = ctypes.c_char_p
+VERSION: str = LIBRARY.mintlintel_version().decode()
 
-def number(value: int) -> int:
-    """A number for C: one that has no 32 bits is passed as the largest that has, which is past each limit. ctypes would pass the rest
-    of a division by 2 to the 32."""
-    whole = operator.index(value)
-    return whole if 0 <= whole < 2**32 else 2**32 - 1

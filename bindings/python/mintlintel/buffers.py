@@ -52,12 +52,13 @@ _START.argtypes, _START.restype = [ctypes.py_object], ctypes.c_void_p
 def bytes_of(buffer: Buffer, writable: bool = False) -> Iterator[Tuple[int, int]]:
     """The address and the length of the bytes of any contiguous buffer (bytes, bytearray, memoryview, an array of numpy), not copied."""
     view = _PyBuffer()
-    _GET(buffer, ctypes.byref(view), _WRITABLE if writable else _SIMPLE)
     try:
+        # Nothing is released of a view that was not got: it is all zero bytes.
+        _GET(buffer, view, _WRITABLE if writable else _SIMPLE)
         # A buffer of no bytes may be at null, which the library is never given.
         yield view.buf or ctypes.addressof(view), view.len
     finally:
-        _RELEASE(ctypes.byref(view))
+        _RELEASE(view)
 
 
 def new_bytes(length: int) -> Tuple[bytes, int]:

@@ -2,31 +2,14 @@
 
 from __future__ import annotations
 
-import ctypes
-import threading
 from typing import NamedTuple, Optional
 
 from . import _library
-from ._library import LIBRARY, number
+from ._library import LIBRARY
 from .buffers import Buffer, WritableBuffer, bytes_of, new_bytes
-from .faults import checked
-
-
-class Numbers(NamedTuple):
-    """The numbers that a device was made with. A device for one thread has no hosts and no brooms."""
-
-    luns: int
-    blocks: int
-    pages: int
-    words: int
-    sectors: int
-    endurance: int
-    hosts: int
-    brooms: int
-
-    @classmethod
-    def of(cls, report: _library.Numbers) -> Numbers:
-        return cls(*(getattr(report, name) for name in cls._fields))
+from .faults import checked, checked_block, refuse_numbers
+from .numbers import Numbers, number, taken
+from .owning import Owner
 
 
 class Counts(NamedTuple):
@@ -45,44 +28,57 @@ class Block(NamedTuple):
     retired: bool
 
 
-class Device:
+class Device(Owner):
     """A device with every sector empty; a page has 8 times `words` bytes. It collects garbage inside the write that finds no page."""
 
+    _close_handle = LIBRARY.mintlintel_one_close
+
     def __init__(self, *, blocks: int, pages: int, words: int, sectors: int, endurance: int, luns: int = 1) -> None:
-        self._lock = threading.Lock()
-        self._handle = _library.Handle()
-        luns, blocks, pages, words, sectors, endurance = map(number, (luns, blocks, pages, words, sectors, endurance))
-        checked(LIBRARY.mintlintel_one_open(self._handle, luns, blocks, pages, words, sectors, endurance))
-        self.page_bytes = 8 * words
-        self.sectors = sectors
-        self.blocks = blocks
+        super().__init__(_library.Handle())
+        given = {"luns": luns, "blocks": blocks, "pages": pages, "words": words, "sectors": sectors, "endurance": endurance}
+        self._numbers, beyond = taken({**given, "hosts": 0, "brooms": 0})
+        code = LIBRARY.mintlintel_one_open(self._handle, *self._numbers[:6])
+        if code:
+            refuse_numbers(code, self._numbers, beyond)
+        self.page_bytes = self._numbers.page_bytes
+        self.sectors = self._numbers.sectors
+        self.blocks = self._numbers.blocks
 
     def read(self, sector: int) -> Optional[bytes]:
         """The page of a sector, or None for an empty one."""
         page, start = new_bytes(self.page_bytes)
+        place = number(sector)
         with self._lock:
-            written = checked(LIBRARY.mintlintel_one_read(self._handle, number(sector), start, self.page_bytes))
-        return page if written else None
+            code = LIBRARY.mintlintel_one_read(self._handle, place, start, self.page_bytes)
+        return page if checked(code, self._numbers, sector) else None
 
     def read_into(self, sector: int, buffer: WritableBuffer) -> bool:
         """Reads a sector into a writable buffer of one page. An empty sector leaves the buffer unchanged; then it returns False."""
+        place = number(sector)
         with bytes_of(buffer, writable=True) as (start, length), self._lock:
-            return checked(LIBRARY.mintlintel_one_read(self._handle, number(sector), start, length))
+            code = LIBRARY.mintlintel_one_read(self._handle, place, start, length)
+        return checked(code, self._numbers, sector, length)
 
     def write(self, sector: int, page: Buffer) -> bool:
         """Writes a page, any buffer of its bytes. Returns whether the sector was written."""
+        place = number(sector)
         with bytes_of(page) as (start, length), self._lock:
-            return checked(LIBRARY.mintlintel_one_write(self._handle, number(sector), start, length))
+            code = LIBRARY.mintlintel_one_write(self._handle, place, start, length)
+        return checked(code, self._numbers, sector, length)
 
     def write_new(self, sector: int, page: Buffer) -> bool:
         """Writes a page to a sector if it is empty. Returns whether the sector was written before and so is unchanged."""
+        place = number(sector)
         with bytes_of(page) as (start, length), self._lock:
-            return checked(LIBRARY.mintlintel_one_write_new(self._handle, number(sector), start, length))
+            code = LIBRARY.mintlintel_one_write_new(self._handle, place, start, length)
+        return checked(code, self._numbers, sector, length)
 
     def trim(self, sector: int) -> bool:
         """Empties a sector. Returns whether it was written."""
+        place = number(sector)
         with self._lock:
-            return checked(LIBRARY.mintlintel_one_trim(self._handle, number(sector)))
+            code = LIBRARY.mintlintel_one_trim(self._handle, place)
+        return checked(code, self._numbers, sector)
 
     def counts(self) -> Counts:
         """The totals so far."""
@@ -93,9 +89,10 @@ class Device:
 
     def block(self, block: int) -> Block:
         """The counts of a block so far."""
-        report = _library.Block()
+        report, place = _library.Block(), number(block)
         with self._lock:
-            checked(LIBRARY.mintlintel_one_block(self._handle, number(block), report))
+            code = LIBRARY.mintlintel_one_block(self._handle, place, report)
+        checked_block(code, block, self._numbers)
         return Block(report.erases, report.live, bool(report.retired))
 
     def numbers(self) -> Numbers:
@@ -104,18 +101,3 @@ class Device:
         with self._lock:
             checked(LIBRARY.mintlintel_one_numbers(self._handle, report))
         return Numbers.of(report)
-
-    def close(self) -> None:
-        """Frees the device. A closed one stays closed."""
-        with self._lock:
-            LIBRARY.mintlintel_one_close(self._handle)
-
-    def __enter__(self) -> Device:
-        return self
-
-    def __exit__(self, *fault: object) -> None:
-        self.close()
-
-    def __del__(self) -> None:
-        if hasattr(self, "_handle"):
-            LIBRARY.mintlintel_one_close(self._handle)

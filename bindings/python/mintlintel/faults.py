@@ -1,10 +1,17 @@
-"""Why a call did nothing."""
+"""The faults: each code of C that refuses a call, by its meaning."""
 
 from __future__ import annotations
 
+from typing import Dict, NoReturn, Optional, Tuple, Type
+
+from .codes import Code
+from .numbers import Numbers, explained, nearest
+
 
 class MintlintelError(Exception):
-    """A call of the library did nothing."""
+    """A call that was refused. It has changed nothing. `code` is what C returned."""
+
+    code: int = 0
 
 
 class Closed(MintlintelError):
@@ -28,7 +35,7 @@ class OutOfMemory(MintlintelError, MemoryError):
 
 
 class NoBlock(MintlintelError):
-    """Shared: no block is free for a write. Let a broom erase, and try again."""
+    """Shared: no block is free for a write. Let a broom collect, pause, and try again a bounded number of times: `write(.., within=SECONDS)`."""
 
 
 class WrongKind(MintlintelError):
@@ -40,37 +47,131 @@ class Released(WrongKind):
 
 
 class NoSuchBlock(MintlintelError):
-    """The device has no such block, or a page no such word."""
+    """The device has no such block."""
+
+
+class NoSuchWord(MintlintelError):
+    """A page has no such word."""
+
+
+class NoRoom(MintlintelError):
+    """Bad blocks have left too few blocks for the sectors. An open device can be read still; the sector of the call has what it had, or what the call
+    gave it."""
+
+
+class PowerGone(MintlintelError):
+    """The chip's power is gone. Close the device, and open it again."""
+
+
+class FlashFailed(MintlintelError):
+    """The flash failed a sync. Close the device, and open it again."""
+
+
+class OtherDevice(MintlintelError):
+    """The flash holds another device."""
+
+
+class OutOfNumbers(MintlintelError):
+    """The numbers of versions have run out."""
+
+
+class Unreadable(MintlintelError):
+    """The sector's page can't be read, and no older one is given for it."""
+
+
+class InUse(MintlintelError):
+    """Another handle has the image open."""
+
+
+class NotAnImage(MintlintelError):
+    """The file is no image, or its head is damaged."""
+
+
+class OtherVersion(MintlintelError):
+    """The image has a format of another version."""
+
+
+class OtherNumbers(MintlintelError, ValueError):
+    """The image's device has other numbers."""
+
+
+class CutShort(MintlintelError):
+    """The file is shorter than its device."""
+
+
+class FileFailed(MintlintelError, OSError):
+    """The file failed: `errno` says why. After a call on an open image close it, and open it again; nothing that was acknowledged is lost."""
 
 
 class BadNumbers(MintlintelError, ValueError):
-    """A number of a new device is out of range."""
+    """The numbers of a new device are refused: `given`; a device of the numbers `nearest` would open."""
+
+    given: Numbers
+    nearest: Numbers
 
 
-_FAULTS = {
-    2: (Closed, "it is closed"),
-    3: (NoSuchSector, "no such sector"),
-    4: (NotAPage, "not a page"),
-    5: (WornOut, "worn out"),
-    6: (OutOfMemory, "out of memory"),
-    7: (NoBlock, "no block is free"),
-    9: (WrongKind, "the host holds a page, or none"),
-    10: (NoSuchBlock, "no such block or word"),
-    101: (BadNumbers, "luns out of range: 1 to 8"),
-    102: (BadNumbers, "blocks out of range: 3 to 4096, and a multiple of luns"),
-    103: (BadNumbers, "pages out of range: 1 to 16384 of a block"),
-    104: (BadNumbers, "words out of range: 1 to 512 of a page"),
-    105: (BadNumbers, "sectors out of range: 1 to 1048576"),
-    106: (BadNumbers, "endurance out of range: 1 to 1000000 erases of a block"),
-    107: (BadNumbers, "hosts or brooms out of range: 1 to 500 hosts, and up to 32 brooms"),
-    108: (BadNumbers, "too many words: all pages and tables together may have 16777216"),
-    109: (BadNumbers, "too few blocks: the sectors leave no room to collect"),
+_FAULTS: Dict[int, Tuple[Type[MintlintelError], str]] = {
+    Code.CLOSED: (Closed, "it is closed"),
+    Code.NO_SECTOR: (NoSuchSector, "no such sector"),
+    Code.NOT_A_PAGE: (NotAPage, "not a page"),
+    Code.WORN_OUT: (WornOut, "worn out"),
+    Code.NO_MEMORY: (OutOfMemory, "out of memory"),
+    Code.NO_BLOCK: (NoBlock, "no block is free"),
+    Code.WRONG_KIND: (WrongKind, "the host holds a page, or none"),
+    Code.NO_SUCH_BLOCK: (NoSuchBlock, "no such block"),
+    Code.EXHAUSTED: (NoRoom, "bad blocks have left no room"),
+    Code.NO_ROOM: (NoRoom, "bad blocks have left no room"),
+    Code.POWER_GONE: (PowerGone, "the power is gone"),
+    Code.FAILED: (FlashFailed, "the flash failed"),
+    Code.OTHER_DEVICE: (OtherDevice, "the flash holds another device"),
+    Code.NO_NUMBER: (OutOfNumbers, "the numbers have run out"),
+    Code.UNREADABLE: (Unreadable, "the page can't be read"),
+    Code.IN_USE: (InUse, "the image is in use"),
+    Code.NOT_AN_IMAGE: (NotAnImage, "not an image, or its head is damaged"),
+    Code.CUT_SHORT: (CutShort, "the image is cut short"),
 }
 
 
-def checked(code: int) -> bool:
+def refuse(code: int, more: str = "") -> NoReturn:
+    """Raises the fault of a code, with more about it: what was given, and the limit."""
+    fault, text = _FAULTS.get(code, (MintlintelError, f"code {code}"))
+    raised = fault(f"{text}: {more}" if more else text)
+    raised.code = code
+    raise raised
+
+
+def refuse_numbers(code: int, numbers: Numbers, beyond: Dict[str, int]) -> NoReturn:
+    """Raises the fault of an open of these numbers."""
+    if code < Code.BAD_LUNS:
+        refuse(code)
+    raised = BadNumbers(explained(code, numbers, beyond))
+    wanted = numbers._replace(hosts=1) if code == Code.BAD_SEATS and numbers.hosts == 0 else numbers
+    raised.code, raised.given, raised.nearest = code, numbers._replace(**beyond), nearest(wanted)
+    raise raised
+
+
+def checked(code: int, numbers: Optional[Numbers] = None, sector: int = 0, length: Optional[int] = None) -> bool:
     """Whether the code is 1, of the codes 0 and 1; any other is raised as its fault."""
     if code > 1:
-        fault, text = _FAULTS.get(code, (MintlintelError, f"code {code}"))
-        raise fault(text)
+        if numbers is not None and code == Code.NO_SECTOR:
+            refuse(code, f"{sector} given, and it is 0 to {numbers.sectors - 1}")
+        if numbers is not None and code == Code.NOT_A_PAGE:
+            refuse(code, f"{length} bytes given, and a page has {numbers.page_bytes}")
+        refuse(code)
     return code == 1
+
+
+def checked_block(code: int, block: int, numbers: Numbers) -> None:
+    """Raises the fault of a call on a block, if it is one."""
+    if code == Code.NO_SUCH_BLOCK:
+        refuse(code, f"{block} given, and it is 0 to {numbers.blocks - 1}")
+    checked(code)
+
+
+def checked_word(code: int, i: int, numbers: Numbers) -> None:
+    """Raises the fault of a call on a word of a page, if it is one."""
+    if code == Code.NO_SUCH_BLOCK:
+        raised = NoSuchWord(f"no such word: {i} given, and it is 0 to {numbers.words - 1}")
+        raised.code = code
+        raise raised
+    checked(code)

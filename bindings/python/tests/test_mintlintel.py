@@ -2,8 +2,11 @@
 
 import array
 import doctest
+import pathlib
 import random
+import re
 import threading
+import time
 import types
 import unittest
 
@@ -76,6 +79,59 @@ class OneThread(unittest.TestCase):
         with self.assertRaises(TypeError):
             mintlintel.Device(**{**NUMBERS, "blocks": 12.0})
 
+    def test_refusals_name_what_was_given_and_the_limit(self):
+        with mintlintel.Device(**NUMBERS) as device, mintlintel.SharedDevice(hosts=1, brooms=1, **SHARED) as shared:
+            host = shared.hosts[0]
+            host.write(5, page(5))
+            held = host.hold(5)
+            for text, code, call in [
+                ("no such sector: 60 given, and it is 0 to 59", "NO_SECTOR", lambda: device.read(60)),
+                ("no such sector: -1 given, and it is 0 to 59", "NO_SECTOR", lambda: device.trim(-1)),
+                ("not a page: 17 bytes given, and a page has 16", "NOT_A_PAGE", lambda: device.write(0, bytes(17))),
+                ("no such block: 12 given, and it is 0 to 11", "NO_SUCH_BLOCK", lambda: device.block(12)),
+                ("no such block: 40 given, and it is 0 to 39", "NO_SUCH_BLOCK", lambda: shared.brooms[0].erase(40)),
+                ("no such word: 2 given, and it is 0 to 1", "NO_SUCH_BLOCK", lambda: held.word(2)),
+                ("not a page: 3 bytes given, and a page has 16", "NOT_A_PAGE", lambda: held.read_into(bytearray(3))),
+            ]:
+                with self.assertRaisesRegex(mintlintel.MintlintelError, f"^{text}$") as raised:
+                    call()
+                self.assertEqual(raised.exception.code, mintlintel.Code[code])
+
+    def test_refused_numbers_name_those_that_would_do(self):
+        limits = {"luns": (1, 8), "blocks": (3, 4096), "pages": (1, 16_384), "words": (1, 512), "sectors": (1, 1_048_576), "endurance": (1, 1_000_000),
+                  "hosts": (1, 500), "brooms": (0, 32)}
+        base = {"luns": 1, "hosts": 2, "brooms": 1, **NUMBERS, "sectors": 50}
+        for opened in (mintlintel.Device, mintlintel.SharedDevice):
+            for name, (least, most) in limits.items():
+                if opened is mintlintel.Device and name in ("hosts", "brooms"):
+                    continue
+                for bad in {least - 1, most + 1, 2**40, -5}:
+                    numbers = {**base, name: bad}
+                    if opened is mintlintel.Device:
+                        del numbers["hosts"], numbers["brooms"]
+                    with self.assertRaises(mintlintel.BadNumbers) as raised:
+                        opened(**numbers)
+                    fault = raised.exception
+                    self.assertEqual({name: getattr(fault.given, name) for name in numbers}, numbers)
+                    self.assertRegex(str(fault), f"{bad} (hosts|brooms|given).* {most}.*; it would do with [a-z]+=")
+                    with opened(**{name: getattr(fault.nearest, name) for name in numbers}):
+                        pass
+        with self.assertRaisesRegex(mintlintel.BadNumbers, "4 hosts and 1 brooms have room for .* = 48 sectors, and 60 were given; .* blocks=14$"):
+            mintlintel.SharedDevice(hosts=4, brooms=1, **NUMBERS)
+
+    def test_names_of_header(self):
+        headers = pathlib.Path(__file__).parents[2] / "include"
+        header = (headers / "mintlintel.h").read_text() + (headers / "mintlintel_durable.h").read_text()
+        found = {}
+        for enum, text in re.findall(r"^enum (\w+) \{(.*?)^\};", header, re.M | re.S):
+            found[enum] = {name: int(number) for name, number in re.findall(r"MINTLINTEL_(\w+) = (\d+)", text)}
+        its = {**found["mintlintel_code"], **found["mintlintel_durable_code"]}
+        codes = {name: number for name, number in its.items() if name != "EMPTY"}
+        self.assertEqual({f"PHASE_{phase.name}": phase.value for phase in mintlintel.Phase}, found["mintlintel_phase"])
+        self.assertEqual({code.name: code.value for code in mintlintel.Code}, codes)
+        version = re.search(r'MINTLINTEL_VERSION "(.*)"', header)[1]
+        self.assertIn(mintlintel.__version__, (version, f"{version}, not proved"))
+
     def test_numbers_of_device(self):
         with mintlintel.Device(**NUMBERS) as device:
             self.assertEqual(device.numbers(), mintlintel.Numbers(luns=1, hosts=0, brooms=0, **NUMBERS))
@@ -105,6 +161,18 @@ class OneThread(unittest.TestCase):
             self.assertEqual(device.counts().programs, 4)
             with self.assertRaisesRegex(ValueError, "flush"):
                 list(mintlintel.replay(device, [request("flush", 0, 1)]))
+            for offset, length in ((-1, 4), (4, -1)):
+                with self.assertRaisesRegex(ValueError, "from 0 on"):
+                    list(mintlintel.replay(device, [request("write", offset, length)]))
+            with self.assertRaisesRegex(ValueError, "at least 1 byte"):
+                mintlintel.replay(device, [], page_bytes=0)
+
+    def test_replay_in_pages_of_the_log(self):
+        log = [request("write", 0, 4096), request("write", 4096 * 3, 8192), request("read", 0, 4096)]
+        with mintlintel.Device(**NUMBERS) as device:
+            self.assertEqual([it.op for it in mintlintel.replay(device, log, page_bytes=4096)], ["write", "write", "read"])
+            self.assertEqual(device.counts().programs, 3)
+            self.assertEqual([device.read(sector) is None for sector in range(5)], [False, True, True, False, False])
 
     def test_worn_out_device_can_be_read(self):
         with mintlintel.Device(blocks=3, pages=1, words=2, sectors=1, endurance=1) as device:
@@ -198,7 +266,7 @@ class Shared(unittest.TestCase):
                 self.assertEqual(held.page().generation, 0)
                 for fault, call in [
                     (mintlintel.WrongKind, lambda: reader.read(5)),
-                    (mintlintel.NoSuchBlock, lambda: held.word(2)),
+                    (mintlintel.NoSuchWord, lambda: held.word(2)),
                     (mintlintel.NotAPage, lambda: held.read_into(bytearray(3))),
                 ]:
                     with self.assertRaises(fault):
@@ -265,6 +333,64 @@ class Shared(unittest.TestCase):
                 self.assertIs(broom.drain_next(), Drain.NOTHING_TO_GAIN)
             self.assertEqual(broom.drain(), Drained(block=2, moved=4))
 
+    def test_collects_up_to_its_goal(self):
+        Collect, Collected = mintlintel.Collect, mintlintel.Collected
+        with mintlintel.SharedDevice(hosts=2, brooms=1, blocks=8, pages=2, words=2, sectors=4, endurance=100) as device:
+            host, broom = device.hosts[0], device.brooms[0]
+            self.assertEqual(broom.collect(), Collected(0, 0, 0, 0, 0, 0, Collect.NOTHING_TO_GAIN))
+            with self.assertRaises(mintlintel.NoBlock):
+                while True:
+                    host.write(0, page(1))
+            with device.hosts[1].hold(0):
+                self.assertEqual(broom.collect(2), Collected(2, 0, 0, 0, 0, 0, Collect.DONE))
+                self.assertEqual(broom.collect(9), Collected(4, 0, 1, 0, 1, 1, Collect.PINNED))
+            self.assertEqual(broom.collect(9), Collected(1, 0, 0, 0, 0, 0, Collect.NOTHING_TO_GAIN))
+            self.assertTrue(host.write(0, page(2)))
+            with self.assertRaises(mintlintel.NoSuchSector):
+                host.write(4, page(2), within=5)
+            broom.close()
+            with self.assertRaises(mintlintel.Closed):
+                broom.collect()
+
+    def test_write_waits_for_a_block(self):
+        with mintlintel.SharedDevice(hosts=1, brooms=1, **SHARED) as device:
+            host, broom = device.hosts[0], device.brooms[0]
+            with self.assertRaises(mintlintel.NoBlock):
+                while True:
+                    host.write(0, page(1))
+            began = time.monotonic()
+            with self.assertRaises(mintlintel.NoBlock):
+                host.write(0, page(1), within=0.2)
+            self.assertGreaterEqual(time.monotonic() - began, 0.19)
+            sweeper = threading.Timer(0.1, broom.collect)
+            sweeper.start()
+            self.assertTrue(host.write(0, page(1), within=60))
+            sweeper.join()
+
+    def test_blocks_and_counts(self):
+        Phase, State = mintlintel.Phase, mintlintel.State
+        with mintlintel.SharedDevice(hosts=2, brooms=1, blocks=6, pages=2, words=2, sectors=4, endurance=2) as device:
+            host, broom = device.hosts[0], device.brooms[0]
+            host.write(3, page(7))
+            self.assertEqual(broom.block(0), State(Phase.OPEN, readers=0, written=1, erases=0))
+            self.assertEqual(broom.block(1), State(Phase.FREE, 0, 0, 0))
+            with device.hosts[1].hold(3):
+                self.assertEqual(broom.block(0).readers, 1)
+            counts = broom.counts()
+            self.assertEqual(counts, mintlintel.BlockCounts(0, 4, 2, 0, 0, 0, 0, 0, has_spare=True, is_exhausted=False))
+            with self.assertRaises(mintlintel.NoSuchBlock):
+                broom.block(6)
+            for turn in range(100):
+                with self.assertRaises(mintlintel.NoBlock):
+                    while True:
+                        host.write(turn % 3, page(turn))
+                if broom.collect().ended is mintlintel.Collect.EXHAUSTED:
+                    break
+            counts = broom.counts()
+            self.assertTrue(counts.is_exhausted)
+            self.assertEqual((sum(counts[1:8]), counts.has_spare, counts.free + counts.drained), (6, False, 0))
+            self.assertEqual(host.read(3), page(7))
+
     def test_restock_on_full_device(self):
         with mintlintel.SharedDevice(hosts=1, brooms=1, **SHARED) as device:
             host, broom = device.hosts[0], device.brooms[0]
@@ -278,6 +404,25 @@ class Shared(unittest.TestCase):
             self.assertFalse(broom.restock())
             self.assertIs(broom.erase(0), mintlintel.Erase.KEPT)
             self.assertTrue(broom.restock())
+
+    def test_drains_dead_blocks_without_a_spare(self):
+        Collect, Drain, Drained = mintlintel.Collect, mintlintel.Drain, mintlintel.Drained
+        with mintlintel.SharedDevice(hosts=1, brooms=1, **SHARED) as device:
+            host, broom = device.hosts[0], device.brooms[0]
+            self.assertIs(broom.drain_dead(), Drain.NOTHING_TO_GAIN)
+            for sector in [0] * 7 + [1]:
+                host.write(sector, page(sector))
+            self.assertIs(broom.drain_dead(), Drain.NO_SPARE)
+            self.assertEqual(broom.drain(), Drained(block=0, moved=2))
+            with self.assertRaises(mintlintel.NoBlock):
+                while True:
+                    host.write(9, page(9))
+            self.assertIs(broom.drain(), Drain.NO_SPARE)
+            host.trim(9)
+            self.assertEqual(broom.drain_dead(), Drained(block=1, moved=0))
+            self.assertEqual(broom.drained, [0, 1])
+            self.assertIs(broom.erase(1), mintlintel.Erase.KEPT)
+            self.assertIs(broom.collect().ended, Collect.DONE)
 
     def test_numbers_of_hosts_and_brooms(self):
         wanted = mintlintel.Numbers(luns=1, hosts=2, brooms=1, **SHARED)

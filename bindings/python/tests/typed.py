@@ -25,6 +25,10 @@ def accepted(device: mintlintel.Device, host: mintlintel.Host, broom: mintlintel
         if held is not None:
             with held as page_held:
                 page_held.page().generation.bit_length()
+        same_host.write(0, bytes(16), within=0.5)
+        same_broom.collect(4).ended.name.lower()
+        mintlintel.Code.PINNED.bit_length()
+        mintlintel.__version__.lower()
         drained = same_broom.drain()
         if isinstance(drained, mintlintel.Drained):
             same_broom.erase(drained.block)

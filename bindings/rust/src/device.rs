@@ -1,6 +1,8 @@
 //! A device for one thread.
+use crate::fault::Given;
 use crate::raw::{self, Handle, Totals};
-use crate::{Fault, Geometry, OpenFault, Was};
+use crate::{Fault, Geometry, OpenError, Was};
+use std::cell::UnsafeCell;
 
 /// Pages programmed for writes, pages relocated, and erase commands.
 ///
@@ -65,10 +67,12 @@ pub struct Block {
 /// ```
 #[derive(Debug)]
 pub struct Device {
-    handle: Handle,
+    // C takes the device out of its handle during a call, and puts it back. Calls by `&self` don't meet, since only one thread has that.
+    handle: UnsafeCell<Handle>,
+    geometry: Geometry,
 }
 
-// A handle may go to another thread, as a whole: every call takes it by `&mut`, and only one thread has that.
+// A handle may go to another thread, as a whole: it is not `Sync`, so only one thread makes calls on it.
 unsafe impl Send for Device {}
 
 impl Device {
@@ -76,15 +80,14 @@ impl Device {
     ///
     /// ```
     /// # use mintlintel::{Device, Geometry, OpenFault};
-    /// assert_eq!(Device::open(Geometry::ONE_LUN).err(), Some(OpenFault::Blocks));
+    /// assert_eq!(Device::open(Geometry::ONE_LUN).map_err(|error| error.fault).err(), Some(OpenFault::Blocks));
     /// ```
-    pub fn open(geometry: Geometry) -> Result<Device, OpenFault> {
+    pub fn open(geometry: Geometry) -> Result<Device, OpenError> {
         let mut handle = Handle::CLOSED;
         let Geometry { luns, blocks, pages, words, sectors, endurance } = geometry;
-        OpenFault::check(unsafe {
-            raw::mintlintel_one_open(&mut handle, luns, blocks, pages, words, sectors, endurance)
-        })?;
-        Ok(Device { handle })
+        let code = unsafe { raw::mintlintel_one_open(&mut handle, luns, blocks, pages, words, sectors, endurance) };
+        OpenError::check(code, geometry, 0, 0)?;
+        Ok(Device { handle: UnsafeCell::new(handle), geometry })
     }
 
     /// Reads a sector into a buffer of one page. An empty sector, and a fault, leave the buffer unchanged.
@@ -100,13 +103,14 @@ impl Device {
     /// device.write(3, &[1; 8])?;
     /// assert_eq!(device.read(3, &mut page), Ok(Was::Written));
     /// assert_eq!(page, [1; 8]);
-    /// assert_eq!(device.read(20, &mut page), Err(Fault::NoSector));
-    /// assert_eq!(device.read(3, &mut page[..7]), Err(Fault::NotAPage));
+    /// assert_eq!(device.read(20, &mut page), Err(Fault::NoSector { sector: 20, sectors: 20 }));
+    /// assert_eq!(device.read(3, &mut page[..7]), Err(Fault::NotAPage { bytes: 7, page_bytes: 8 }));
     /// # Ok(())
     /// # }
     /// ```
     pub fn read(&mut self, sector: u32, out: &mut [u8]) -> Result<Was, Fault> {
-        Was::of(unsafe { raw::mintlintel_one_read(&mut self.handle, sector, out.as_mut_ptr(), out.len()) })
+        let code = unsafe { raw::mintlintel_one_read(self.handle.get(), sector, out.as_mut_ptr(), out.len()) };
+        Was::of(code, Given::Page(sector, out.len()), &self.geometry)
     }
 
     /// Writes a page to a sector. Returns what the sector was.
@@ -122,7 +126,8 @@ impl Device {
     /// # }
     /// ```
     pub fn write(&mut self, sector: u32, page: &[u8]) -> Result<Was, Fault> {
-        Was::of(unsafe { raw::mintlintel_one_write(&mut self.handle, sector, page.as_ptr(), page.len()) })
+        let code = unsafe { raw::mintlintel_one_write(self.handle.get(), sector, page.as_ptr(), page.len()) };
+        Was::of(code, Given::Page(sector, page.len()), &self.geometry)
     }
 
     /// Writes a page to a sector if it is empty. `Written` says that it was not empty and is unchanged.
@@ -141,7 +146,8 @@ impl Device {
     /// # }
     /// ```
     pub fn write_new(&mut self, sector: u32, page: &[u8]) -> Result<Was, Fault> {
-        Was::of(unsafe { raw::mintlintel_one_write_new(&mut self.handle, sector, page.as_ptr(), page.len()) })
+        let code = unsafe { raw::mintlintel_one_write_new(self.handle.get(), sector, page.as_ptr(), page.len()) };
+        Was::of(code, Given::Page(sector, page.len()), &self.geometry)
     }
 
     /// Empties a sector. Returns what it was.
@@ -158,13 +164,14 @@ impl Device {
     /// # }
     /// ```
     pub fn trim(&mut self, sector: u32) -> Result<Was, Fault> {
-        Was::of(unsafe { raw::mintlintel_one_trim(&mut self.handle, sector) })
+        let code = unsafe { raw::mintlintel_one_trim(self.handle.get(), sector) };
+        Was::of(code, Given::Sector(sector), &self.geometry)
     }
 
     /// The totals so far.
-    pub fn counts(&mut self) -> Result<Counts, Fault> {
+    pub fn counts(&self) -> Result<Counts, Fault> {
         let mut totals = Totals::default();
-        Fault::check(unsafe { raw::mintlintel_one_counts(&mut self.handle, &mut totals) })?;
+        Fault::check(unsafe { raw::mintlintel_one_counts(self.handle.get(), &mut totals) }, Given::Nothing, &self.geometry)?;
         let Totals { programs, copies, erases } = totals;
         Ok(Counts { programs, copies, erases })
     }
@@ -176,13 +183,13 @@ impl Device {
     /// # fn main() -> Result<(), Box<dyn std::error::Error>> {
     /// # let geometry = Geometry { blocks: 8, pages: 4, words: 1, sectors: 20, endurance: 1000, ..Geometry::ONE_LUN };
     /// # let mut device = Device::open(geometry)?;
-    /// assert_eq!(device.block(8), Err(Fault::NoSuchBlock));
+    /// assert_eq!(device.block(8), Err(Fault::NoSuchBlock { block: 8, blocks: 8 }));
     /// # Ok(())
     /// # }
     /// ```
-    pub fn block(&mut self, block: u32) -> Result<Block, Fault> {
+    pub fn block(&self, block: u32) -> Result<Block, Fault> {
         let mut report = raw::Block::default();
-        Fault::check(unsafe { raw::mintlintel_one_block(&mut self.handle, block, &mut report) })?;
+        Fault::check(unsafe { raw::mintlintel_one_block(self.handle.get(), block, &mut report) }, Given::Block(block), &self.geometry)?;
         Ok(Block {
             erases: report.erases,
             live: report.live,
@@ -201,15 +208,15 @@ impl Device {
     /// # Ok(())
     /// # }
     /// ```
-    pub fn geometry(&mut self) -> Result<Geometry, Fault> {
+    pub fn geometry(&self) -> Result<Geometry, Fault> {
         let mut numbers = raw::Numbers::default();
-        Fault::check(unsafe { raw::mintlintel_one_numbers(&mut self.handle, &mut numbers) })?;
+        Fault::check(unsafe { raw::mintlintel_one_numbers(self.handle.get(), &mut numbers) }, Given::Nothing, &self.geometry)?;
         Ok(Geometry::of(&numbers))
     }
 }
 
 impl Drop for Device {
     fn drop(&mut self) {
-        unsafe { raw::mintlintel_one_close(&mut self.handle) }
+        unsafe { raw::mintlintel_one_close(self.handle.get()) }
     }
 }

@@ -1,7 +1,9 @@
 //! A host of a shared device, and the page that it holds.
-use crate::raw::{self, Handle, Page};
+use crate::fault::Given;
+use crate::raw::{self, code, Handle, Page};
 use crate::shared::Seat;
 use crate::{Fault, Geometry, Numbers, Was};
+use std::time::Duration;
 
 const WRONG_KIND: u32 = 9;
 
@@ -31,23 +33,25 @@ const WRONG_KIND: u32 = 9;
 #[derive(Debug)]
 pub struct Host {
     seat: Seat,
+    geometry: Geometry,
 }
 
 impl Host {
-    pub(crate) fn of(seat: Seat) -> Host {
-        Host { seat }
+    pub(crate) fn of(seat: Seat, geometry: Geometry) -> Host {
+        Host { seat, geometry }
     }
 
     /// A call. Nothing borrows the host, so if it holds a page, the page's `Held` was forgotten (`std::mem::forget`): it is released first.
-    fn called(&mut self, call: impl Fn(*mut Handle) -> u32) -> u32 {
-        let handle: *mut Handle = &mut self.seat.handle;
-        match call(handle) {
+    fn called(&mut self, given: Given, call: impl Fn(*mut Handle) -> u32) -> Result<Was, Fault> {
+        let handle = self.seat.handle();
+        let code = match call(handle) {
             WRONG_KIND => {
                 unsafe { raw::mintlintel_host_release(handle) };
                 call(handle)
             }
             code => code,
-        }
+        };
+        Was::of(code, given, &self.geometry)
     }
 
     /// Reads a sector into a buffer of one page. An empty sector, and a fault, leave the buffer unchanged.
@@ -60,14 +64,14 @@ impl Host {
     /// let mut page = [9; 8];
     /// assert_eq!(host.read(3, &mut page), Ok(Was::Empty));
     /// assert_eq!(page, [9; 8]);
-    /// assert_eq!(host.read(100, &mut page), Err(Fault::NoSector));
-    /// assert_eq!(host.read(3, &mut page[..7]), Err(Fault::NotAPage));
+    /// assert_eq!(host.read(100, &mut page), Err(Fault::NoSector { sector: 100, sectors: 100 }));
+    /// assert_eq!(host.read(3, &mut page[..7]), Err(Fault::NotAPage { bytes: 7, page_bytes: 8 }));
     /// # Ok(())
     /// # }
     /// ```
     pub fn read(&mut self, sector: u32, out: &mut [u8]) -> Result<Was, Fault> {
         let (start, length) = (out.as_mut_ptr(), out.len());
-        Was::of(self.called(|handle| unsafe { raw::mintlintel_host_read(handle, sector, start, length) }))
+        self.called(Given::Page(sector, length), |handle| unsafe { raw::mintlintel_host_read(handle, sector, start, length) })
     }
 
     /// Writes a page to a sector. Returns what the sector was. `Fault::NoBlock` says that no block is free: let a broom erase one.
@@ -84,7 +88,31 @@ impl Host {
     /// # }
     /// ```
     pub fn write(&mut self, sector: u32, page: &[u8]) -> Result<Was, Fault> {
-        Was::of(self.called(|handle| unsafe { raw::mintlintel_host_write(handle, sector, page.as_ptr(), page.len()) }))
+        let given = Given::Page(sector, page.len());
+        self.called(given, |handle| unsafe { raw::mintlintel_host_write(handle, sector, page.as_ptr(), page.len()) })
+    }
+
+    /// Writes a page to a sector as `write` does. While no block is free it pauses and tries again, up to this long; `Fault::NoBlock` then says that
+    /// none came free. Hosts that try again without a pause keep each other and the brooms from going on.
+    ///
+    /// ```
+    /// # use mintlintel::{Fault, Geometry, SharedDevice, Was};
+    /// # use std::time::Duration;
+    /// # fn main() -> Result<(), Box<dyn std::error::Error>> {
+    /// # let geometry = Geometry { blocks: 24, pages: 8, words: 1, sectors: 100, endurance: 1000, ..Geometry::ONE_LUN };
+    /// # let mut device = SharedDevice::open(geometry, 1, 1)?;
+    /// # let (host, broom) = (&mut device.hosts[0], &mut device.brooms[0]);
+    /// while host.write(3, &[2; 8]).is_ok() {}
+    /// assert_eq!(host.write_within(3, &[2; 8], Duration::from_millis(5)), Err(Fault::NoBlock));
+    /// broom.collect(4)?;
+    /// assert_eq!(host.write_within(3, &[2; 8], Duration::from_secs(5)), Ok(Was::Written));
+    /// # Ok(())
+    /// # }
+    /// ```
+    pub fn write_within(&mut self, sector: u32, page: &[u8], within: Duration) -> Result<Was, Fault> {
+        let (start, length) = (page.as_ptr(), page.len());
+        let milliseconds = u32::try_from(within.as_millis()).unwrap_or(u32::MAX);
+        self.called(Given::Page(sector, length), |handle| unsafe { raw::mintlintel_write_within(handle, sector, start, length, milliseconds) })
     }
 
     /// Writes a page to a sector if it is empty. `Written` says that it was not, and has stayed as it was; a page is used up.
@@ -103,7 +131,8 @@ impl Host {
     /// # }
     /// ```
     pub fn write_new(&mut self, sector: u32, page: &[u8]) -> Result<Was, Fault> {
-        Was::of(self.called(|handle| unsafe { raw::mintlintel_host_write_new(handle, sector, page.as_ptr(), page.len()) }))
+        let given = Given::Page(sector, page.len());
+        self.called(given, |handle| unsafe { raw::mintlintel_host_write_new(handle, sector, page.as_ptr(), page.len()) })
     }
 
     /// Empties a sector. Returns what it was.
@@ -120,7 +149,7 @@ impl Host {
     /// # }
     /// ```
     pub fn trim(&mut self, sector: u32) -> Result<Was, Fault> {
-        Was::of(self.called(|handle| unsafe { raw::mintlintel_host_trim(handle, sector) }))
+        self.called(Given::Sector(sector), |handle| unsafe { raw::mintlintel_host_trim(handle, sector) })
     }
 
     /// Whether a sector is written, by one look at its entry in the map. No page is read.
@@ -133,12 +162,12 @@ impl Host {
     /// assert_eq!(host.look(3), Ok(Was::Empty));
     /// host.write(3, &[1; 8])?;
     /// assert_eq!(host.look(3), Ok(Was::Written));
-    /// assert_eq!(host.look(100), Err(Fault::NoSector));
+    /// assert_eq!(host.look(100), Err(Fault::NoSector { sector: 100, sectors: 100 }));
     /// # Ok(())
     /// # }
     /// ```
     pub fn look(&mut self, sector: u32) -> Result<Was, Fault> {
-        Was::of(self.called(|handle| unsafe { raw::mintlintel_host_look(handle, sector) }))
+        self.called(Given::Sector(sector), |handle| unsafe { raw::mintlintel_host_look(handle, sector) })
     }
 
     /// Holds the page that has the sector's value, or `None` for an empty sector. Its block is not erased while it is held.
@@ -155,20 +184,20 @@ impl Host {
     /// # }
     /// ```
     pub fn hold(&mut self, sector: u32) -> Result<Option<Held<'_>>, Fault> {
-        match Was::of(self.called(|handle| unsafe { raw::mintlintel_host_hold(handle, sector) }))? {
+        match self.called(Given::Sector(sector), |handle| unsafe { raw::mintlintel_host_hold(handle, sector) })? {
             Was::Empty => Ok(None),
             Was::Written => Ok(Some(Held { host: self })),
         }
     }
 
     /// The device's geometry.
-    pub fn geometry(&mut self) -> Result<Geometry, Fault> {
+    pub fn geometry(&self) -> Result<Geometry, Fault> {
         Ok(self.numbers()?.geometry)
     }
 
     /// The device's numbers.
-    pub fn numbers(&mut self) -> Result<Numbers, Fault> {
-        self.seat.numbers()
+    pub fn numbers(&self) -> Result<Numbers, Fault> {
+        self.seat.numbers(&self.geometry)
     }
 }
 
@@ -201,7 +230,7 @@ pub struct PagePlace {
 /// let mut reader = device.hosts.remove(0);
 /// let mut writer = device.hosts.remove(0);
 /// writer.write(3, &[1; 8])?;
-/// let mut held = reader.hold(3)?.ok_or("sector 3 is written")?;
+/// let held = reader.hold(3)?.ok_or("sector 3 is written")?;
 /// writer.write(3, &[2; 8])?;
 /// let mut page = [0; 8];
 /// held.copy(&mut page)?;
@@ -242,18 +271,18 @@ impl Held<'_> {
     /// # let geometry = Geometry { blocks: 24, pages: 8, words: 1, sectors: 100, endurance: 1000, ..Geometry::ONE_LUN };
     /// # let mut host = SharedDevice::open(geometry, 1, 0)?.hosts.remove(0);
     /// host.write(3, &[1; 8])?;
-    /// let mut held = host.hold(3)?.ok_or("sector 3 is written")?;
+    /// let held = host.hold(3)?.ok_or("sector 3 is written")?;
     /// let mut page = [0; 8];
     /// held.copy(&mut page)?;
     /// assert_eq!(page, [1; 8]);
-    /// assert_eq!(held.copy(&mut page[..7]), Err(Fault::NotAPage));
+    /// assert_eq!(held.copy(&mut page[..7]), Err(Fault::NotAPage { bytes: 7, page_bytes: 8 }));
     /// # Ok(())
     /// # }
     /// ```
-    pub fn copy(&mut self, out: &mut [u8]) -> Result<(), Fault> {
-        match unsafe { raw::mintlintel_host_copy(&mut self.host.seat.handle, out.as_mut_ptr(), out.len()) } {
-            1 => Ok(()),
-            other => Err(Fault::of(other)),
+    pub fn copy(&self, out: &mut [u8]) -> Result<(), Fault> {
+        match unsafe { raw::mintlintel_host_copy(self.host.seat.handle(), out.as_mut_ptr(), out.len()) } {
+            code::WRITTEN => Ok(()),
+            other => Err(Fault::of(other, Given::Page(0, out.len()), &self.host.geometry)),
         }
     }
 
@@ -265,22 +294,22 @@ impl Held<'_> {
     /// # let geometry = Geometry { blocks: 24, pages: 8, words: 1, sectors: 100, endurance: 1000, ..Geometry::ONE_LUN };
     /// # let mut host = SharedDevice::open(geometry, 1, 0)?.hosts.remove(0);
     /// host.write(3, &77u64.to_le_bytes())?;
-    /// let mut held = host.hold(3)?.ok_or("sector 3 is written")?;
+    /// let held = host.hold(3)?.ok_or("sector 3 is written")?;
     /// assert_eq!(held.word(0), Ok(77));
-    /// assert_eq!(held.word(1), Err(Fault::NoSuchBlock));
+    /// assert_eq!(held.word(1), Err(Fault::NoSuchWord { word: 1, words: 1 }));
     /// # Ok(())
     /// # }
     /// ```
-    pub fn word(&mut self, i: u32) -> Result<u64, Fault> {
+    pub fn word(&self, i: u32) -> Result<u64, Fault> {
         let mut word = 0;
-        Fault::check(unsafe { raw::mintlintel_host_word(&mut self.host.seat.handle, i, &mut word) })?;
+        Fault::check(unsafe { raw::mintlintel_host_word(self.host.seat.handle(), i, &mut word) }, Given::Word(i), &self.host.geometry)?;
         Ok(word)
     }
 
     /// The place of the page.
-    pub fn place(&mut self) -> Result<PagePlace, Fault> {
+    pub fn place(&self) -> Result<PagePlace, Fault> {
         let mut page = Page::default();
-        Fault::check(unsafe { raw::mintlintel_host_held(&mut self.host.seat.handle, &mut page) })?;
+        Fault::check(unsafe { raw::mintlintel_host_held(self.host.seat.handle(), &mut page) }, Given::Nothing, &self.host.geometry)?;
         Ok(PagePlace {
             block: page.block,
             generation: page.generation,
@@ -290,6 +319,6 @@ impl Held<'_> {
 
 impl Drop for Held<'_> {
     fn drop(&mut self) {
-        unsafe { raw::mintlintel_host_release(&mut self.host.seat.handle) };
+        unsafe { raw::mintlintel_host_release(self.host.seat.handle()) };
     }
 }

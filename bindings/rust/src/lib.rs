@@ -1,4 +1,5 @@
-//! A proved flash translation layer: [`Device`] for one thread, and [`SharedDevice`] for many.
+//! A proved flash translation layer: [`Device`] for one thread, [`SharedDevice`] for many, and [`Image`], a device in a file that survives power cuts,
+//! or [`Durable`] over the caller's flash.
 //!
 //! ```
 //! use mintlintel::{Device, Geometry, Was};
@@ -15,16 +16,37 @@
 //! ```
 mod broom;
 mod device;
+mod durable;
 mod fault;
 mod host;
 mod raw;
 mod shared;
 
-pub use broom::{Broom, Drain, Erase};
+pub use broom::{BlockCounts, Broom, Collect, Collected, Drain, Erase, Phase, State};
 pub use device::{Block, Counts, Device};
-pub use fault::{Fault, OpenFault};
+pub use durable::{ChipFault, Durable, DurableFault, Image, Mode, Nand, Reading, Shape, STAMP_BYTES};
+pub use fault::{Fault, OpenError, OpenFault};
 pub use host::{Held, Host, PagePlace};
 pub use shared::SharedDevice;
+
+use fault::Given;
+use raw::code;
+use std::ffi::CStr;
+
+/// The version of the library that is linked, with ", not proved" behind it if it was built without proof.
+///
+/// ```
+/// assert!(mintlintel::version().starts_with(env!("CARGO_PKG_VERSION")));
+/// ```
+pub fn version() -> &'static str {
+    let text = unsafe { CStr::from_ptr(raw::mintlintel_version()) };
+    text.to_str().unwrap_or_default()
+}
+
+/// The examples of the page on linking, as they stand there.
+#[cfg(doctest)]
+#[doc = include_str!("../../../docs/LINKING.md")]
+struct Page;
 
 /// The numbers of a device. A page has eight bytes for each word.
 ///
@@ -82,7 +104,7 @@ impl Geometry {
 /// # use mintlintel::{Geometry, Numbers, SharedDevice};
 /// # fn main() -> Result<(), Box<dyn std::error::Error>> {
 /// let geometry = Geometry { blocks: 24, pages: 8, words: 1, sectors: 100, endurance: 1000, ..Geometry::ONE_LUN };
-/// let mut device = SharedDevice::open(geometry, 2, 1)?;
+/// let device = SharedDevice::open(geometry, 2, 1)?;
 /// assert_eq!(device.brooms[0].numbers()?, Numbers { geometry, hosts: 2, brooms: 1 });
 /// # Ok(())
 /// # }
@@ -92,6 +114,23 @@ pub struct Numbers {
     pub geometry: Geometry,
     pub hosts: u32,
     pub brooms: u32,
+}
+
+impl Numbers {
+    pub(crate) fn of(numbers: &raw::Numbers) -> Numbers {
+        Numbers {
+            geometry: Geometry::of(numbers),
+            hosts: numbers.hosts,
+            brooms: numbers.brooms,
+        }
+    }
+}
+
+impl From<Numbers> for raw::Numbers {
+    fn from(Numbers { geometry, hosts, brooms }: Numbers) -> raw::Numbers {
+        let Geometry { luns, blocks, pages, words, sectors, endurance } = geometry;
+        raw::Numbers { luns, blocks, pages, words, sectors, endurance, hosts, brooms }
+    }
 }
 
 /// What a sector was before a call, or what a read found.
@@ -115,11 +154,11 @@ pub enum Was {
 }
 
 impl Was {
-    fn of(code: u32) -> Result<Was, Fault> {
+    fn of(code: u32, given: Given, geometry: &Geometry) -> Result<Was, Fault> {
         match code {
-            0 => Ok(Was::Empty),
-            1 => Ok(Was::Written),
-            other => Err(Fault::of(other)),
+            code::DONE => Ok(Was::Empty),
+            code::WRITTEN => Ok(Was::Written),
+            other => Err(Fault::of(other, given, geometry)),
         }
     }
 }

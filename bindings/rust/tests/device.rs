@@ -53,16 +53,26 @@ fn device_agrees_with_array() -> Result<(), Fault> {
 fn refusals_of_device() {
     let mut device = Device::open(GEOMETRY).expect("a small device opens");
     let mut out = [9; 16];
-    assert_eq!(device.read(60, &mut out), Err(Fault::NoSector));
-    assert_eq!(device.read(0, &mut out[..15]), Err(Fault::NotAPage));
-    assert_eq!(device.read(0, &mut []), Err(Fault::NotAPage));
-    assert_eq!(device.write(0, &[]), Err(Fault::NotAPage));
-    assert_eq!(device.block(12), Err(Fault::NoSuchBlock));
+    assert_eq!(device.read(60, &mut out), Err(Fault::NoSector { sector: 60, sectors: 60 }));
+    assert_eq!(device.read(0, &mut out[..15]), Err(Fault::NotAPage { bytes: 15, page_bytes: 16 }));
+    assert_eq!(device.read(0, &mut []), Err(Fault::NotAPage { bytes: 0, page_bytes: 16 }));
+    assert_eq!(device.write(0, &[]), Err(Fault::NotAPage { bytes: 0, page_bytes: 16 }));
+    assert_eq!(device.block(12), Err(Fault::NoSuchBlock { block: 12, blocks: 12 }));
     assert_eq!(out, [9; 16]);
-    assert_eq!(Fault::NotAPage.to_string(), "not a page");
+    let told = [
+        (device.read(60, &mut out).err(), 3, "no such sector: 60 given, and the device has 60"),
+        (device.write(0, &[0; 17]).err(), 4, "not a page: 17 bytes given, and a page has 16"),
+        (device.block(12).err(), 10, "no such block: 12 given, and the device has 12"),
+    ];
+    for (fault, code, text) in told {
+        assert_eq!(fault.map(|fault| (fault.code(), fault.to_string())), Some((code, text.to_string())));
+    }
     let too_small = Geometry { sectors: 88, ..GEOMETRY };
-    assert_eq!(Device::open(too_small).err(), Some(OpenFault::TooFewBlocks));
-    assert_eq!(OpenFault::TooFewBlocks.to_string(), "too few blocks");
+    let error = Device::open(too_small).expect_err("it leaves no room");
+    assert_eq!((error.fault, error.fault.code(), error.asked.geometry), (OpenFault::TooFewBlocks, 109, too_small));
+    assert!(error.to_string().ends_with("= 87 sectors, and 88 were given; it would do with blocks=13"), "{error}");
+    assert_eq!(error.nearest().geometry, Geometry { blocks: 13, ..too_small });
+    Device::open(error.nearest().geometry).expect("the nearest one opens");
 }
 
 #[test]
@@ -87,4 +97,14 @@ fn device_moves_to_another_thread() {
     let (mut device, was) = moved.join().expect("the thread ends").expect("it writes");
     let mut out = [0; 16];
     assert_eq!((was, device.read(7, &mut out), out), (Was::Empty, Ok(Was::Written), [1; 16]));
+}
+
+/// The counts and the numbers are had of a device that is borrowed.
+#[test]
+fn getters_borrow_the_device() -> Result<(), Fault> {
+    let mut device = Device::open(GEOMETRY).expect("a small device opens");
+    device.write(7, &[1; 16])?;
+    let (device, same) = (&device, &device);
+    assert_eq!((device.counts()?.programs, same.geometry()?, device.block(0)?.live), (1, GEOMETRY, 1));
+    Ok(())
 }

@@ -1,8 +1,9 @@
 //! A shared device, its hosts and a broom in threads of their own.
-use mintlintel::{Broom, Drain, Erase, Fault, Geometry, Held, Host, Numbers, OpenFault, SharedDevice, Was};
+use mintlintel::{Broom, Collect, Collected, Drain, Erase, Fault, Geometry, Held, Host, Numbers, OpenFault, SharedDevice, Was};
 use std::mem;
 use std::sync::atomic::{AtomicUsize, Ordering};
 use std::thread;
+use std::time::Duration;
 
 const GEOMETRY: Geometry = Geometry { luns: 1, blocks: 40, pages: 8, words: 2, sectors: 200, endurance: 1_000_000 };
 const WRITERS: usize = 3;
@@ -20,12 +21,7 @@ fn play(host: &mut Host, writer: usize) -> Result<(), Fault> {
     for number in 0..20_000u32 {
         let sector = number * 7 % 66 * 3 + writer as u32;
         let written = page(writer, sector, number);
-        loop {
-            match host.write(sector, &written) {
-                Err(Fault::NoBlock) => thread::yield_now(),
-                other => break other.map(drop)?,
-            }
-        }
+        host.write_within(sector, &written, Duration::from_secs(60))?;
         assert_eq!(host.read(sector, &mut out)?, Was::Written);
         assert_eq!(out, written);
         let other = (sector + 1) % 198;
@@ -40,9 +36,10 @@ fn play(host: &mut Host, writer: usize) -> Result<(), Fault> {
 fn sweep(broom: &mut Broom, left: &AtomicUsize) -> Result<u32, Fault> {
     let mut moved_all = 0;
     while left.load(Ordering::SeqCst) > 0 {
-        if let Drain::Drained { block, moved } = broom.drain()? {
-            moved_all += moved;
-            while broom.erase(block)? == Erase::Pinned {}
+        let Collected { moved, ended, .. } = broom.collect(4)?;
+        moved_all += moved;
+        if ended != Collect::Done {
+            thread::sleep(Duration::from_micros(100));
         }
     }
     Ok(moved_all)
@@ -72,7 +69,7 @@ fn held_page_does_not_change() -> Result<(), Fault> {
     let (mut reader, mut writer) = (device.hosts.remove(0), device.hosts.remove(0));
     assert!(reader.hold(5)?.is_none());
     writer.write(5, &page(1, 5, 1))?;
-    let mut held = reader.hold(5)?.expect("sector 5 is written");
+    let held = reader.hold(5)?.expect("sector 5 is written");
     let place = held.place()?;
     let mut number = 2;
     let mut pinned = false;
@@ -91,7 +88,7 @@ fn held_page_does_not_change() -> Result<(), Fault> {
         assert_eq!(held.word(1)?, u64::from_le_bytes([1, 0, 0, 0, 1, 1, 1, 1]));
     }
     assert!(pinned);
-    assert_eq!(held.word(2), Err(Fault::NoSuchBlock));
+    assert_eq!(held.word(2), Err(Fault::NoSuchWord { word: 2, words: 2 }));
     drop(held);
     let mut out = [0; 16];
     assert_eq!(reader.read(5, &mut out)?, Was::Written);
@@ -101,18 +98,18 @@ fn held_page_does_not_change() -> Result<(), Fault> {
 
 #[test]
 fn refusals_of_shared_device() -> Result<(), Fault> {
-    assert_eq!(SharedDevice::open(GEOMETRY, 0, 0).err(), Some(OpenFault::Seats));
-    assert_eq!(SharedDevice::open(GEOMETRY, 501, 0).err(), Some(OpenFault::Seats));
-    assert_eq!(SharedDevice::open(GEOMETRY, 39, 1).err(), Some(OpenFault::TooFewBlocks));
+    assert_eq!(SharedDevice::open(GEOMETRY, 0, 0).map_err(|error| error.fault).err(), Some(OpenFault::Seats));
+    assert_eq!(SharedDevice::open(GEOMETRY, 501, 0).map_err(|error| error.fault).err(), Some(OpenFault::Seats));
+    assert_eq!(SharedDevice::open(GEOMETRY, 39, 1).map_err(|error| error.fault).err(), Some(OpenFault::TooFewBlocks));
     let mut device = SharedDevice::open(GEOMETRY, 1, 1).expect("it opens");
-    assert_eq!(device.hosts[0].read(200, &mut [0; 16]), Err(Fault::NoSector));
-    assert_eq!(device.hosts[0].write(0, &[0; 17]), Err(Fault::NotAPage));
+    assert_eq!(device.hosts[0].read(200, &mut [0; 16]), Err(Fault::NoSector { sector: 200, sectors: 200 }));
+    assert_eq!(device.hosts[0].write(0, &[0; 17]), Err(Fault::NotAPage { bytes: 17, page_bytes: 16 }));
     assert_eq!(device.hosts[0].write_new(0, &[0; 16])?, Was::Empty);
     assert_eq!(device.hosts[0].write_new(0, &[1; 16])?, Was::Written);
     assert_eq!(device.hosts[0].trim(0)?, Was::Written);
     assert_eq!(device.brooms[0].drain()?, Drain::NothingToGain);
     assert_eq!(device.brooms[0].erase(0)?, Erase::Stale);
-    assert_eq!(device.brooms[0].erase(40), Err(Fault::NoSuchBlock));
+    assert_eq!(device.brooms[0].erase(40), Err(Fault::NoSuchBlock { block: 40, blocks: 40 }));
     let numbers = Numbers { geometry: GEOMETRY, hosts: 1, brooms: 1 };
     assert_eq!((device.hosts[0].numbers()?, device.brooms[0].numbers()?), (numbers, numbers));
     assert_eq!((device.hosts[0].geometry()?, device.brooms[0].geometry()?), (GEOMETRY, GEOMETRY));
@@ -122,9 +119,9 @@ fn refusals_of_shared_device() -> Result<(), Fault> {
 #[test]
 fn geometry_faults_come_before_too_many_seats() {
     let no_pages = Geometry { pages: 0, ..GEOMETRY };
-    assert_eq!(SharedDevice::open(no_pages, usize::MAX, usize::MAX).err(), Some(OpenFault::Pages));
-    assert_eq!(SharedDevice::open(GEOMETRY, usize::MAX, 0).err(), Some(OpenFault::Seats));
-    assert_eq!(SharedDevice::open(GEOMETRY, 1, usize::MAX).err(), Some(OpenFault::Seats));
+    assert_eq!(SharedDevice::open(no_pages, usize::MAX, usize::MAX).map_err(|error| error.fault).err(), Some(OpenFault::Pages));
+    assert_eq!(SharedDevice::open(GEOMETRY, usize::MAX, 0).map_err(|error| error.fault).err(), Some(OpenFault::Seats));
+    assert_eq!(SharedDevice::open(GEOMETRY, 1, usize::MAX).map_err(|error| error.fault).err(), Some(OpenFault::Seats));
 }
 
 #[test]
@@ -137,7 +134,7 @@ fn drain_next_and_restock() -> Result<(), Fault> {
     for sector in [0, 0, 0, 0, 0, 0, 0, 0, 1, 1, 1, 1, 1, 1, 1, 2, 3, 3, 3, 3, 3, 4, 5, 6] {
         writer.write(sector, &page(0, sector, 0))?;
     }
-    assert_eq!((reader.look(6)?, reader.look(7)?, reader.look(200)), (Was::Written, Was::Empty, Err(Fault::NoSector)));
+    assert_eq!((reader.look(6)?, reader.look(7)?, reader.look(200)), (Was::Written, Was::Empty, Err(Fault::NoSector { sector: 200, sectors: 200 })));
     writer.trim(0)?;
     assert_eq!(broom.drain()?, Drain::Drained { block: 0, moved: 0 });
     assert_eq!(broom.drain_next()?, Drain::Drained { block: 1, moved: 2 });
@@ -148,6 +145,25 @@ fn drain_next_and_restock() -> Result<(), Fault> {
     assert_eq!(broom.drain_next()?, Drain::NothingToGain);
     drop(held);
     assert_eq!(broom.drain()?, Drain::Drained { block: 2, moved: 4 });
+    Ok(())
+}
+
+#[test]
+fn drain_of_a_dead_block() -> Result<(), Fault> {
+    let mut device = SharedDevice::open(GEOMETRY, 1, 1).expect("it opens");
+    let (host, broom) = (&mut device.hosts[0], &mut device.brooms[0]);
+    assert_eq!(broom.drain_dead()?, Drain::NothingToGain);
+    for sector in [0, 0, 0, 0, 0, 0, 0, 1] {
+        host.write(sector, &page(0, sector, 0))?;
+    }
+    assert_eq!(broom.drain_dead()?, Drain::NoSpare);
+    assert_eq!(broom.drain()?, Drain::Drained { block: 0, moved: 2 });
+    while host.write(9, &page(0, 9, 0)).is_ok() {}
+    assert_eq!((broom.drain()?, broom.restock()?), (Drain::NoSpare, false));
+    host.trim(9)?;
+    assert_eq!(broom.drain_dead()?, Drain::Drained { block: 1, moved: 0 });
+    assert_eq!(broom.erase(1)?, Erase::Erased { kept: true });
+    assert_eq!(broom.collect(1)?.ended, Collect::Done);
     Ok(())
 }
 

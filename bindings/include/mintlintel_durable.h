@@ -1,0 +1,167 @@
+/* Mintlintel's device that survives power cuts, over flash that the caller brings, or over an image file.
+ *
+ * The promise: after any run of flash commands, with any number of power cuts, each inside a command or between two, an open gives the array
+ * after a list of begun calls that contains every acknowledged call, in order. It rests on three premises: the flash tells a torn page from a
+ * version, a page reads the same each time, and what has succeeded is durable (or is after a sync, as the modes of an image say).
+ *
+ * Which command comes next, and what a mount makes of the stamps, is proved (`mintlintel_core_..`, at the end). The calls before it are plain C
+ * that performs these commands, and not proved. For all of them holds what mintlintel.h says of handles, pointers and the allocator. */
+#ifndef MINTLINTEL_DURABLE_H
+#define MINTLINTEL_DURABLE_H
+
+#include <mintlintel.h>
+
+#ifdef __cplusplus
+extern "C" {
+#endif
+
+/* What a call returns beside the codes of mintlintel.h. */
+enum mintlintel_durable_code {
+    MINTLINTEL_POWER_GONE = 28,    /* the power was cut, or the chip is gone: close the device, and open it again */
+    MINTLINTEL_FAILED = 29,        /* the flash failed a sync: close the device, and open it again */
+    MINTLINTEL_OTHER_DEVICE = 30,  /* the flash holds another device: other numbers, or another format */
+    MINTLINTEL_NO_NUMBER = 31,     /* the numbers of versions have run out */
+    MINTLINTEL_OUT_OF_ORDER = 32,  /* a call of the core that does not come next */
+    MINTLINTEL_UNREADABLE = 33,    /* the sector's page can't be read, and no older one is given for it */
+    MINTLINTEL_NO_ROOM = 34,       /* bad blocks have left too few blocks for the sectors */
+    MINTLINTEL_NO_FILE = 40,       /* an image: the file can't be opened or made; errno says why */
+    MINTLINTEL_IN_USE = 41,        /* an image: another handle has it open */
+    MINTLINTEL_NOT_AN_IMAGE = 42,  /* an image: the file is none, or its head is damaged */
+    MINTLINTEL_OTHER_VERSION = 43, /* an image: its format has a version that this library doesn't know */
+    MINTLINTEL_OTHER_NUMBERS = 44, /* an image: its device has other numbers */
+    MINTLINTEL_CUT_SHORT = 45,     /* an image: the file is shorter than its device */
+    MINTLINTEL_FILE_FAILED = 46    /* an image: a read, a write or a sync of the file failed; errno says why */
+};
+
+/* A code's name, for messages: of these codes and those of mintlintel.h. */
+const char *mintlintel_durable_code_name(uint32_t code);
+
+/* ---- Flash that the caller brings ---- */
+
+/* The bytes of a stamp, which are programmed with their page into its spare bytes: docs/FORMATS.md says what they are. */
+#define MINTLINTEL_STAMP_BYTES 24
+
+/* The caller's flash. It tells a page whose program or erase was cut from one that has a version, by its own check or by mintlintel_stamp_fits.
+ * What a function returns that stands for no answer counts as 3. */
+struct mintlintel_nand {
+    void *chip;
+    /* 0 read, 1 erased, 2 unreadable, 3 power gone. `main` may be null: then the stamp alone is read. */
+    int (*read)(void *chip, uint32_t block, uint32_t page, void *main, void *stamp);
+    /* 0 done, 1 failed, 3 power gone. The page is erased, and the pages of a block are programmed in order. A block that has failed a program, a copy
+     * or an erase gets none of them again, but its pages are read still. */
+    int (*program)(void *chip, uint32_t block, uint32_t page, const void *main, const void *stamp);
+    /* The same, of a page with its stamp. Null: the page is read and programmed. */
+    int (*copyback)(void *chip, uint32_t from_block, uint32_t from_page, uint32_t block, uint32_t page);
+    /* 0 done, 1 failed, 3 power gone. */
+    int (*erase)(void *chip, uint32_t block);
+    /* 1 for a block that must not be used: it was bad from the factory, or was marked. Null: there is none. */
+    int (*is_bad)(void *chip, uint32_t block);
+    /* 0 done, 3 power gone. Nothing in the block is needed any more. Null: it is kept in memory, and no block is in reserve. */
+    int (*mark_bad)(void *chip, uint32_t block);
+    /* 0 done, 1 failed, 3 power gone. Null: each command is durable once it has succeeded. */
+    int (*sync)(void *chip);
+};
+
+/* Whether a stamp is the one that was programmed with this page: 1 if its check fits the page and the stamp, and otherwise 0. With a null page,
+ * whether the stamp fits by itself, by the 16 bits of its own check. */
+int mintlintel_stamp_fits(const void *stamp, const void *page, size_t page_bytes);
+
+/* ---- A device that survives power cuts ---- */
+
+struct mintlintel_core { void *at; uint64_t is_open; };
+
+/* A handle: `struct mintlintel_durable device = {0};`. */
+struct mintlintel_durable { struct mintlintel_core core; struct mintlintel_flash *flash; };
+
+/* The numbers that a device was opened with. */
+struct mintlintel_durable_numbers { uint32_t luns, blocks, pages, page_bytes, sectors; };
+
+/* Mounts the device that the flash holds. Flash that was never written is an empty device. The numbers: luns 1 to 8; blocks 3 to 1048576, a
+ * multiple of luns; pages of a block 1 to 16384; bytes of a page 1 to 65536; sectors 1 to 268435456, and fewer than (blocks - 1) * pages.
+ * On a chip that can mark blocks one block of 50 is in reserve, less one for each bad block, and at least one if the sectors leave room for it:
+ * sectors < (blocks - 1 - reserve) * pages. It takes the place of one that fails.
+ * 0; 8; the first fault of the numbers, 101 to 105 and 109 (104 is of page_bytes); 6; 7 if no block can be freed, which this library leaves no
+ * flash in; 28, 30 or 34. With any code but 0 the handle is as it was, and nothing was programmed or erased. */
+uint32_t mintlintel_durable_open(struct mintlintel_durable *device, const struct mintlintel_nand *nand, uint32_t luns, uint32_t blocks,
+                                 uint32_t pages, uint32_t page_bytes, uint32_t sectors);
+
+/* Frees the memory. It gives the flash no command: an open after it, or after none, finds the same. */
+void mintlintel_durable_close(struct mintlintel_durable *device);
+
+/* Reads a sector into `out`, of page_bytes bytes: 1 with the page in `out`; 0 for an empty sector; 2, 3, 4 or 28; 33 if the page can't be read.
+ * With 0, 2, 3 and 4 `out` is as it was. */
+uint32_t mintlintel_durable_read(struct mintlintel_durable *device, uint32_t sector, void *out, size_t bytes);
+
+/* Writes a page to a sector: 0 or 1 for what the sector was; 2, 3 or 4; 27, 28, 31 or 33. After a block has failed, the call mounts the device
+ * without it and goes on elsewhere; 6 if there is no memory for it, and then each call returns 6 until the device is opened again. Calls after it move
+ * what is needed out of the block, and then mark it. Where there is no room without the block, this call and each write or trim after it return 27,
+ * and reads go on. After 27 and 28 the sector has this page or what it had before: the next read or open says which. */
+uint32_t mintlintel_durable_write(struct mintlintel_durable *device, uint32_t sector, const void *bytes, size_t count);
+
+/* Writes a page to a sector that is empty: 0 if it wrote, 1 if the sector was written and didn't change; otherwise as a write. */
+uint32_t mintlintel_durable_write_new(struct mintlintel_durable *device, uint32_t sector, const void *bytes, size_t count);
+
+/* Empties `count` sectors from `first` on: 1 if any of them was written, and 0 if none was; 3 if the device lacks one of them, and nothing changes;
+ * otherwise as a write. After a code above 1 some of them may be empty already. */
+uint32_t mintlintel_durable_trim(struct mintlintel_durable *device, uint32_t first, uint32_t count);
+
+/* Returns once what was acknowledged is durable: 0; 2 or 28; 29 if the sync failed. */
+uint32_t mintlintel_durable_flush(struct mintlintel_durable *device);
+
+/* What was programmed, copied and erased since the open: 0; 2 leaves `totals` as it was. */
+uint32_t mintlintel_durable_counts(struct mintlintel_durable *device, struct mintlintel_totals *totals);
+
+/* A block: 0; 2 or 10 leave `report` as it was. Its erases are those that the stamps of its pages told at the open, and those since; its live pages
+ * are counted over all sectors; it is retired if it is bad. */
+uint32_t mintlintel_durable_block(struct mintlintel_durable *device, uint32_t block, struct mintlintel_block *report);
+
+/* The device's numbers: 0; 2 leaves `numbers` as it was. */
+uint32_t mintlintel_durable_numbers(struct mintlintel_durable *device, struct mintlintel_durable_numbers *numbers);
+
+/* ---- The core, proved: it says which command comes next, and performs none ---- */
+
+/* A page's block, and its index in the block. */
+struct mintlintel_place { uint32_t block, page; };
+
+/* A command: kind 1 programs page `page` of `block` with the sector's new value and a stamp of this number; 2 copies the page of `sector` from
+ * (from_block, from_page) to (block, page), with its stamp; 3 erases `block`. What a command doesn't name is 0. */
+struct mintlintel_command { uint32_t kind, sector, from_block, from_page, block, page; uint64_t number; };
+
+/* Begins a mount: 0; 6 or 8; 109 unless sectors < (blocks - 1) * pages. */
+uint32_t mintlintel_core_open(struct mintlintel_core *core, uint32_t blocks, uint32_t pages, uint32_t sectors);
+
+/* The same, where the blocks from `blocks` to `read_blocks` - 1 are bad or in reserve: a mount reads them, and no command programs or erases them. 109 also
+ * if read_blocks < blocks. After a command that failed, give its block such a number and mount again: the update may be there or not. */
+uint32_t mintlintel_core_open_over(struct mintlintel_core *core, uint32_t read_blocks, uint32_t blocks, uint32_t pages, uint32_t sectors);
+
+/* Notes what the next page holds, block by block: a version with its sector and number, or with has_version 0 none (it is erased or torn).
+ * 0; 2; 9 if the layer is mounted; 30 if the device has no such sector, or if it is the last number; 32 after the last page. */
+uint32_t mintlintel_core_note(struct mintlintel_core *core, uint32_t has_version, uint32_t sector, uint64_t number);
+
+/* Mounts the layer once every page was noted: 0; 2; 9 if it is mounted; 32 before the last page. With 6, or with 7 if no block can be freed, the
+ * handle is closed. */
+uint32_t mintlintel_core_finish(struct mintlintel_core *core);
+
+/* The page that has the sector's newest version, a value or a trim: 1 with its place; 0 if none has; 2, 3 or 9. */
+uint32_t mintlintel_core_page(struct mintlintel_core *core, uint32_t sector, struct mintlintel_place *place);
+
+/* The command that comes next for a write or trim of the sector: 0; 2, 3 or 9; 31 if the numbers have run out. It changes nothing. */
+uint32_t mintlintel_core_next(struct mintlintel_core *core, uint32_t sector, struct mintlintel_command *command);
+
+/* This command has succeeded: 0, and after a command of kind 1 the write or trim is acknowledged. 2, 3 or 9; 32 if it isn't the one that comes next. */
+uint32_t mintlintel_core_done(struct mintlintel_core *core, uint32_t sector, struct mintlintel_command *command);
+
+/* What has succeeded since the mount: 0; 2 or 9. */
+uint32_t mintlintel_core_counts(struct mintlintel_core *core, struct mintlintel_totals *totals);
+
+/* Frees the memory. A closed handle stays closed. */
+void mintlintel_core_close(struct mintlintel_core *core);
+
+/* The CRC-32C after more bytes; of no bytes it is 0. */
+uint32_t mintlintel_crc32c(uint32_t crc, const uint8_t *bytes, size_t count);
+
+#ifdef __cplusplus
+}
+#endif
+
+#endif

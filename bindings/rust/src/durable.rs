@@ -1,0 +1,429 @@
+//! Devices that survive power cuts: over flash that the caller brings, and in an image file.
+use crate::raw::{self, Totals};
+use crate::{Block, Counts, Was};
+use std::cell::UnsafeCell;
+use std::error::Error;
+use std::ffi::{c_void, CString};
+use std::fmt::{self, Display, Formatter};
+use std::io;
+use std::os::raw::c_int;
+use std::os::unix::ffi::OsStrExt;
+use std::path::Path;
+use std::slice;
+
+/// The bytes of a stamp, which are programmed with their page into its spare bytes.
+pub const STAMP_BYTES: usize = 24;
+
+/// What a page holds, as a chip reads it.
+#[derive(Clone, Copy, Debug, PartialEq, Eq)]
+pub enum Reading {
+    /// The buffers have the page and its stamp.
+    Version,
+    Erased,
+    Unreadable,
+}
+
+/// Why a chip did not do a command.
+#[derive(Clone, Copy, Debug, PartialEq, Eq)]
+pub enum ChipFault {
+    /// A program or an erase failed.
+    Failed,
+    /// The power is gone, or the chip is.
+    PowerGone,
+}
+
+/// Flash that the caller brings. It tells a page whose program or erase was cut from one that has a version.
+///
+/// A panic in one of these functions ends the process, since it would pass through C.
+pub trait Nand {
+    /// Reads a page and its stamp, or with no `main` the stamp alone.
+    fn read(&mut self, block: u32, page: u32, main: Option<&mut [u8]>, stamp: &mut [u8; STAMP_BYTES]) -> Result<Reading, ChipFault>;
+    /// Programs an erased page; the pages of a block come in order.
+    fn program(&mut self, block: u32, page: u32, main: &[u8], stamp: &[u8; STAMP_BYTES]) -> Result<(), ChipFault>;
+    fn erase(&mut self, block: u32) -> Result<(), ChipFault>;
+    fn is_bad(&mut self, _block: u32) -> bool {
+        false
+    }
+    /// The block must not be used any more.
+    fn mark_bad(&mut self, _block: u32) -> Result<(), ChipFault> {
+        Ok(())
+    }
+    /// Returns once each command that has succeeded is durable.
+    fn sync(&mut self) -> Result<(), ChipFault> {
+        Ok(())
+    }
+}
+
+/// The numbers of a device that survives power cuts. There are fewer sectors than `(blocks - 1) * pages`.
+#[derive(Clone, Copy, Debug, PartialEq, Eq)]
+pub struct Shape {
+    pub luns: u32,
+    pub blocks: u32,
+    pub pages: u32,
+    pub page_bytes: u32,
+    pub sectors: u32,
+}
+
+/// Why a call on a device that survives power cuts did not do what it was asked for.
+#[derive(Debug)]
+#[non_exhaustive]
+pub enum DurableFault {
+    NoSector,
+    NotAPage,
+    NoMemory,
+    NoSuchBlock,
+    /// The number of `Shape` that breaks its limit.
+    Numbers(&'static str),
+    /// The sectors leave no room to collect.
+    TooFewBlocks,
+    /// No block can be freed. This library leaves no flash so.
+    NoBlock,
+    /// Bad blocks have left too few blocks for the sectors. An open device can be read still, and the sector of the call has what it had, or what the
+    /// call gave it.
+    NoRoom,
+    /// Drop the device, and open it again. The sector has what it had, or what the call gave it.
+    PowerGone,
+    /// The same, after a sync of the flash that failed.
+    Failed,
+    OtherDevice,
+    /// The numbers of versions have run out.
+    NoNumber,
+    /// The sector's page can't be read, and no older one is given for it.
+    Unreadable,
+    InUse,
+    NotAnImage,
+    OtherVersion,
+    OtherNumbers,
+    CutShort,
+    /// The file can't be opened or made, or it failed. After a call on an open image drop it, and open it again; nothing that was acknowledged is lost.
+    File(io::Error),
+    /// A code that the call does not have: the library is of another version.
+    Unknown(u32),
+}
+
+impl DurableFault {
+    fn of(code: u32, file: impl FnOnce() -> io::Error) -> DurableFault {
+        match code {
+            3 => DurableFault::NoSector,
+            4 => DurableFault::NotAPage,
+            6 => DurableFault::NoMemory,
+            7 => DurableFault::NoBlock,
+            10 => DurableFault::NoSuchBlock,
+            27 | 34 => DurableFault::NoRoom,
+            28 => DurableFault::PowerGone,
+            29 => DurableFault::Failed,
+            30 => DurableFault::OtherDevice,
+            31 => DurableFault::NoNumber,
+            33 => DurableFault::Unreadable,
+            40 | 46 => DurableFault::File(file()),
+            41 => DurableFault::InUse,
+            42 => DurableFault::NotAnImage,
+            43 => DurableFault::OtherVersion,
+            44 => DurableFault::OtherNumbers,
+            45 => DurableFault::CutShort,
+            101 => DurableFault::Numbers("luns"),
+            102 => DurableFault::Numbers("blocks"),
+            103 => DurableFault::Numbers("pages"),
+            104 => DurableFault::Numbers("page_bytes"),
+            105 => DurableFault::Numbers("sectors"),
+            109 => DurableFault::TooFewBlocks,
+            other => DurableFault::Unknown(other),
+        }
+    }
+}
+
+impl Display for DurableFault {
+    fn fmt(&self, f: &mut Formatter) -> fmt::Result {
+        f.write_str(match self {
+            DurableFault::NoSector => "no such sector",
+            DurableFault::NotAPage => "not a page",
+            DurableFault::NoMemory => "out of memory",
+            DurableFault::NoSuchBlock => "no such block",
+            DurableFault::Numbers(name) => return write!(f, "{name} out of range"),
+            DurableFault::TooFewBlocks => "too few blocks",
+            DurableFault::NoBlock => "no block can be freed",
+            DurableFault::NoRoom => "bad blocks have left no room",
+            DurableFault::PowerGone => "the power is gone",
+            DurableFault::Failed => "the flash failed",
+            DurableFault::OtherDevice => "the flash holds another device",
+            DurableFault::NoNumber => "the numbers have run out",
+            DurableFault::Unreadable => "the page can't be read",
+            DurableFault::InUse => "the image is in use",
+            DurableFault::NotAnImage => "not an image, or its head is damaged",
+            DurableFault::OtherVersion => "an image of another version",
+            DurableFault::OtherNumbers => "an image with other numbers",
+            DurableFault::CutShort => "the image is cut short",
+            DurableFault::File(error) => return error.fmt(f),
+            DurableFault::Unknown(code) => return write!(f, "unknown code {code}"),
+        })
+    }
+}
+
+impl Error for DurableFault {
+    fn source(&self) -> Option<&(dyn Error + 'static)> {
+        match self {
+            DurableFault::File(error) => Some(error),
+            _ => None,
+        }
+    }
+}
+
+/// The calls that an image and a device over the caller's flash share.
+macro_rules! calls {
+    ($handle:ident) => {
+        /// Reads a sector into a buffer of one page. An empty sector leaves the buffer unchanged.
+        pub fn read(&mut self, sector: u32, out: &mut [u8]) -> Result<Was, DurableFault> {
+            let code = unsafe { raw::mintlintel_durable_read(self.$handle(), sector, out.as_mut_ptr().cast(), out.len()) };
+            self.was(code)
+        }
+
+        /// Writes a page to a sector. Returns what the sector was.
+        pub fn write(&mut self, sector: u32, page: &[u8]) -> Result<Was, DurableFault> {
+            let code = unsafe { raw::mintlintel_durable_write(self.$handle(), sector, page.as_ptr().cast(), page.len()) };
+            self.was(code)
+        }
+
+        /// Writes a page to a sector if it is empty. `Written` says that it was not empty and is unchanged.
+        pub fn write_new(&mut self, sector: u32, page: &[u8]) -> Result<Was, DurableFault> {
+            let code = unsafe { raw::mintlintel_durable_write_new(self.$handle(), sector, page.as_ptr().cast(), page.len()) };
+            self.was(code)
+        }
+
+        /// Empties sectors. `Written` says that any of them was written.
+        pub fn trim(&mut self, first: u32, count: u32) -> Result<Was, DurableFault> {
+            let code = unsafe { raw::mintlintel_durable_trim(self.$handle(), first, count) };
+            self.was(code)
+        }
+
+        /// Returns once what was acknowledged is durable.
+        pub fn flush(&mut self) -> Result<(), DurableFault> {
+            let code = unsafe { raw::mintlintel_durable_flush(self.$handle()) };
+            self.was(code).map(drop)
+        }
+
+        /// What was programmed, copied and erased since the open.
+        pub fn counts(&self) -> Result<Counts, DurableFault> {
+            let mut totals = Totals::default();
+            self.was(unsafe { raw::mintlintel_durable_counts(self.$handle(), &mut totals) })?;
+            let Totals { programs, copies, erases } = totals;
+            Ok(Counts { programs, copies, erases })
+        }
+
+        /// A block's erases as far as its stamps told them, its live pages, and whether it is bad.
+        pub fn block(&self, block: u32) -> Result<Block, DurableFault> {
+            let mut report = raw::Block::default();
+            self.was(unsafe { raw::mintlintel_durable_block(self.$handle(), block, &mut report) })?;
+            Ok(Block { erases: report.erases, live: report.live, retired: report.retired != 0 })
+        }
+
+        /// The numbers that the device was opened with.
+        pub fn shape(&self) -> Result<Shape, DurableFault> {
+            let mut numbers = raw::DurableNumbers::default();
+            self.was(unsafe { raw::mintlintel_durable_numbers(self.$handle(), &mut numbers) })?;
+            let raw::DurableNumbers { luns, blocks, pages, page_bytes, sectors } = numbers;
+            Ok(Shape { luns, blocks, pages, page_bytes, sectors })
+        }
+
+        fn was(&self, code: u32) -> Result<Was, DurableFault> {
+            match code {
+                0 => Ok(Was::Empty),
+                1 => Ok(Was::Written),
+                other => Err(DurableFault::of(other, || self.file_error())),
+            }
+        }
+    };
+}
+
+struct Chip<N> {
+    nand: N,
+    page_bytes: usize,
+}
+
+/// A device that survives power cuts, over the caller's flash. It is closed when it is dropped.
+pub struct Durable<N: Nand> {
+    handle: UnsafeCell<raw::Durable>,
+    // A pointer, so that C's copy of it stays good when the device moves.
+    chip: *mut Chip<N>,
+}
+
+// A handle and its chip may go to another thread, as a whole.
+unsafe impl<N: Nand + Send> Send for Durable<N> {}
+
+impl<N: Nand> Durable<N> {
+    /// Mounts the device that the flash holds. Flash that was never written is an empty device.
+    pub fn open(nand: N, shape: Shape) -> Result<Durable<N>, DurableFault> {
+        let chip = Box::into_raw(Box::new(Chip { nand, page_bytes: shape.page_bytes as usize }));
+        let device = Durable { handle: UnsafeCell::new(raw::Durable::CLOSED), chip };
+        let functions = raw::Nand {
+            chip: chip.cast(),
+            read: Some(read::<N>),
+            program: Some(program::<N>),
+            copyback: None,
+            erase: Some(erase::<N>),
+            is_bad: Some(is_bad::<N>),
+            mark_bad: Some(mark_bad::<N>),
+            sync: Some(sync::<N>),
+        };
+        let Shape { luns, blocks, pages, page_bytes, sectors } = shape;
+        let code = unsafe { raw::mintlintel_durable_open(device.at(), &functions, luns, blocks, pages, page_bytes, sectors) };
+        device.was(code)?;
+        Ok(device)
+    }
+
+    calls!(at);
+
+    fn at(&self) -> *mut raw::Durable {
+        self.handle.get()
+    }
+
+    fn file_error(&self) -> io::Error {
+        io::Error::from_raw_os_error(0)
+    }
+
+    /// The flash.
+    pub fn into_nand(self) -> N {
+        unsafe { raw::mintlintel_durable_close(self.at()) };
+        let chip = self.chip;
+        std::mem::forget(self);
+        unsafe { Box::from_raw(chip) }.nand
+    }
+}
+
+impl<N: Nand> Drop for Durable<N> {
+    fn drop(&mut self) {
+        unsafe {
+            raw::mintlintel_durable_close(self.at());
+            drop(Box::from_raw(self.chip));
+        }
+    }
+}
+
+fn answer(done: Result<(), ChipFault>) -> c_int {
+    match done {
+        Ok(()) => 0,
+        Err(ChipFault::Failed) => 1,
+        Err(ChipFault::PowerGone) => 3,
+    }
+}
+
+unsafe extern "C" fn read<N: Nand>(chip: *mut c_void, block: u32, page: u32, main: *mut c_void, stamp: *mut c_void) -> c_int {
+    let chip = &mut *chip.cast::<Chip<N>>();
+    let main = (!main.is_null()).then(|| slice::from_raw_parts_mut(main.cast::<u8>(), chip.page_bytes));
+    match chip.nand.read(block, page, main, &mut *stamp.cast()) {
+        Ok(Reading::Version) => 0,
+        Ok(Reading::Erased) => 1,
+        Ok(Reading::Unreadable) => 2,
+        Err(_) => 3,
+    }
+}
+
+unsafe extern "C" fn program<N: Nand>(chip: *mut c_void, block: u32, page: u32, main: *const c_void, stamp: *const c_void) -> c_int {
+    let chip = &mut *chip.cast::<Chip<N>>();
+    answer(chip.nand.program(block, page, slice::from_raw_parts(main.cast(), chip.page_bytes), &*stamp.cast()))
+}
+
+unsafe extern "C" fn erase<N: Nand>(chip: *mut c_void, block: u32) -> c_int {
+    answer((*chip.cast::<Chip<N>>()).nand.erase(block))
+}
+
+unsafe extern "C" fn is_bad<N: Nand>(chip: *mut c_void, block: u32) -> c_int {
+    (*chip.cast::<Chip<N>>()).nand.is_bad(block).into()
+}
+
+unsafe extern "C" fn mark_bad<N: Nand>(chip: *mut c_void, block: u32) -> c_int {
+    answer((*chip.cast::<Chip<N>>()).nand.mark_bad(block))
+}
+
+unsafe extern "C" fn sync<N: Nand>(chip: *mut c_void) -> c_int {
+    answer((*chip.cast::<Chip<N>>()).nand.sync())
+}
+
+/// What survives a power cut of the machine. All of them survive the end of the process, kill -9 too.
+#[derive(Clone, Copy, Debug, PartialEq, Eq)]
+pub enum Mode {
+    /// Each acknowledged call.
+    Always = 1,
+    /// A beginning of the history that has all that was flushed.
+    Flush = 2,
+    /// Nothing is promised.
+    Never = 3,
+}
+
+/// A device in a sparse file. It is closed when it is dropped; `close` tells whether that failed.
+///
+/// ```
+/// use mintlintel::{Image, Mode, Shape, Was};
+///
+/// # fn main() -> Result<(), Box<dyn std::error::Error>> {
+/// let path = std::env::temp_dir().join(format!("mintlintel-{}.img", std::process::id()));
+/// let shape = Shape { luns: 1, blocks: 8, pages: 16, page_bytes: 512, sectors: 100 };
+/// Image::open(&path, Mode::Flush, shape)?.write(7, &[1; 512])?;
+/// let mut image = Image::open_existing(&path, Mode::Flush)?;
+/// let mut page = [0; 512];
+/// assert_eq!(image.read(7, &mut page)?, Was::Written);
+/// assert_eq!(page, [1; 512]);
+/// # std::fs::remove_file(&path)?;
+/// # Ok(())
+/// # }
+/// ```
+pub struct Image {
+    handle: UnsafeCell<raw::Image>,
+}
+
+// A handle may go to another thread, as a whole.
+unsafe impl Send for Image {}
+
+fn c_path(path: &Path) -> Result<CString, DurableFault> {
+    CString::new(path.as_os_str().as_bytes()).map_err(|error| DurableFault::File(error.into()))
+}
+
+impl Image {
+    /// Opens the image, and makes it if there is no such file.
+    pub fn open(path: impl AsRef<Path>, mode: Mode, shape: Shape) -> Result<Image, DurableFault> {
+        let name = c_path(path.as_ref())?;
+        let mut handle = raw::Image::CLOSED;
+        let Shape { luns, blocks, pages, page_bytes, sectors } = shape;
+        match unsafe { raw::mintlintel_image_open(&mut handle, name.as_ptr(), mode as c_int, luns, blocks, pages, page_bytes, sectors) } {
+            0 => Ok(Image { handle: UnsafeCell::new(handle) }),
+            code => Err(DurableFault::of(code, io::Error::last_os_error)),
+        }
+    }
+
+    /// Opens an image that is there, with its own numbers.
+    pub fn open_existing(path: impl AsRef<Path>, mode: Mode) -> Result<Image, DurableFault> {
+        Image::open(path, mode, Shape { luns: 0, blocks: 0, pages: 0, page_bytes: 0, sectors: 0 })
+    }
+
+    calls!(at);
+
+    fn at(&self) -> *mut raw::Durable {
+        self.handle.get().cast()
+    }
+
+    fn file_error(&self) -> io::Error {
+        io::Error::from_raw_os_error(unsafe { raw::mintlintel_image_errno(self.handle.get()) })
+    }
+
+    /// Copies the image as it stands into a new file, an image of its own.
+    pub fn copy(&mut self, path: impl AsRef<Path>) -> Result<(), DurableFault> {
+        let name = c_path(path.as_ref())?;
+        match unsafe { raw::mintlintel_image_copy(self.handle.get(), name.as_ptr()) } {
+            0 => Ok(()),
+            code => Err(DurableFault::of(code, io::Error::last_os_error)),
+        }
+    }
+
+    /// Closes the image, and tells whether its last sync failed.
+    pub fn close(self) -> Result<(), DurableFault> {
+        match unsafe { raw::mintlintel_image_close(self.handle.get()) } {
+            0 => Ok(()),
+            code => Err(DurableFault::of(code, io::Error::last_os_error)),
+        }
+    }
+}
+
+impl Drop for Image {
+    fn drop(&mut self) {
+        unsafe { raw::mintlintel_image_close(self.handle.get()) };
+    }
+}

@@ -1,0 +1,147 @@
+//! A device over a chip whose power goes, and an image, against plain arrays.
+use mintlintel::{ChipFault, Durable, DurableFault, Image, Mode, Nand, Reading, Shape, Was, STAMP_BYTES};
+
+const SHAPE: Shape = Shape { luns: 1, blocks: 12, pages: 8, page_bytes: 16, sectors: 60 };
+
+#[derive(Clone)]
+enum Page {
+    Erased,
+    Torn,
+    Version([u8; 16], [u8; STAMP_BYTES]),
+}
+
+/// A chip in memory. After so many commands its power goes, inside the last of them. From a block on all are bad.
+struct Chip {
+    pages: Vec<Page>,
+    left: u32,
+    good: u32,
+}
+
+impl Chip {
+    fn command(&mut self) -> Result<(), ChipFault> {
+        self.left = self.left.saturating_sub(1);
+        if self.left == 0 { Err(ChipFault::PowerGone) } else { Ok(()) }
+    }
+}
+
+impl Nand for Chip {
+    fn read(&mut self, block: u32, page: u32, main: Option<&mut [u8]>, stamp: &mut [u8; STAMP_BYTES]) -> Result<Reading, ChipFault> {
+        match &self.pages[(8 * block + page) as usize] {
+            Page::Erased => Ok(Reading::Erased),
+            Page::Torn => Ok(Reading::Unreadable),
+            Page::Version(bytes, with) => {
+                if let Some(main) = main {
+                    main.copy_from_slice(bytes);
+                }
+                *stamp = *with;
+                Ok(Reading::Version)
+            }
+        }
+    }
+
+    fn program(&mut self, block: u32, page: u32, main: &[u8], stamp: &[u8; STAMP_BYTES]) -> Result<(), ChipFault> {
+        let at = (8 * block + page) as usize;
+        assert!(matches!(self.pages[at], Page::Erased));
+        self.pages[at] = Page::Torn;
+        self.command()?;
+        self.pages[at] = Page::Version(main.try_into().expect("a page has 16 bytes"), *stamp);
+        Ok(())
+    }
+
+    fn is_bad(&mut self, block: u32) -> bool {
+        block >= self.good
+    }
+
+    fn erase(&mut self, block: u32) -> Result<(), ChipFault> {
+        for page in 0..8 {
+            self.pages[(8 * block + page) as usize] = Page::Erased;
+        }
+        self.command()
+    }
+}
+
+/// The same numbers in each run.
+fn drawn(state: &mut u64) -> u32 {
+    *state ^= *state << 13;
+    *state ^= *state >> 7;
+    *state ^= *state << 17;
+    (*state >> 32) as u32
+}
+
+#[test]
+fn no_acknowledged_write_is_lost() -> Result<(), DurableFault> {
+    let mut chip = Chip { pages: vec![Page::Erased; 96], left: 0, good: 12 };
+    let mut sectors = [0u64; 60];
+    let mut state = 88_172_645_463_325_252;
+    for round in 0..300u64 {
+        chip.left = 1 + drawn(&mut state) % 80;
+        let mut device = Durable::open(chip, SHAPE)?;
+        let mut number = round << 32;
+        let cut = loop {
+            number += 1;
+            let sector = drawn(&mut state) % 60;
+            let mut page = [0; 16];
+            page[..8].copy_from_slice(&number.to_le_bytes());
+            match device.write(sector, &page) {
+                Ok(was) => assert_eq!(was == Was::Written, sectors[sector as usize] != 0),
+                Err(DurableFault::PowerGone) => break sector,
+                Err(fault) => return Err(fault),
+            }
+            sectors[sector as usize] = number;
+        };
+        chip = device.into_nand();
+        chip.left = u32::MAX;
+        let mut device = Durable::open(chip, SHAPE)?;
+        for sector in 0..60 {
+            let mut page = [0; 16];
+            let was = device.read(sector, &mut page)?;
+            let value = u64::from_le_bytes(page[..8].try_into().expect("eight bytes"));
+            let held = sectors[sector as usize];
+            assert_eq!(was == Was::Written, value != 0);
+            assert!(value == held || (sector == cut && value == number));
+            sectors[sector as usize] = value;
+        }
+        chip = device.into_nand();
+    }
+    Ok(())
+}
+
+#[test]
+fn bad_blocks_leave_no_room() {
+    let chip = Chip { pages: vec![Page::Erased; 96], left: u32::MAX, good: 8 };
+    assert!(matches!(Durable::open(chip, SHAPE), Err(DurableFault::NoRoom)));
+}
+
+#[test]
+fn image_keeps_what_was_written() -> Result<(), Box<dyn std::error::Error>> {
+    let path = std::env::temp_dir().join(format!("mintlintel-test-{}.img", std::process::id()));
+    let copied = path.with_extension("copy");
+    let _ = std::fs::remove_file(&path);
+    let _ = std::fs::remove_file(&copied);
+    for mode in [Mode::Always, Mode::Flush, Mode::Never] {
+        let mut image = Image::open(&path, mode, SHAPE)?;
+        assert!(matches!(Image::open_existing(&path, mode), Err(DurableFault::InUse)));
+        image.write(3, &[mode as u8; 16])?;
+        image.flush()?;
+        image.close()?;
+    }
+    let mut image = Image::open_existing(&path, Mode::Flush)?;
+    assert_eq!(image.shape()?, SHAPE);
+    let mut page = [0; 16];
+    assert_eq!(image.read(3, &mut page)?, Was::Written);
+    assert_eq!(page, [3; 16]);
+    image.copy(&copied)?;
+    assert_eq!(image.trim(0, 60)?, Was::Written);
+    assert_eq!(image.trim(0, 60)?, Was::Empty);
+    assert!(matches!(image.read(60, &mut page), Err(DurableFault::NoSector)));
+    assert!(matches!(image.write(0, &[0; 15]), Err(DurableFault::NotAPage)));
+    assert!(matches!(image.block(12), Err(DurableFault::NoSuchBlock)));
+    assert_eq!(image.counts()?.programs, 1);
+    drop(image);
+    assert!(matches!(Image::open(&path, Mode::Flush, Shape { sectors: 59, ..SHAPE }), Err(DurableFault::OtherNumbers)));
+    let mut copy = Image::open_existing(&copied, Mode::Never)?;
+    assert_eq!(copy.read(3, &mut page)?, Was::Written);
+    std::fs::remove_file(&path)?;
+    std::fs::remove_file(&copied)?;
+    Ok(())
+}

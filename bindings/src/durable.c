@@ -1,0 +1,562 @@
+/* A device that survives power cuts: it performs the commands of the proved core by the caller's functions. This file is plain C, and not proved. */
+#include "mintlintel_durable.h"
+#include "flash.h"
+#include "stamp.h"
+#include <stdlib.h>
+#include <string.h>
+
+enum { PROGRAM = 1, COPY = 2, ERASE = 3 };
+enum { MOST_LUNS = 8, FEWEST_BLOCKS = 3, MOST_BLOCKS = 1048576, MOST_PAGES = 16384, MOST_PAGE_BYTES = 65536, MOST_SECTORS = 268435456 };
+/* At how many sectors a call looks for one that has to move. */
+enum { LOOKED_AT = 4096 };
+/* How many versions an open reads whole, to tell a device with pages of another size. */
+enum { SAMPLES = 8 };
+/* Of so many blocks one is in reserve, and at least one of a device, if the sectors leave room for it. */
+enum { ONE_RESERVE_IN = 50 };
+/* A block that has failed is marked once nothing in it is needed; so a marked one is not read. */
+enum { GOOD, FAILED, MARKED };
+
+/* What a handle keeps beside its core. The core numbers the blocks that are in use, then those in reserve, then the bad ones: `chip_block` gives the
+ * chip's number of each. `state` and `erases` go by the chip's numbers. */
+struct mintlintel_flash {
+    struct mintlintel_nand nand;
+    struct mintlintel_durable_numbers numbers;
+    uint32_t *chip_block, *erases;
+    uint8_t *state;
+    uint32_t used;
+    uint32_t stranded; /* the first sector that may be in a block that isn't in use */
+    int is_stuck, has_failed; /* such a sector can't be read; a block has failed and isn't marked */
+    struct mintlintel_totals earlier; /* what was done before the last mount */
+    const uint32_t *reason; /* the code in place of 28, if there is one */
+    uint32_t stopped; /* the code that every call returns since the power went, or a sync or a mount failed, or 0 */
+    uint32_t worn; /* the code of writes and trims since bad blocks have left no room, or 0 */
+    uint8_t *page, *moved;
+};
+
+struct update { uint32_t sector; const uint8_t *bytes; /* null: a trim */ };
+
+/* What an open finds out, and a mount after a failure knows. */
+struct opening { int has_trace; };
+
+/* ---- Commands of the chip ---- */
+
+/* The code of what a function of the chip returned, for a command. */
+static uint32_t code_of(int answer)
+{
+    return answer == 0 ? MINTLINTEL_DONE : answer == 1 ? MINTLINTEL_FAILED : MINTLINTEL_POWER_GONE;
+}
+
+/* A page's reading: 0 and its stamp's fields, or 1 erased, 2 unreadable, 3 power gone. A page whose check doesn't fit is unreadable. */
+static int read_page(struct mintlintel_flash *flash, uint32_t block, uint32_t page, void *main, struct stamp *stamp)
+{
+    uint8_t bytes[MINTLINTEL_STAMP_BYTES];
+    int answer = flash->nand.read(flash->nand.chip, flash->chip_block[block], page, main, bytes);
+    if (answer != 0)
+        return answer == 1 || answer == 2 ? answer : 3;
+    if (!mintlintel_stamp_fits(bytes, main, flash->numbers.page_bytes))
+        return 2;
+    *stamp = mtl_stamp_from(bytes);
+    return 0;
+}
+
+static uint32_t program(struct mintlintel_flash *flash, const struct mintlintel_command *command, struct update update)
+{
+    struct stamp stamp = {update.bytes ? STAMP_VALUE : STAMP_TRIM, command->number, command->sector, 1,
+                          flash->erases[flash->chip_block[command->block]]};
+    uint8_t bytes[MINTLINTEL_STAMP_BYTES];
+    if (!update.bytes)
+        memset(flash->page, 0, flash->numbers.page_bytes);
+    const uint8_t *page = update.bytes ? update.bytes : flash->page;
+    mtl_stamp_into(bytes, &stamp, page, flash->numbers.page_bytes);
+    return code_of(flash->nand.program(flash->nand.chip, flash->chip_block[command->block], command->page, page, bytes));
+}
+
+/* A copy keeps its stamp with its check, so that a page that has rotted stays one. */
+static uint32_t copy(struct mintlintel_flash *flash, const struct mintlintel_command *command)
+{
+    const struct mintlintel_nand *nand = &flash->nand;
+    uint32_t from = flash->chip_block[command->from_block], to = flash->chip_block[command->block];
+    uint8_t stamp[MINTLINTEL_STAMP_BYTES];
+    if (nand->copyback)
+        return code_of(nand->copyback(nand->chip, from, command->from_page, to, command->page));
+    int answer = nand->read(nand->chip, from, command->from_page, flash->page, stamp);
+    if (answer != 0)
+        return answer == 1 || answer == 2 ? MINTLINTEL_UNREADABLE : MINTLINTEL_POWER_GONE;
+    return code_of(nand->program(nand->chip, to, command->page, flash->page, stamp));
+}
+
+static uint32_t erase(struct mintlintel_flash *flash, uint32_t block)
+{
+    uint32_t chip_block = flash->chip_block[block];
+    uint32_t code = code_of(flash->nand.erase(flash->nand.chip, chip_block));
+    flash->erases[chip_block] += code == MINTLINTEL_DONE && flash->erases[chip_block] < STAMP_MOST_ERASES;
+    return code;
+}
+
+static uint32_t perform(struct mintlintel_flash *flash, const struct mintlintel_command *command, struct update update)
+{
+    return command->kind == PROGRAM ? program(flash, command, update)
+        : command->kind == COPY ? copy(flash, command) : erase(flash, command->block);
+}
+
+/* ---- Opening ---- */
+
+/* After these codes memory and flash may differ, so that only an open helps. */
+static uint32_t stops(struct mintlintel_flash *flash, uint32_t code)
+{
+    if (code == MINTLINTEL_POWER_GONE && flash->reason && *flash->reason)
+        code = *flash->reason;
+    else if (code != MINTLINTEL_POWER_GONE && code != MINTLINTEL_FAILED)
+        return code;
+    flash->stopped = code;
+    return code;
+}
+
+uint32_t mtl_durable_fault(const struct mintlintel_durable_numbers *n)
+{
+    if (n->luns < 1 || n->luns > MOST_LUNS)
+        return MINTLINTEL_BAD_LUNS;
+    if (n->blocks < FEWEST_BLOCKS || n->blocks > MOST_BLOCKS || n->blocks % n->luns != 0)
+        return MINTLINTEL_BAD_BLOCKS;
+    if (n->pages < 1 || n->pages > MOST_PAGES)
+        return MINTLINTEL_BAD_PAGES;
+    if (n->page_bytes < 1 || n->page_bytes > MOST_PAGE_BYTES)
+        return MINTLINTEL_BAD_WORDS;
+    if (n->sectors < 1 || n->sectors > MOST_SECTORS)
+        return MINTLINTEL_BAD_SECTORS;
+    return n->sectors < (uint64_t)(n->blocks - 1) * n->pages ? MINTLINTEL_DONE : MINTLINTEL_TOO_FEW_BLOCKS;
+}
+
+static void free_flash(struct mintlintel_flash *flash)
+{
+    if (flash) {
+        free(flash->chip_block);
+        free(flash->erases);
+        free(flash->state);
+        free(flash->page);
+        free(flash->moved);
+        free(flash);
+    }
+}
+
+static struct mintlintel_flash *make_flash(const struct mintlintel_nand *nand, const struct mintlintel_durable_numbers *numbers)
+{
+    struct mintlintel_flash *flash = calloc(1, sizeof *flash);
+    if (!flash)
+        return NULL;
+    flash->nand = *nand;
+    flash->numbers = *numbers;
+    flash->chip_block = calloc(numbers->blocks, sizeof *flash->chip_block);
+    flash->erases = calloc(numbers->blocks, sizeof *flash->erases);
+    flash->state = calloc(numbers->blocks, 1);
+    flash->page = malloc(numbers->page_bytes);
+    flash->moved = malloc(numbers->page_bytes);
+    if (flash->chip_block && flash->erases && flash->state && flash->page && flash->moved)
+        return flash;
+    free_flash(flash);
+    return NULL;
+}
+
+/* How many blocks are bad. */
+static uint32_t count_bad(const struct mintlintel_flash *flash)
+{
+    uint32_t bad = 0;
+    for (uint32_t block = 0; block < flash->numbers.blocks; block++)
+        bad += flash->state[block] != GOOD;
+    return bad;
+}
+
+/* How many good blocks are in reserve for those that fail: of those that were planned each bad block has taken one, but one is left while the sectors
+ * leave room for it. A chip that marks no block has none. */
+static uint32_t count_reserve(const struct mintlintel_flash *flash)
+{
+    const struct mintlintel_durable_numbers *n = &flash->numbers;
+    uint32_t bad = count_bad(flash), needed = n->sectors / n->pages + 2 + bad, planned = n->blocks / ONE_RESERVE_IN + 1;
+    uint32_t room = n->blocks > needed ? n->blocks - needed : 0, wanted = planned > bad ? planned - bad : 1;
+    return !flash->nand.mark_bad ? 0 : wanted < room ? wanted : room;
+}
+
+/* Numbers the blocks: the good ones in the chip's order, of which the last `reserve` aren't in use, and then the bad ones. */
+static uint32_t number_blocks(struct mintlintel_flash *flash, uint32_t reserve)
+{
+    uint32_t count = 0;
+    for (int bad = 0; bad < 2; bad++) {
+        for (uint32_t block = 0; block < flash->numbers.blocks; block++)
+            if ((flash->state[block] != GOOD) == bad)
+                flash->chip_block[count++] = block;
+        flash->used = bad ? flash->used : count - reserve;
+    }
+    uint64_t room = flash->used > 1 ? (uint64_t)(flash->used - 1) * flash->numbers.pages : 0;
+    return flash->numbers.sectors < room ? MINTLINTEL_DONE : MINTLINTEL_NO_ROOM;
+}
+
+/* Numbers all blocks as in use. */
+static void number_all(struct mintlintel_flash *flash)
+{
+    for (uint32_t block = 0; block < flash->numbers.blocks; block++)
+        flash->chip_block[block] = block;
+    flash->used = flash->numbers.blocks;
+}
+
+/* Notes the stamps of a block, and none of a marked one. At an open its erases are those that its newest version tells: the copies in it tell those of
+ * other blocks. */
+static uint32_t note_block(struct mintlintel_durable *device, uint32_t block, struct opening *opening)
+{
+    struct mintlintel_flash *flash = device->flash;
+    int is_marked = flash->state[flash->chip_block[block]] == MARKED;
+    uint64_t newest = 0;
+    for (uint32_t page = 0; page < flash->numbers.pages; page++) {
+        struct stamp stamp = {0, 0, 0, 0, 0};
+        int reading = is_marked ? 2 : read_page(flash, block, page, NULL, &stamp);
+        if (reading == 3)
+            return MINTLINTEL_POWER_GONE;
+        if (reading == 0 && (stamp.kind > STAMP_TRIM || stamp.count != 1))
+            return MINTLINTEL_OTHER_DEVICE;
+        uint32_t code = mintlintel_core_note(&device->core, reading == 0, stamp.sector, stamp.number);
+        if (code != MINTLINTEL_DONE)
+            return code;
+        if (reading == 0 && opening)
+            opening->has_trace = 1;
+        if (reading == 0 && opening && stamp.number >= newest) {
+            newest = stamp.number;
+            flash->erases[flash->chip_block[block]] = stamp.erases;
+        }
+    }
+    return MINTLINTEL_DONE;
+}
+
+/* Reads some versions whole. If none of them fits its check, the flash holds pages of another size. */
+static uint32_t sample(struct mintlintel_durable *device)
+{
+    struct mintlintel_flash *flash = device->flash;
+    struct mintlintel_place at;
+    struct stamp stamp;
+    int read = 0;
+    for (uint32_t sector = 0; sector < flash->numbers.sectors && read < SAMPLES; sector++) {
+        if (mintlintel_core_page(&device->core, sector, &at) != MINTLINTEL_WRITTEN)
+            continue;
+        int reading = read_page(flash, at.block, at.page, flash->page, &stamp);
+        if (reading == 0)
+            return MINTLINTEL_DONE;
+        if (reading == 3)
+            return MINTLINTEL_POWER_GONE;
+        read++;
+    }
+    return read == 0 ? MINTLINTEL_DONE : MINTLINTEL_OTHER_DEVICE;
+}
+
+/* Adds what the core has counted to what was done before. */
+static void add_earlier(const struct mintlintel_flash *flash, struct mintlintel_totals *totals)
+{
+    totals->programs += flash->earlier.programs;
+    totals->copies += flash->earlier.copies;
+    totals->erases += flash->earlier.erases;
+}
+
+/* Mounts the core by these numbers of the blocks. */
+static uint32_t mount_core(struct mintlintel_durable *device, struct opening *opening)
+{
+    struct mintlintel_flash *flash = device->flash;
+    const struct mintlintel_durable_numbers *n = &flash->numbers;
+    struct mintlintel_totals totals;
+    if (mintlintel_core_counts(&device->core, &totals) == MINTLINTEL_DONE) {
+        add_earlier(flash, &totals);
+        flash->earlier = totals;
+    }
+    mintlintel_core_close(&device->core);
+    uint32_t code = mintlintel_core_open_over(&device->core, n->blocks, flash->used, n->pages, n->sectors);
+    for (uint32_t block = 0; code == MINTLINTEL_DONE && block < n->blocks; block++)
+        code = note_block(device, block, opening);
+    flash->stranded = 0;
+    flash->is_stuck = 0;
+    return code == MINTLINTEL_DONE ? mintlintel_core_finish(&device->core) : code;
+}
+
+/* Mounts without the bad blocks and the reserve. Where no block of the others can be freed, the reserve comes in use. */
+static uint32_t mount(struct mintlintel_durable *device, struct opening *opening)
+{
+    struct mintlintel_flash *flash = device->flash;
+    uint32_t reserve = count_reserve(flash), code = number_blocks(flash, reserve);
+    if (code == MINTLINTEL_DONE)
+        code = mount_core(device, opening);
+    if (code == MINTLINTEL_NO_BLOCK && reserve > 0 && number_blocks(flash, 0) == MINTLINTEL_DONE)
+        code = mount_core(device, opening);
+    return code == MINTLINTEL_NO_BLOCK && count_bad(flash) > 0 ? MINTLINTEL_NO_ROOM : code;
+}
+
+/* Asks the chip for its bad blocks, and mounts. */
+static uint32_t open_flash(struct mintlintel_durable *device)
+{
+    struct mintlintel_flash *flash = device->flash;
+    struct opening opening = {0};
+    for (uint32_t block = 0; block < flash->numbers.blocks; block++)
+        flash->state[block] = flash->nand.is_bad && flash->nand.is_bad(flash->nand.chip, block) ? MARKED : GOOD;
+    uint32_t code = mount(device, &opening);
+    return code == MINTLINTEL_DONE && opening.has_trace ? sample(device) : code;
+}
+
+uint32_t mtl_durable_open(struct mintlintel_durable *device, const struct mintlintel_nand *nand, const struct mintlintel_durable_numbers *numbers,
+                          const uint32_t *reason)
+{
+    if (device->flash)
+        return MINTLINTEL_ALREADY_OPEN;
+    uint32_t code = mtl_durable_fault(numbers);
+    if (code != MINTLINTEL_DONE)
+        return code;
+    device->flash = make_flash(nand, numbers);
+    if (!device->flash)
+        return MINTLINTEL_NO_MEMORY;
+    device->flash->reason = reason;
+    code = stops(device->flash, open_flash(device));
+    if (code != MINTLINTEL_DONE)
+        mintlintel_durable_close(device);
+    return code;
+}
+
+uint32_t mintlintel_durable_open(struct mintlintel_durable *device, const struct mintlintel_nand *nand, uint32_t luns, uint32_t blocks,
+                                 uint32_t pages, uint32_t page_bytes, uint32_t sectors)
+{
+    struct mintlintel_durable_numbers numbers = {luns, blocks, pages, page_bytes, sectors};
+    return mtl_durable_open(device, nand, &numbers, NULL);
+}
+
+void mintlintel_durable_close(struct mintlintel_durable *device)
+{
+    mintlintel_core_close(&device->core);
+    free_flash(device->flash);
+    device->flash = NULL;
+}
+
+/* ---- Calls ---- */
+
+/* The code that every call of this handle returns, or 0. */
+static uint32_t refusal(const struct mintlintel_durable *device)
+{
+    return device->flash ? device->flash->stopped : MINTLINTEL_CLOSED;
+}
+
+/* The same, and whether the device has the sector and the buffer is a page. */
+static uint32_t refusal_of(const struct mintlintel_durable *device, uint32_t sector, size_t bytes)
+{
+    uint32_t code = refusal(device);
+    if (code != MINTLINTEL_DONE)
+        return code;
+    if (sector >= device->flash->numbers.sectors)
+        return MINTLINTEL_NO_SECTOR;
+    return bytes == device->flash->numbers.page_bytes ? MINTLINTEL_DONE : MINTLINTEL_NOT_A_PAGE;
+}
+
+/* Whether a sector is written: 1 or 0, or 28, or why each call is refused. A page that can't be read had something. */
+static uint32_t was(struct mintlintel_durable *device, uint32_t sector)
+{
+    struct mintlintel_place at;
+    struct stamp stamp;
+    if (device->flash->stopped)
+        return device->flash->stopped;
+    if (mintlintel_core_page(&device->core, sector, &at) != MINTLINTEL_WRITTEN)
+        return MINTLINTEL_EMPTY;
+    int reading = read_page(device->flash, at.block, at.page, NULL, &stamp);
+    if (reading == 3)
+        return stops(device->flash, MINTLINTEL_POWER_GONE);
+    return reading != 0 || stamp.kind == STAMP_VALUE ? MINTLINTEL_WRITTEN : MINTLINTEL_EMPTY;
+}
+
+/* The command's block has failed: it is bad from now on, and the layer is mounted anew without it. What a failed command leaves is what a power cut
+ * leaves inside it, so the core's proof holds. If there is no room without the block, the device is only read from now on. */
+static uint32_t retire(struct mintlintel_durable *device, const struct mintlintel_command *command)
+{
+    struct mintlintel_flash *flash = device->flash;
+    uint32_t block = flash->chip_block[command->block];
+    flash->state[block] = FAILED;
+    flash->has_failed = 1;
+    uint32_t code = mount(device, NULL);
+    if (code == MINTLINTEL_NO_ROOM) {
+        number_all(flash);
+        flash->worn = MINTLINTEL_EXHAUSTED;
+        code = mount_core(device, NULL);
+    }
+    if (code != MINTLINTEL_DONE)
+        flash->stopped = code;
+    return code == MINTLINTEL_DONE ? flash->worn : code;
+}
+
+/* Gives a sector a new version. A block that fails on the way is given up, and the call goes on elsewhere. */
+static uint32_t update(struct mintlintel_durable *device, struct update update)
+{
+    for (;;) {
+        struct mintlintel_command command;
+        uint32_t code = mintlintel_core_next(&device->core, update.sector, &command);
+        if (code == MINTLINTEL_DONE)
+            code = perform(device->flash, &command, update);
+        int has_failed = code == MINTLINTEL_FAILED;
+        if (has_failed)
+            code = retire(device, &command);
+        else if (code == MINTLINTEL_DONE)
+            code = mintlintel_core_done(&device->core, update.sector, &command);
+        if (code != MINTLINTEL_DONE)
+            return stops(device->flash, code);
+        if (command.kind == PROGRAM && !has_failed)
+            return MINTLINTEL_DONE;
+    }
+}
+
+/* Marks the blocks that have failed, since nothing in them is needed any more. If none is in reserve now, another mount takes one out of use. */
+static void mark_blocks(struct mintlintel_durable *device)
+{
+    struct mintlintel_flash *flash = device->flash;
+    flash->has_failed = 0;
+    for (uint32_t block = 0; block < flash->numbers.blocks && !flash->stopped; block++) {
+        if (flash->state[block] != FAILED)
+            continue;
+        flash->state[block] = MARKED;
+        if (flash->nand.mark_bad && flash->nand.mark_bad(flash->nand.chip, block) != 0)
+            stops(flash, MINTLINTEL_POWER_GONE);
+    }
+    if (!flash->stopped && flash->used + count_bad(flash) == flash->numbers.blocks && count_reserve(flash) > 0) {
+        uint32_t code = mount(device, NULL);
+        if (code != MINTLINTEL_DONE)
+            flash->stopped = stops(flash, code);
+    }
+}
+
+/* Moves the next sector whose page is in a block that isn't in use, and after the last one marks the blocks that have failed. A sector whose page
+ * can't be read stays where it is, and no block is marked then. */
+static void move_stranded(struct mintlintel_durable *device)
+{
+    struct mintlintel_flash *flash = device->flash;
+    struct mintlintel_place at;
+    struct stamp stamp;
+    for (int looked = 0; flash->stranded < flash->numbers.sectors; looked++) {
+        if (looked == LOOKED_AT)
+            return;
+        uint32_t sector = flash->stranded++;
+        if (mintlintel_core_page(&device->core, sector, &at) != MINTLINTEL_WRITTEN || at.block < flash->used)
+            continue;
+        int reading = read_page(flash, at.block, at.page, flash->moved, &stamp);
+        if (reading == 3)
+            stops(flash, MINTLINTEL_POWER_GONE);
+        else if (reading != 0 || stamp.sector != sector)
+            flash->is_stuck = 1;
+        else
+            update(device, (struct update){sector, stamp.kind == STAMP_VALUE ? flash->moved : NULL});
+        return;
+    }
+    if (flash->has_failed && !flash->is_stuck)
+        mark_blocks(device);
+}
+
+/* Gives a sector a new version for a caller, and moves a stranded one then. */
+static uint32_t change(struct mintlintel_durable *device, struct update new)
+{
+    uint32_t code = device->flash->worn ? device->flash->worn : update(device, new);
+    if (code == MINTLINTEL_DONE)
+        move_stranded(device);
+    return code;
+}
+
+uint32_t mintlintel_durable_read(struct mintlintel_durable *device, uint32_t sector, void *out, size_t bytes)
+{
+    struct mintlintel_place at;
+    struct stamp stamp;
+    uint32_t code = refusal_of(device, sector, bytes);
+    if (code != MINTLINTEL_DONE)
+        return code;
+    if (mintlintel_core_page(&device->core, sector, &at) != MINTLINTEL_WRITTEN)
+        return MINTLINTEL_EMPTY;
+    int reading = read_page(device->flash, at.block, at.page, device->flash->page, &stamp);
+    if (reading == 3)
+        return stops(device->flash, MINTLINTEL_POWER_GONE);
+    if (reading != 0 || stamp.sector != sector)
+        return MINTLINTEL_UNREADABLE;
+    if (stamp.kind == STAMP_TRIM)
+        return MINTLINTEL_EMPTY;
+    memcpy(out, device->flash->page, bytes);
+    return MINTLINTEL_WRITTEN;
+}
+
+uint32_t mintlintel_durable_write(struct mintlintel_durable *device, uint32_t sector, const void *bytes, size_t count)
+{
+    uint32_t code = refusal_of(device, sector, count);
+    if (code != MINTLINTEL_DONE)
+        return code;
+    uint32_t had = was(device, sector);
+    if (had > MINTLINTEL_WRITTEN)
+        return had;
+    code = change(device, (struct update){sector, bytes});
+    return code == MINTLINTEL_DONE ? had : code;
+}
+
+uint32_t mintlintel_durable_write_new(struct mintlintel_durable *device, uint32_t sector, const void *bytes, size_t count)
+{
+    uint32_t code = refusal_of(device, sector, count);
+    if (code != MINTLINTEL_DONE)
+        return code;
+    uint32_t had = was(device, sector);
+    return had != MINTLINTEL_EMPTY ? had : change(device, (struct update){sector, bytes});
+}
+
+uint32_t mintlintel_durable_trim(struct mintlintel_durable *device, uint32_t first, uint32_t count)
+{
+    uint32_t any = MINTLINTEL_EMPTY, code = refusal(device);
+    if (code != MINTLINTEL_DONE)
+        return code;
+    uint32_t sectors = device->flash->numbers.sectors;
+    if (first > sectors || count > sectors - first)
+        return MINTLINTEL_NO_SECTOR;
+    for (uint32_t sector = first; sector < first + count; sector++) {
+        uint32_t had = was(device, sector);
+        if (had > MINTLINTEL_WRITTEN)
+            return had;
+        if (had == MINTLINTEL_EMPTY)
+            continue;
+        code = change(device, (struct update){sector, NULL});
+        if (code != MINTLINTEL_DONE)
+            return code;
+        any = MINTLINTEL_WRITTEN;
+    }
+    return any;
+}
+
+uint32_t mintlintel_durable_flush(struct mintlintel_durable *device)
+{
+    uint32_t code = refusal(device);
+    if (code != MINTLINTEL_DONE || !device->flash->nand.sync)
+        return code;
+    return stops(device->flash, code_of(device->flash->nand.sync(device->flash->nand.chip)));
+}
+
+uint32_t mintlintel_durable_counts(struct mintlintel_durable *device, struct mintlintel_totals *totals)
+{
+    struct mintlintel_totals done = {0, 0, 0};
+    if (!device->flash)
+        return MINTLINTEL_CLOSED;
+    mintlintel_core_counts(&device->core, &done); /* a core whose mount failed has done nothing */
+    add_earlier(device->flash, &done);
+    *totals = done;
+    return MINTLINTEL_DONE;
+}
+
+uint32_t mintlintel_durable_block(struct mintlintel_durable *device, uint32_t block, struct mintlintel_block *report)
+{
+    struct mintlintel_flash *flash = device->flash;
+    struct mintlintel_place at;
+    if (!flash)
+        return MINTLINTEL_CLOSED;
+    if (block >= flash->numbers.blocks)
+        return MINTLINTEL_NO_SUCH_BLOCK;
+    uint32_t live = 0;
+    for (uint32_t sector = 0; sector < flash->numbers.sectors; sector++)
+        live += mintlintel_core_page(&device->core, sector, &at) == MINTLINTEL_WRITTEN && flash->chip_block[at.block] == block;
+    report->erases = flash->erases[block];
+    report->live = live;
+    report->retired = flash->state[block] != GOOD;
+    return MINTLINTEL_DONE;
+}
+
+uint32_t mintlintel_durable_numbers(struct mintlintel_durable *device, struct mintlintel_durable_numbers *numbers)
+{
+    if (!device->flash)
+        return MINTLINTEL_CLOSED;
+    *numbers = device->flash->numbers;
+    return MINTLINTEL_DONE;
+}

@@ -1,0 +1,569 @@
+/* An image file: a chip in one sparse file, under a device that survives power cuts. This file is plain C, and not proved. */
+#define _GNU_SOURCE
+#define _FILE_OFFSET_BITS 64
+#include "mintlintel_image.h"
+#include "crc.h"
+#include "flash.h"
+#include <errno.h>
+#include <fcntl.h>
+#include <libgen.h>
+#include <stdio.h>
+#include <stdlib.h>
+#include <string.h>
+#include <sys/file.h>
+#include <sys/stat.h>
+#include <time.h>
+#include <unistd.h>
+
+enum { VERSION = 1, PART_BYTES = 4096, HEAD_BYTES = 2 * PART_BYTES, SPARE_BYTES = 32, CHECK_BYTES = 4, BOOT_BYTES = 36 };
+/* Where the fields of the head's first part stand, of its second part, and of a page's spare bytes. */
+enum { AT_VERSION = 8, AT_NUMBERS = 12, AT_STATE = 0, AT_MODE = 4, AT_BOOT = 8, AT_SESSION_CHECK = 44 };
+enum { AT_SPARE_CHECK = MINTLINTEL_STAMP_BYTES, AT_ASIDE = 28 };
+enum state { IN_USE = 1, CLOSED = 2 };
+
+static const uint8_t magic[8] = {0x89, 'M', 'N', 'T', 'L', '\r', '\n', 0x1a};
+
+struct mintlintel_image_file {
+    int fd, error;           /* the errno of the first failure, or 0 */
+    uint32_t reason;         /* MINTLINTEL_FILE_FAILED after one */
+    enum mintlintel_image_mode mode;
+    struct mintlintel_durable_numbers numbers;
+    uint64_t spare_bytes, block_bytes;
+    int is_mounting, is_dirty, is_erased; /* bytes were written since the last sync; a block was erased since then */
+    uint32_t cached;         /* the block whose spare bytes are in `spares`, while mounting */
+    uint8_t *spares, *zeros, *page;
+    off_t data_from, data_to; /* while mounting: no data stands between these places */
+};
+
+/* ---- Bytes of the file ---- */
+
+static void put32(uint8_t *at, uint32_t value)
+{
+    for (int i = 0; i < 4; i++)
+        at[i] = (uint8_t)(value >> 8 * i);
+}
+
+static uint32_t get32(const uint8_t *at)
+{
+    return at[0] | (uint32_t)at[1] << 8 | (uint32_t)at[2] << 16 | (uint32_t)at[3] << 24;
+}
+
+/* Notes a failure of the file: every call returns it from now on. */
+static int failed(struct mintlintel_image_file *file, int error)
+{
+    if (!file->reason) {
+        file->reason = MINTLINTEL_FILE_FAILED;
+        file->error = error;
+    }
+    return 3;
+}
+
+/* Reads or writes all of these bytes: 0, or the errno of what failed. The end of the file counts as EIO. */
+static int read_all(int fd, void *bytes, size_t count, off_t at)
+{
+    for (size_t done = 0; done < count;) {
+        ssize_t n = pread(fd, (char *)bytes + done, count - done, at + (off_t)done);
+        if (n == 0 || (n < 0 && errno != EINTR))
+            return n == 0 ? EIO : errno;
+        done += n > 0 ? (size_t)n : 0;
+    }
+    return 0;
+}
+
+static int write_all(int fd, const void *bytes, size_t count, off_t at)
+{
+    for (size_t done = 0; done < count;) {
+        ssize_t n = pwrite(fd, (const char *)bytes + done, count - done, at + (off_t)done);
+        if (n == 0 || (n < 0 && errno != EINTR))
+            return n == 0 ? ENOSPC : errno;
+        done += n > 0 ? (size_t)n : 0;
+    }
+    return 0;
+}
+
+static int get(struct mintlintel_image_file *file, void *bytes, size_t count, off_t at)
+{
+    int error = read_all(file->fd, bytes, count, at);
+    return error ? failed(file, error) : 0;
+}
+
+static int set(struct mintlintel_image_file *file, const void *bytes, size_t count, off_t at)
+{
+    int error = write_all(file->fd, bytes, count, at);
+    file->is_dirty = 1;
+    return error ? failed(file, error) : 0;
+}
+
+static int sync_file(struct mintlintel_image_file *file)
+{
+    if (file->is_dirty && fdatasync(file->fd) != 0)
+        return failed(file, errno);
+    file->is_dirty = file->is_erased = 0;
+    return 0;
+}
+
+static off_t spare_at(const struct mintlintel_image_file *file, uint32_t block, uint32_t page)
+{
+    return (off_t)(HEAD_BYTES + block * file->block_bytes + (uint64_t)page * SPARE_BYTES);
+}
+
+static off_t page_at(const struct mintlintel_image_file *file, uint32_t block, uint32_t page)
+{
+    return (off_t)(HEAD_BYTES + block * file->block_bytes + file->spare_bytes + (uint64_t)page * file->numbers.page_bytes);
+}
+
+static off_t length_of(const struct mintlintel_image_file *file)
+{
+    return (off_t)(HEAD_BYTES + file->numbers.blocks * file->block_bytes);
+}
+
+/* ---- The chip ---- */
+
+static int is_zero(const uint8_t *bytes, size_t count)
+{
+    return bytes[0] == 0 && memcmp(bytes, bytes + 1, count - 1) == 0;
+}
+
+/* What a page's spare bytes say: 0 a version, 1 erased, 2 neither. */
+static int reading_of(const uint8_t *spare)
+{
+    if (is_zero(spare, SPARE_BYTES))
+        return 1;
+    return get32(spare + AT_SPARE_CHECK) == mtl_crc(0, spare, AT_SPARE_CHECK) && get32(spare + AT_ASIDE) == 0 ? 0 : 2;
+}
+
+/* Whether this place of the file is in a hole, so that all up to the next data reads as zeros. */
+static int is_hole(struct mintlintel_image_file *file, off_t from, off_t to)
+{
+    if (from >= file->data_from && to <= file->data_to)
+        return 1;
+    off_t data = lseek(file->fd, from, SEEK_DATA);
+    file->data_from = from;
+    file->data_to = data >= 0 ? data : errno == ENXIO ? length_of(file) : from;
+    return to <= file->data_to;
+}
+
+/* The spare bytes of all pages of a block, in `spares`. */
+static int load_spares(struct mintlintel_image_file *file, uint32_t block)
+{
+    size_t count = (size_t)file->numbers.pages * SPARE_BYTES;
+    off_t at = spare_at(file, block, 0);
+    if (file->cached == block)
+        return 0;
+    file->cached = UINT32_MAX;
+    if (is_hole(file, at, at + (off_t)count))
+        memset(file->spares, 0, count);
+    else if (get(file, file->spares, count, at) != 0)
+        return 3;
+    file->cached = block;
+    return 0;
+}
+
+static int image_read(void *chip, uint32_t block, uint32_t page, void *main, void *stamp)
+{
+    struct mintlintel_image_file *file = chip;
+    uint8_t one[SPARE_BYTES], *spare = one;
+    if (file->is_mounting) {
+        if (load_spares(file, block) != 0)
+            return 3;
+        spare = file->spares + (size_t)page * SPARE_BYTES;
+    } else if (get(file, one, SPARE_BYTES, spare_at(file, block, page)) != 0)
+        return 3;
+    int reading = reading_of(spare);
+    if (reading == 0 && main && get(file, main, file->numbers.page_bytes, page_at(file, block, page)) != 0)
+        return 3;
+    if (reading == 0)
+        memcpy(stamp, spare, MINTLINTEL_STAMP_BYTES);
+    return reading;
+}
+
+/* The main bytes come first, so that a stamp never stands beside less than its page when the process is killed. */
+static int image_program(void *chip, uint32_t block, uint32_t page, const void *main, const void *stamp)
+{
+    struct mintlintel_image_file *file = chip;
+    uint8_t spare[SPARE_BYTES] = {0};
+    if (file->mode == MINTLINTEL_FLUSH && file->is_erased && sync_file(file) != 0)
+        return 3;
+    memcpy(spare, stamp, MINTLINTEL_STAMP_BYTES);
+    put32(spare + AT_SPARE_CHECK, mtl_crc(0, spare, AT_SPARE_CHECK));
+    if (set(file, main, file->numbers.page_bytes, page_at(file, block, page)) != 0 || set(file, spare, SPARE_BYTES, spare_at(file, block, page)) != 0)
+        return 3;
+    return file->mode == MINTLINTEL_ALWAYS ? sync_file(file) : 0;
+}
+
+static int image_copyback(void *chip, uint32_t from_block, uint32_t from_page, uint32_t block, uint32_t page)
+{
+    struct mintlintel_image_file *file = chip;
+    uint8_t stamp[MINTLINTEL_STAMP_BYTES];
+    int reading = image_read(chip, from_block, from_page, file->page, stamp);
+    return reading == 0 ? image_program(chip, block, page, file->page, stamp) : failed(file, EIO);
+}
+
+static int image_erase(void *chip, uint32_t block)
+{
+    struct mintlintel_image_file *file = chip;
+    if (file->mode == MINTLINTEL_FLUSH && sync_file(file) != 0)
+        return 3;
+    if (set(file, file->zeros, (size_t)file->numbers.pages * SPARE_BYTES, spare_at(file, block, 0)) != 0)
+        return 3;
+    file->is_erased = 1;
+    return file->mode == MINTLINTEL_ALWAYS ? sync_file(file) : 0;
+}
+
+static int image_sync(void *chip)
+{
+    struct mintlintel_image_file *file = chip;
+    return file->mode == MINTLINTEL_FLUSH ? sync_file(file) : 0;
+}
+
+/* ---- The head ---- */
+
+static void head_into(uint8_t *part, const struct mintlintel_durable_numbers *n)
+{
+    const uint32_t numbers[5] = {n->luns, n->blocks, n->pages, n->page_bytes, n->sectors};
+    memset(part, 0, PART_BYTES);
+    memcpy(part, magic, sizeof magic);
+    put32(part + AT_VERSION, VERSION);
+    for (int i = 0; i < 5; i++)
+        put32(part + AT_NUMBERS + 4 * i, numbers[i]);
+    put32(part + PART_BYTES - CHECK_BYTES, mtl_crc(0, part, PART_BYTES - CHECK_BYTES));
+}
+
+/* What a head says: 0, or the code of what is wrong with it. */
+static uint32_t head_from(const uint8_t *part, struct mintlintel_image_head *head)
+{
+    memset(head, 0, sizeof *head);
+    if (memcmp(part, magic, sizeof magic) != 0)
+        return MINTLINTEL_NOT_AN_IMAGE;
+    head->version = get32(part + AT_VERSION);
+    if (head->version != VERSION)
+        return MINTLINTEL_OTHER_VERSION;
+    if (get32(part + PART_BYTES - CHECK_BYTES) != mtl_crc(0, part, PART_BYTES - CHECK_BYTES))
+        return MINTLINTEL_NOT_AN_IMAGE;
+    uint32_t *numbers[5] = {&head->numbers.luns, &head->numbers.blocks, &head->numbers.pages, &head->numbers.page_bytes, &head->numbers.sectors};
+    for (int i = 0; i < 5; i++)
+        *numbers[i] = get32(part + AT_NUMBERS + 4 * i);
+    return mtl_durable_fault(&head->numbers) == MINTLINTEL_DONE ? MINTLINTEL_DONE : MINTLINTEL_NOT_AN_IMAGE;
+}
+
+/* Reads the head of a file: 0; 42, 43 or 46. A file that is too short for one is no image. */
+static uint32_t read_head(int fd, struct mintlintel_image_head *head)
+{
+    uint8_t part[PART_BYTES];
+    struct stat about;
+    if (fstat(fd, &about) != 0)
+        return MINTLINTEL_FILE_FAILED;
+    if (about.st_size < HEAD_BYTES)
+        return MINTLINTEL_NOT_AN_IMAGE;
+    errno = read_all(fd, part, sizeof part, 0);
+    return errno ? MINTLINTEL_FILE_FAILED : head_from(part, head);
+}
+
+uint32_t mintlintel_image_look(const char *path, struct mintlintel_image_head *head)
+{
+    memset(head, 0, sizeof *head);
+    int fd = open(path, O_RDONLY | O_CLOEXEC);
+    if (fd < 0)
+        return MINTLINTEL_NO_FILE;
+    uint32_t code = read_head(fd, head);
+    close(fd);
+    return code == MINTLINTEL_OTHER_VERSION ? MINTLINTEL_DONE : code;
+}
+
+/* The name of this run of the machine; without one all zeros, which no session is in use by. */
+static void read_boot(uint8_t *boot)
+{
+    memset(boot, 0, BOOT_BYTES);
+    int fd = open("/proc/sys/kernel/random/boot_id", O_RDONLY | O_CLOEXEC);
+    if (fd >= 0) {
+        if (read_all(fd, boot, BOOT_BYTES, 0) != 0)
+            memset(boot, 0, BOOT_BYTES);
+        close(fd);
+    }
+}
+
+/* Says on the disk who uses the image. */
+static int write_session(struct mintlintel_image_file *file, enum state state)
+{
+    uint8_t session[AT_SESSION_CHECK + CHECK_BYTES];
+    put32(session + AT_STATE, state);
+    put32(session + AT_MODE, file->mode);
+    read_boot(session + AT_BOOT);
+    put32(session + AT_SESSION_CHECK, mtl_crc(0, session, AT_SESSION_CHECK));
+    return set(file, session, sizeof session, PART_BYTES) != 0 || sync_file(file) != 0;
+}
+
+/* Whether every page has to be read: the last session may have lost power, or its record is damaged. `mode` is the session's. */
+static int needs_checks(struct mintlintel_image_file *file, uint32_t *mode)
+{
+    uint8_t session[AT_SESSION_CHECK + CHECK_BYTES], boot[BOOT_BYTES];
+    *mode = MINTLINTEL_FLUSH;
+    if (get(file, session, sizeof session, PART_BYTES) != 0 || get32(session + AT_SESSION_CHECK) != mtl_crc(0, session, AT_SESSION_CHECK))
+        return 1;
+    *mode = get32(session + AT_MODE);
+    read_boot(boot);
+    return get32(session + AT_STATE) != CLOSED && (boot[0] == 0 || memcmp(boot, session + AT_BOOT, BOOT_BYTES) != 0);
+}
+
+/* ---- After a power cut ---- */
+
+/* Whether the page has a version whose check fits: 1 or 0, or 3. */
+static int is_whole(struct mintlintel_image_file *file, uint32_t block, uint32_t page)
+{
+    const uint8_t *spare = file->spares + (size_t)page * SPARE_BYTES;
+    if (reading_of(spare) != 0)
+        return 0;
+    if (get(file, file->page, file->numbers.page_bytes, page_at(file, block, page)) != 0)
+        return 3;
+    return mintlintel_stamp_fits(spare, file->page, file->numbers.page_bytes);
+}
+
+/* Sets a version aside, so that it is none from now on. Its bytes stay. */
+static int set_aside(struct mintlintel_image_file *file, uint32_t block, uint32_t page)
+{
+    uint8_t aside[4] = {1, 0, 0, 0};
+    return set(file, aside, sizeof aside, spare_at(file, block, page) + AT_ASIDE);
+}
+
+/* Reads each page, and sets aside those that were cut. In mode `flush` writes may have reached the disk in any order, so what stands behind such a
+ * page of a block is set aside too: then the rest is a beginning of the history. */
+static int check_pages(struct mintlintel_image_file *file, uint32_t mode)
+{
+    for (uint32_t block = 0; block < file->numbers.blocks; block++) {
+        int is_behind = 0;
+        if (load_spares(file, block) != 0)
+            return 3;
+        for (uint32_t page = 0; page < file->numbers.pages; page++) {
+            int whole = is_whole(file, block, page);
+            if (whole == 3)
+                return 3;
+            is_behind |= mode != MINTLINTEL_ALWAYS && !whole;
+            if ((is_behind || !whole) && reading_of(file->spares + (size_t)page * SPARE_BYTES) == 0 && set_aside(file, block, page) != 0)
+                return 3;
+        }
+    }
+    file->cached = UINT32_MAX;
+    return sync_file(file);
+}
+
+/* ---- Opening and closing ---- */
+
+static void free_file(struct mintlintel_image_file *file)
+{
+    if (file) {
+        if (file->fd >= 0)
+            close(file->fd);
+        free(file->spares);
+        free(file->zeros);
+        free(file->page);
+        free(file);
+    }
+}
+
+static int are_zero(const struct mintlintel_durable_numbers *n)
+{
+    return n->luns == 0 && n->blocks == 0 && n->pages == 0 && n->page_bytes == 0 && n->sectors == 0;
+}
+
+static uint64_t in_whole_parts(uint64_t bytes)
+{
+    return (bytes + PART_BYTES - 1) / PART_BYTES * PART_BYTES;
+}
+
+static void lay_out(struct mintlintel_image_file *file, const struct mintlintel_durable_numbers *numbers)
+{
+    file->numbers = *numbers;
+    file->spare_bytes = in_whole_parts((uint64_t)numbers->pages * SPARE_BYTES);
+    file->block_bytes = file->spare_bytes + in_whole_parts((uint64_t)numbers->pages * numbers->page_bytes);
+    file->cached = UINT32_MAX;
+}
+
+static uint32_t lock_file(struct mintlintel_image_file *file)
+{
+    if (file->fd < 0)
+        return MINTLINTEL_NO_FILE;
+    if (flock(file->fd, LOCK_EX | LOCK_NB) != 0)
+        return errno == EWOULDBLOCK ? MINTLINTEL_IN_USE : MINTLINTEL_NO_FILE;
+    return MINTLINTEL_DONE;
+}
+
+/* Makes the directory's entry of a file durable. */
+static int sync_name(const char *path)
+{
+    char *copy = strdup(path);
+    int fd = copy ? open(dirname(copy), O_RDONLY | O_DIRECTORY | O_CLOEXEC) : -1;
+    int code = fd >= 0 ? fsync(fd) : -1;
+    if (fd >= 0)
+        close(fd);
+    free(copy);
+    return code;
+}
+
+/* Makes an image under another name, and gives it its own once it is whole. So a file with this name is an image, whenever the process ends. */
+static uint32_t make_image(struct mintlintel_image_file *file, const char *path, const char *other)
+{
+    uint8_t part[PART_BYTES];
+    file->fd = open(other, O_RDWR | O_CREAT | O_EXCL | O_CLOEXEC, 0666);
+    uint32_t code = lock_file(file);
+    if (code != MINTLINTEL_DONE)
+        return code;
+    head_into(part, &file->numbers);
+    if (ftruncate(file->fd, length_of(file)) != 0 || set(file, part, sizeof part, 0) != 0 || write_session(file, IN_USE) != 0 || fsync(file->fd) != 0)
+        return failed(file, errno), MINTLINTEL_FILE_FAILED;
+    if (link(other, path) != 0)
+        return errno == EEXIST ? MINTLINTEL_IN_USE : MINTLINTEL_NO_FILE;
+    return sync_name(path) == 0 ? MINTLINTEL_DONE : MINTLINTEL_FILE_FAILED;
+}
+
+/* Opens and locks the file, and makes it if there is none and the numbers say of what kind. */
+static uint32_t open_file(struct mintlintel_image_file *file, const char *path, const struct mintlintel_durable_numbers *numbers)
+{
+    file->fd = open(path, O_RDWR | O_CLOEXEC);
+    if (file->fd >= 0 || errno != ENOENT || are_zero(numbers))
+        return lock_file(file);
+    struct timespec now;
+    size_t room = strlen(path) + 64;
+    char *other = malloc(room);
+    if (!other)
+        return MINTLINTEL_NO_MEMORY;
+    clock_gettime(CLOCK_REALTIME, &now);
+    snprintf(other, room, "%s.new-%ld-%ld", path, (long)getpid(), (long)now.tv_nsec);
+    lay_out(file, numbers);
+    uint32_t code = make_image(file, path, other);
+    unlink(other);
+    free(other);
+    return code;
+}
+
+static uint32_t take_image(struct mintlintel_image_file *file, const struct mintlintel_durable_numbers *numbers)
+{
+    struct mintlintel_image_head head;
+    struct stat about;
+    uint32_t mode, code = read_head(file->fd, &head);
+    if (code == MINTLINTEL_FILE_FAILED)
+        failed(file, errno);
+    if (code != MINTLINTEL_DONE)
+        return code;
+    if (!are_zero(numbers) && memcmp(numbers, &head.numbers, sizeof *numbers) != 0)
+        return MINTLINTEL_OTHER_NUMBERS;
+    lay_out(file, &head.numbers);
+    if (fstat(file->fd, &about) != 0 || about.st_size < length_of(file))
+        return MINTLINTEL_CUT_SHORT;
+    file->spares = malloc((size_t)head.numbers.pages * SPARE_BYTES);
+    file->zeros = calloc(head.numbers.pages, SPARE_BYTES);
+    file->page = malloc(head.numbers.page_bytes);
+    if (!file->spares || !file->zeros || !file->page)
+        return MINTLINTEL_NO_MEMORY;
+    if (needs_checks(file, &mode) && check_pages(file, mode) != 0)
+        return MINTLINTEL_FILE_FAILED;
+    return write_session(file, IN_USE) == 0 ? MINTLINTEL_DONE : MINTLINTEL_FILE_FAILED;
+}
+
+static uint32_t open_image(struct mintlintel_image_file *file, const char *path, const struct mintlintel_durable_numbers *numbers)
+{
+    uint32_t code = are_zero(numbers) ? MINTLINTEL_DONE : mtl_durable_fault(numbers);
+    if (code == MINTLINTEL_DONE)
+        code = open_file(file, path, numbers);
+    return code == MINTLINTEL_DONE ? take_image(file, numbers) : code;
+}
+
+uint32_t mintlintel_image_open(struct mintlintel_image *image, const char *path, enum mintlintel_image_mode mode, uint32_t luns, uint32_t blocks,
+                               uint32_t pages, uint32_t page_bytes, uint32_t sectors)
+{
+    struct mintlintel_durable_numbers numbers = {luns, blocks, pages, page_bytes, sectors};
+    struct mintlintel_image_file *file = image->file ? NULL : calloc(1, sizeof *file);
+    if (!file)
+        return image->file ? MINTLINTEL_ALREADY_OPEN : MINTLINTEL_NO_MEMORY;
+    struct mintlintel_nand nand = {file, image_read, image_program, image_copyback, image_erase, NULL, NULL, image_sync};
+    file->fd = -1;
+    file->mode = mode;
+    uint32_t code = open_image(file, path, &numbers);
+    file->is_mounting = 1;
+    if (code == MINTLINTEL_DONE)
+        code = mtl_durable_open(&image->device, &nand, &file->numbers, &file->reason);
+    file->is_mounting = 0;
+    if (code == MINTLINTEL_DONE) {
+        image->file = file;
+        return code;
+    }
+    int error = file->error ? file->error : errno;
+    free_file(file);
+    errno = error;
+    return code;
+}
+
+uint32_t mintlintel_image_close(struct mintlintel_image *image)
+{
+    struct mintlintel_image_file *file = image->file;
+    uint32_t code = MINTLINTEL_DONE;
+    mintlintel_durable_close(&image->device);
+    image->file = NULL;
+    /* In mode `never` nothing says that the pages are on the disk, so the session stays in use until its machine ends. */
+    if (file && !file->reason && file->mode != MINTLINTEL_NEVER && (sync_file(file) != 0 || write_session(file, CLOSED) != 0)) {
+        code = MINTLINTEL_FILE_FAILED;
+        errno = file->error;
+    }
+    free_file(file);
+    return code;
+}
+
+int mintlintel_image_errno(const struct mintlintel_image *image)
+{
+    return image->file ? image->file->error : 0;
+}
+
+/* ---- Copies ---- */
+
+/* Copies one run of data. */
+static int copy_run(struct mintlintel_image_file *file, int to, off_t at, off_t end)
+{
+    static const size_t MOST = 1 << 20;
+    uint8_t *bytes = malloc(MOST);
+    int error = bytes ? 0 : ENOMEM;
+    while (error == 0 && at < end) {
+        size_t count = (size_t)(end - at) < MOST ? (size_t)(end - at) : MOST;
+        error = read_all(file->fd, bytes, count, at);
+        if (error == 0)
+            error = write_all(to, bytes, count, at);
+        at += (off_t)count;
+    }
+    free(bytes);
+    return error;
+}
+
+/* Copies what is data, and leaves the holes: 0, or an errno. */
+static int copy_data(struct mintlintel_image_file *file, int to)
+{
+    off_t at = 0, length = length_of(file);
+    int error = ftruncate(to, length) == 0 ? 0 : errno;
+    while (error == 0 && at < length) {
+        off_t data = lseek(file->fd, at, SEEK_DATA);
+        off_t hole = data < 0 ? -1 : lseek(file->fd, data, SEEK_HOLE);
+        if (data < 0)
+            return errno == ENXIO ? 0 : errno;
+        if (hole < 0)
+            return errno;
+        hole = hole < length ? hole : length;
+        error = data < hole ? copy_run(file, to, data, hole) : 0;
+        at = hole;
+    }
+    return error;
+}
+
+uint32_t mintlintel_image_copy(struct mintlintel_image *image, const char *path)
+{
+    if (!image->file)
+        return MINTLINTEL_CLOSED;
+    int to = open(path, O_RDWR | O_CREAT | O_EXCL | O_CLOEXEC, 0666);
+    if (to < 0)
+        return MINTLINTEL_NO_FILE;
+    int error = copy_data(image->file, to);
+    if (error == 0 && image->file->mode != MINTLINTEL_NEVER)
+        error = fsync(to) == 0 ? 0 : errno;
+    close(to);
+    if (error == 0)
+        return MINTLINTEL_DONE;
+    unlink(path);
+    errno = error;
+    return MINTLINTEL_FILE_FAILED;
+}

@@ -1,0 +1,21 @@
+/* The stamp of a page: docs/FORMATS.md says where each field stands. Plain C, and not proved. */
+#ifndef STAMP_H
+#define STAMP_H
+
+#include <stddef.h>
+#include <stdint.h>
+
+enum { STAMP_VALUE = 1, STAMP_TRIM = 2 };
+#define STAMP_MOST_ERASES 0xffffffu
+#define STAMP_MOST_NUMBER ((uint64_t)1 << 56)
+
+/* The number of a version is below 2^56. */
+struct stamp { uint32_t kind; uint64_t number; uint32_t sector, count, erases; };
+
+/* The fields of a stamp's bytes. */
+struct stamp mtl_stamp_from(const uint8_t *bytes);
+
+/* The bytes of a stamp for this page. */
+void mtl_stamp_into(uint8_t *bytes, const struct stamp *stamp, const uint8_t *page, size_t page_bytes);
+
+#endif

@@ -1,0 +1,387 @@
+/* A device on a chip whose power is cut at random, and that fails, against an array that knows what was acknowledged. */
+#include "cut_chip.h"
+
+enum { MOST_SECTORS = (CHIP_BLOCKS - 1) * CHIP_PAGES - 1, EMPTY = 0 };
+
+/* What a sector holds: a value, or one of two if a call for it was cut. The bytes of a page are made of its value. */
+struct shadow { uint32_t value, other; int is_open; };
+
+static struct cut_chip chip;
+static struct mintlintel_nand nand;
+static struct mintlintel_durable device;
+static struct shadow shadows[MOST_SECTORS];
+static uint32_t sectors, last_value;
+static long reserve; /* how many failures the device survives at least */
+static uint64_t state = 88172645463325252u;
+static long calls, opens, ends;
+
+static void fill(uint8_t *page, uint32_t value)
+{
+    for (int i = 0; i < CHIP_PAGE_BYTES; i++)
+        page[i] = (uint8_t)(value >> 8 * (i % 4)) ^ (uint8_t)i;
+}
+
+/* The sector holds what it may hold. */
+static void check_sector(uint32_t sector)
+{
+    uint8_t out[CHIP_PAGE_BYTES], wanted[CHIP_PAGE_BYTES], untouched[CHIP_PAGE_BYTES];
+    struct shadow *shadow = &shadows[sector];
+    memset(untouched, 0x5a, sizeof untouched);
+    memcpy(out, untouched, sizeof out);
+    uint32_t code = mintlintel_durable_read(&device, sector, out, sizeof out);
+    calls++;
+    if (code == MINTLINTEL_POWER_GONE)
+        return;
+    CHECK(code <= MINTLINTEL_WRITTEN);
+    for (int try = 0; try <= shadow->is_open; try++) {
+        uint32_t value = try == 0 ? shadow->value : shadow->other;
+        fill(wanted, value);
+        if (memcmp(out, value == EMPTY ? untouched : wanted, sizeof out) == 0 && (code == MINTLINTEL_EMPTY) == (value == EMPTY)) {
+            *shadow = (struct shadow){value, 0, 0};
+            return;
+        }
+    }
+    CHECK(!"a sector holds neither what was acknowledged nor what was begun");
+}
+
+/* Opens the device, again and again while the power goes, and 0 once bad blocks have left no room. */
+static int open_device(void)
+{
+    for (;;) {
+        chip.is_off = 0;
+        memset(chip.failed, 0, sizeof chip.failed);
+        mintlintel_durable_close(&device);
+        uint32_t code = mintlintel_durable_open(&device, &nand, 1, CHIP_BLOCKS, CHIP_PAGES, CHIP_PAGE_BYTES, sectors);
+        opens++;
+        if (code == MINTLINTEL_NO_ROOM) {
+            CHECK(chip.fails > reserve);
+            return 0;
+        }
+        if (code == MINTLINTEL_POWER_GONE)
+            continue;
+        CHECK(code == MINTLINTEL_DONE);
+        for (uint32_t sector = 0; sector < sectors; sector++)
+            check_sector(sector);
+        if (!chip.is_off)
+            return 1;
+    }
+}
+
+/* What a call that was cut, or that found no room, may have left of these sectors: what they held, or this value. */
+static void begun(uint32_t first, uint32_t count, uint32_t value)
+{
+    for (uint32_t sector = first; sector < first + count; sector++)
+        if (!shadows[sector].is_open)
+            shadows[sector] = (struct shadow){shadows[sector].value, value, 1};
+}
+
+static int was_cut(uint32_t code)
+{
+    CHECK(code != MINTLINTEL_POWER_GONE || chip.is_off);
+    CHECK(code != MINTLINTEL_EXHAUSTED || chip.fails > reserve);
+    return code == MINTLINTEL_POWER_GONE || code == MINTLINTEL_EXHAUSTED;
+}
+
+static uint32_t write_one(uint32_t sector, int only_new)
+{
+    uint8_t page[CHIP_PAGE_BYTES];
+    uint32_t value = ++last_value, had = shadows[sector].value != EMPTY;
+    fill(page, value);
+    uint32_t code = only_new ? mintlintel_durable_write_new(&device, sector, page, sizeof page)
+        : mintlintel_durable_write(&device, sector, page, sizeof page);
+    if (was_cut(code))
+        begun(sector, 1, value);
+    else {
+        CHECK(code == had);
+        if (!only_new || !had)
+            shadows[sector].value = value;
+    }
+    return code;
+}
+
+static uint32_t trim_some(uint32_t first, uint32_t count)
+{
+    uint32_t any = 0;
+    uint32_t code = mintlintel_durable_trim(&device, first, count);
+    if (was_cut(code))
+        begun(first, count, EMPTY);
+    else {
+        for (uint32_t sector = first; sector < first + count; sector++) {
+            any |= shadows[sector].value != EMPTY;
+            shadows[sector].value = EMPTY;
+        }
+        CHECK(code == any);
+    }
+    return code;
+}
+
+/* Calls with a wrong sector, a wrong length or a second open change nothing. */
+static uint32_t refused(void)
+{
+    uint8_t page[CHIP_PAGE_BYTES + 1] = {0};
+    struct mintlintel_block report;
+    CHECK(mintlintel_durable_read(&device, sectors, page, CHIP_PAGE_BYTES) == MINTLINTEL_NO_SECTOR);
+    CHECK(mintlintel_durable_write(&device, UINT32_MAX, page, CHIP_PAGE_BYTES) == MINTLINTEL_NO_SECTOR);
+    CHECK(mintlintel_durable_write_new(&device, 0, page, CHIP_PAGE_BYTES + 1) == MINTLINTEL_NOT_A_PAGE);
+    CHECK(mintlintel_durable_trim(&device, sectors, 1) == MINTLINTEL_NO_SECTOR);
+    CHECK(mintlintel_durable_trim(&device, 1, sectors) == MINTLINTEL_NO_SECTOR);
+    CHECK(mintlintel_durable_trim(&device, sectors, 0) == MINTLINTEL_EMPTY);
+    CHECK(mintlintel_durable_block(&device, CHIP_BLOCKS, &report) == MINTLINTEL_NO_SUCH_BLOCK);
+    CHECK(mintlintel_durable_open(&device, &nand, 1, CHIP_BLOCKS, CHIP_PAGES, CHIP_PAGE_BYTES, sectors) == MINTLINTEL_ALREADY_OPEN);
+    return MINTLINTEL_DONE;
+}
+
+/* The reports agree with the device's numbers. */
+static uint32_t reports(void)
+{
+    struct mintlintel_durable_numbers numbers;
+    struct mintlintel_totals totals;
+    struct mintlintel_block block;
+    uint32_t live = 0;
+    CHECK(mintlintel_durable_numbers(&device, &numbers) == MINTLINTEL_DONE);
+    CHECK(numbers.blocks == CHIP_BLOCKS && numbers.pages == CHIP_PAGES && numbers.page_bytes == CHIP_PAGE_BYTES && numbers.sectors == sectors);
+    CHECK(mintlintel_durable_counts(&device, &totals) == MINTLINTEL_DONE);
+    for (uint32_t b = 0; b < CHIP_BLOCKS; b++) {
+        CHECK(mintlintel_durable_block(&device, b, &block) == MINTLINTEL_DONE);
+        CHECK(block.live <= CHIP_PAGES && block.retired >= chip.bad[b]);
+        live += block.live;
+    }
+    CHECK(live <= sectors);
+    return MINTLINTEL_DONE;
+}
+
+static uint32_t any_call(void)
+{
+    uint32_t sector = drawn(&state) % sectors, kind = drawn(&state) % 32;
+    calls++;
+    if (kind < 20)
+        return write_one(sector, 0);
+    if (kind < 23)
+        return write_one(sector, 1);
+    if (kind < 26)
+        return trim_some(sector, 1 + drawn(&state) % (sectors - sector));
+    if (kind < 29) {
+        check_sector(sector);
+        return chip.is_off ? MINTLINTEL_POWER_GONE : MINTLINTEL_DONE;
+    }
+    return kind == 29 ? mintlintel_durable_flush(&device) : kind == 30 ? refused() : reports();
+}
+
+/* A closed handle answers that it is closed. */
+static void check_closed(void)
+{
+    uint8_t page[CHIP_PAGE_BYTES];
+    struct mintlintel_totals totals;
+    struct mintlintel_block block;
+    struct mintlintel_durable_numbers numbers;
+    mintlintel_durable_close(&device);
+    CHECK(mintlintel_durable_read(&device, 0, page, sizeof page) == MINTLINTEL_CLOSED);
+    CHECK(mintlintel_durable_write(&device, 0, page, sizeof page) == MINTLINTEL_CLOSED);
+    CHECK(mintlintel_durable_write_new(&device, 0, page, sizeof page) == MINTLINTEL_CLOSED);
+    CHECK(mintlintel_durable_trim(&device, 0, 1) == MINTLINTEL_CLOSED);
+    CHECK(mintlintel_durable_flush(&device) == MINTLINTEL_CLOSED);
+    CHECK(mintlintel_durable_counts(&device, &totals) == MINTLINTEL_CLOSED);
+    CHECK(mintlintel_durable_block(&device, 0, &block) == MINTLINTEL_CLOSED);
+    CHECK(mintlintel_durable_numbers(&device, &numbers) == MINTLINTEL_CLOSED);
+}
+
+/* A new chip: some blocks bad, some functions missing, and its own rates of cuts and fails. */
+static void begin(void)
+{
+    static const uint32_t cuts[4] = {0, 4, 20, 100}, fails[4] = {0, 0, 50, 300};
+    memset(&chip, 0, sizeof chip);
+    memset(shadows, 0, sizeof shadows);
+    chip.state = state | 1;
+    uint32_t bad = drawn(&state) % 3;
+    for (uint32_t i = 0; i < bad; i++)
+        chip.bad[2 * i + 1] = 1;
+    sectors = 1 + drawn(&state) % ((CHIP_BLOCKS - bad - 1) * CHIP_PAGES - 1);
+    chip.one_cut_in = cuts[drawn(&state) % 4];
+    chip.one_fail_in = fails[drawn(&state) % 4];
+    reserve = sectors < (CHIP_BLOCKS - bad - 2) * CHIP_PAGES && bad == 0;
+    nand = (struct mintlintel_nand){&chip, chip_read, chip_program, chip_copyback, chip_erase, chip_is_bad, chip_mark_bad, chip_sync};
+    uint32_t left_out = drawn(&state);
+    if (left_out & 1)
+        nand.copyback = NULL;
+    if (left_out & 2)
+        nand.sync = NULL;
+    if (left_out / 4 % 4 == 3) {
+        nand.mark_bad = NULL;
+        reserve = 0;
+    }
+}
+
+/* A device that bad blocks have worn out is read still, and not written. */
+static void check_worn(void)
+{
+    uint8_t page[CHIP_PAGE_BYTES] = {0};
+    CHECK(mintlintel_durable_write(&device, 0, page, sizeof page) == MINTLINTEL_EXHAUSTED || chip.is_off);
+    for (uint32_t sector = 0; sector < sectors; sector++)
+        check_sector(sector);
+}
+
+/* No page that is needed is in a bad block, and all commands that were done are counted, before and after a block has failed. */
+static void check_blocks(void)
+{
+    struct mintlintel_block block;
+    struct mintlintel_totals totals;
+    uint64_t erases = 0;
+    for (uint32_t b = 0; b < CHIP_BLOCKS; b++) {
+        CHECK(mintlintel_durable_block(&device, b, &block) == MINTLINTEL_DONE && block.erases == chip.erases[b]);
+        CHECK(block.retired == chip.bad[b] && (!block.retired || block.live == 0));
+        erases += block.erases;
+    }
+    CHECK(mintlintel_durable_counts(&device, &totals) == MINTLINTEL_DONE);
+    CHECK(totals.programs + totals.copies == chip.programs && totals.erases == erases);
+}
+
+/* A new chip without faults, whose sectors leave room for one block in reserve. */
+static void begin_sound(void)
+{
+    begin();
+    memset(chip.bad, 0, sizeof chip.bad);
+    sectors = (CHIP_BLOCKS - 2) * CHIP_PAGES - 1;
+    chip.one_cut_in = chip.one_fail_in = 0;
+    reserve = 1;
+    nand.mark_bad = chip_mark_bad;
+}
+
+static void write_some(int count)
+{
+    for (int i = 0; i < count; i++)
+        CHECK(write_one(drawn(&state) % sectors, 0) <= MINTLINTEL_WRITTEN);
+}
+
+/* A chip whose blocks were all in use gets a reserve, again and again. */
+static void add_reserve(void)
+{
+    begin_sound();
+    for (int round = 0; round < 200; round++) {
+        nand.mark_bad = round % 2 ? chip_mark_bad : NULL;
+        CHECK(open_device());
+        write_some(1 + drawn(&state) % 60);
+    }
+    mintlintel_durable_close(&device);
+}
+
+/* With room for five blocks more than the sectors need, five blocks fail one after another, and no call is refused: another block is in reserve soon
+ * after each failure. */
+static void fail_often(void)
+{
+    for (int round = 0; round < 300; round++) {
+        begin_sound();
+        sectors = 2 * CHIP_PAGES - 1;
+        CHECK(open_device());
+        for (long failures = 1; failures <= CHIP_BLOCKS - 3; failures++) {
+            write_some(60);
+            chip.fail_at = chip.commands + 1 + drawn(&state) % 8;
+            while (chip.fails < failures)
+                write_some(1);
+        }
+        write_some(60);
+        check_blocks();
+        mintlintel_durable_close(&device);
+    }
+}
+
+/* A block is not marked while it has a page that is needed and can't be read. */
+static void lose_pages(void)
+{
+    struct mintlintel_block block;
+    long found = 0;
+    for (int round = 0; round < 300; round++) {
+        begin_sound();
+        CHECK(open_device());
+        write_some(200);
+        chip.fail_at = chip.commands + 1 + drawn(&state) % 8;
+        while (chip.fails == 0)
+            write_some(1);
+        for (uint32_t b = 0; b < CHIP_BLOCKS; b++) {
+            CHECK(mintlintel_durable_block(&device, b, &block) == MINTLINTEL_DONE);
+            if (!block.retired || block.live == 0)
+                continue;
+            for (uint32_t page = 0; page < CHIP_PAGES; page++)
+                chip.pages[b][page].contents = TORN;
+            for (uint32_t sector = 0, lost = 0; sector < sectors; sector++) {
+                uint8_t page[CHIP_PAGE_BYTES];
+                lost += mintlintel_durable_read(&device, sector, page, sizeof page) == MINTLINTEL_UNREADABLE;
+                CHECK(sector + 1 < sectors || lost == block.live);
+            }
+            uint8_t page[CHIP_PAGE_BYTES];
+            for (int i = 0; i < 60; i++) {
+                uint32_t sector = drawn(&state) % sectors, code = mintlintel_durable_read(&device, sector, page, sizeof page);
+                CHECK(code == MINTLINTEL_UNREADABLE || mintlintel_durable_write(&device, sector, page, sizeof page) <= MINTLINTEL_WRITTEN);
+            }
+            CHECK(!chip.bad[b]);
+            found++;
+        }
+        mintlintel_durable_close(&device);
+    }
+    CHECK(found > 10);
+}
+
+/* Each command of a run fails in turn, and with few sectors a second one. No call tells of it, and what was acknowledged is there, before and after an open. */
+static long fail_each(void)
+{
+    long fails = 0;
+    for (long command = 1; command <= 400; command++) {
+        begin_sound();
+        if (command % 2 == 0)
+            sectors = 2 * CHIP_PAGES;
+        chip.fail_at = command;
+        CHECK(open_device());
+        while (chip.commands < 600)
+            write_some(1);
+        CHECK(chip.fails == 1);
+        if (command % 2 == 0) {
+            chip.fail_at = chip.commands + 1;
+            while (chip.commands < 900)
+                write_some(1);
+            CHECK(chip.fails == 2);
+        }
+        fails += chip.fails;
+        reports();
+        check_blocks();
+        CHECK(open_device());
+        mintlintel_durable_close(&device);
+    }
+    return fails;
+}
+
+static void run(long steps)
+{
+    begin();
+    if (!open_device())
+        CHECK(!"a new device has no room");
+    for (long step = 0; step < steps; step++) {
+        uint32_t code = any_call();
+        if (code == MINTLINTEL_EXHAUSTED) {
+            check_worn();
+            ends++;
+        }
+        /* A page was moved out of a bad block after the call. */
+        if (chip.is_off && !was_cut(code))
+            CHECK(mintlintel_durable_flush(&device) == MINTLINTEL_POWER_GONE);
+        if ((was_cut(code) || chip.is_off) && !open_device())
+            break;
+    }
+    check_closed();
+}
+
+int main(int argc, char **argv)
+{
+    long rounds = argc > 1 ? atol(argv[1]) : 300, cuts = 0, fails;
+    check_closed();
+    fails = fail_each();
+    fail_often();
+    add_reserve();
+    lose_pages();
+    for (long round = 0; round < rounds; round++) {
+        run(1000);
+        cuts += chip.cuts;
+        fails += chip.fails;
+    }
+    printf("durable: %ld calls with %ld power cuts and %ld failed commands agree with what was acknowledged", calls, cuts, fails);
+    printf(", over %ld opens; %ld times bad blocks left no room\n", opens, ends);
+    return 0;
+}

@@ -1,0 +1,233 @@
+/* An image file: what survives a close and a second open, what is refused, and copies. The file is made in the folder that is named. */
+#include "mintlintel_image.h"
+#include "testing.h"
+#include <errno.h>
+#include <fcntl.h>
+#include <signal.h>
+#include <sys/resource.h>
+#include <sys/stat.h>
+#include <unistd.h>
+
+enum { LUNS = 1, BLOCKS = 8, PAGES = 4, PAGE_BYTES = 512, SECTORS = 20, HEAD_BYTES = 8192, SESSION_AT = 4096, BLOCK_BYTES = 4096 + 4096 };
+#define NUMBERS LUNS, BLOCKS, PAGES, PAGE_BYTES, SECTORS
+
+static char path[4096], other[4096];
+static uint8_t values[SECTORS];
+static uint64_t state = 88172645463325252u;
+
+static void fill(uint8_t *page, uint8_t value)
+{
+    memset(page, value, PAGE_BYTES);
+}
+
+static uint32_t write_value(struct mintlintel_image *image, uint32_t sector, uint8_t value)
+{
+    uint8_t page[PAGE_BYTES];
+    fill(page, value);
+    return mintlintel_durable_write(&image->device, sector, page, sizeof page);
+}
+
+/* Some calls, and the values of the sectors after them. */
+static void use(struct mintlintel_image *image, int calls)
+{
+    for (int i = 0; i < calls; i++) {
+        uint32_t sector = drawn(&state) % SECTORS;
+        uint8_t value = drawn(&state) % 4 == 0 ? 0 : (uint8_t)(1 + drawn(&state) % 255);
+        uint32_t code = value ? write_value(image, sector, value) : mintlintel_durable_trim(&image->device, sector, 1);
+        CHECK(code == (values[sector] != 0));
+        values[sector] = value;
+    }
+}
+
+/* Each sector has its value, or the call says that its page can't be read, at most so many times. */
+static int unreadable(struct mintlintel_image *image)
+{
+    uint8_t page[PAGE_BYTES], wanted[PAGE_BYTES];
+    int found = 0;
+    for (uint32_t sector = 0; sector < SECTORS; sector++) {
+        uint32_t code = mintlintel_durable_read(&image->device, sector, page, sizeof page);
+        found += code == MINTLINTEL_UNREADABLE;
+        if (code == MINTLINTEL_UNREADABLE)
+            continue;
+        fill(wanted, values[sector]);
+        CHECK(code == (values[sector] != 0));
+        CHECK(!code || memcmp(page, wanted, sizeof page) == 0);
+    }
+    return found;
+}
+
+static void begin(struct mintlintel_image *image, enum mintlintel_image_mode mode)
+{
+    unlink(path);
+    memset(values, 0, sizeof values);
+    CHECK(mintlintel_image_open(image, path, mode, NUMBERS) == MINTLINTEL_DONE);
+    use(image, 300);
+}
+
+static void change_byte(off_t at, uint8_t flipped)
+{
+    uint8_t byte;
+    int fd = open(path, O_RDWR);
+    CHECK(fd >= 0 && pread(fd, &byte, 1, at) == 1);
+    byte ^= flipped;
+    CHECK(pwrite(fd, &byte, 1, at) == 1);
+    close(fd);
+}
+
+/* Each mode, with calls over several sessions. */
+static void sessions(void)
+{
+    static const enum mintlintel_image_mode modes[3] = {MINTLINTEL_ALWAYS, MINTLINTEL_FLUSH, MINTLINTEL_NEVER};
+    struct mintlintel_image image = {0}, second = {0};
+    struct mintlintel_image_head head;
+    for (int mode = 0; mode < 3; mode++) {
+        begin(&image, modes[mode]);
+        for (int session = 0; session < 5; session++) {
+            CHECK(mintlintel_image_open(&image, path, modes[mode], NUMBERS) == MINTLINTEL_ALREADY_OPEN);
+            CHECK(mintlintel_image_open(&second, path, modes[mode], NUMBERS) == MINTLINTEL_IN_USE);
+            use(&image, 100);
+            CHECK(mintlintel_durable_flush(&image.device) == MINTLINTEL_DONE);
+            CHECK(mintlintel_image_close(&image) == MINTLINTEL_DONE);
+            CHECK(mintlintel_image_close(&image) == MINTLINTEL_DONE);
+            CHECK(mintlintel_image_open(&image, path, modes[(mode + session) % 3], 0, 0, 0, 0, 0) == MINTLINTEL_DONE);
+            CHECK(unreadable(&image) == 0);
+        }
+        mintlintel_image_close(&image);
+    }
+    CHECK(mintlintel_image_look(path, &head) == MINTLINTEL_DONE && head.version == 1 && head.numbers.sectors == SECTORS);
+}
+
+/* Files that are not this image. */
+static void refusals(void)
+{
+    struct mintlintel_image image = {0};
+    struct mintlintel_image_head head;
+    char in_no_folder[sizeof other + 8];
+    snprintf(in_no_folder, sizeof in_no_folder, "%s/image", other);
+    begin(&image, MINTLINTEL_NEVER);
+    mintlintel_image_close(&image);
+    CHECK(mintlintel_image_open(&image, path, MINTLINTEL_NEVER, LUNS, BLOCKS, PAGES, PAGE_BYTES, SECTORS - 1) == MINTLINTEL_OTHER_NUMBERS);
+    CHECK(mintlintel_image_open(&image, path, MINTLINTEL_NEVER, LUNS, BLOCKS, PAGES, PAGE_BYTES, BLOCKS * PAGES) == MINTLINTEL_TOO_FEW_BLOCKS);
+    CHECK(mintlintel_image_open(&image, in_no_folder, MINTLINTEL_NEVER, NUMBERS) == MINTLINTEL_NO_FILE && errno == ENOENT);
+    CHECK(mintlintel_image_open(&image, other, MINTLINTEL_NEVER, 0, 0, 0, 0, 0) == MINTLINTEL_NO_FILE);
+    CHECK(mintlintel_image_look(other, &head) == MINTLINTEL_NO_FILE);
+    change_byte(8, 3);
+    CHECK(mintlintel_image_open(&image, path, MINTLINTEL_NEVER, NUMBERS) == MINTLINTEL_OTHER_VERSION);
+    CHECK(mintlintel_image_look(path, &head) == MINTLINTEL_DONE && head.version == 2);
+    change_byte(8, 3);
+    CHECK(truncate(path, HEAD_BYTES + BLOCKS * BLOCK_BYTES - 1) == 0);
+    CHECK(mintlintel_image_open(&image, path, MINTLINTEL_NEVER, NUMBERS) == MINTLINTEL_CUT_SHORT);
+    CHECK(truncate(path, HEAD_BYTES) == 0);
+    CHECK(mintlintel_image_open(&image, path, MINTLINTEL_NEVER, NUMBERS) == MINTLINTEL_CUT_SHORT);
+    CHECK(truncate(path, HEAD_BYTES - 1) == 0);
+    CHECK(mintlintel_image_open(&image, path, MINTLINTEL_NEVER, NUMBERS) == MINTLINTEL_NOT_AN_IMAGE);
+    CHECK(truncate(path, 0) == 0);
+    CHECK(mintlintel_image_open(&image, path, MINTLINTEL_NEVER, NUMBERS) == MINTLINTEL_NOT_AN_IMAGE);
+}
+
+/* Each byte of the head, flipped in one bit: the image is refused, or it is right. */
+static void flipped_heads(void)
+{
+    struct mintlintel_image image = {0};
+    int refused = 0;
+    begin(&image, MINTLINTEL_FLUSH);
+    mintlintel_image_close(&image);
+    for (off_t at = 0; at < HEAD_BYTES; at++) {
+        uint8_t flip = (uint8_t)(1 << drawn(&state) % 8), session[48];
+        int fd = open(path, O_RDWR);
+        CHECK(pread(fd, session, sizeof session, SESSION_AT) == sizeof session);
+        change_byte(at, flip);
+        uint32_t code = mintlintel_image_open(&image, path, MINTLINTEL_FLUSH, NUMBERS);
+        refused += code != MINTLINTEL_DONE;
+        CHECK(code == MINTLINTEL_DONE || code == MINTLINTEL_NOT_AN_IMAGE || code == MINTLINTEL_OTHER_VERSION);
+        CHECK(code != MINTLINTEL_DONE || unreadable(&image) == 0);
+        mintlintel_image_close(&image);
+        if (at < SESSION_AT || at >= SESSION_AT + 48)
+            change_byte(at, flip);
+        CHECK(pwrite(fd, session, sizeof session, SESSION_AT) == sizeof session);
+        close(fd);
+    }
+    CHECK(refused == SESSION_AT);
+}
+
+/* Bytes of blocks, flipped: a sector has its value, or its page can't be read. A flipped stamp may give the value before, which only the chip can tell. */
+static void flipped_pages(void)
+{
+    struct mintlintel_image image = {0};
+    for (int round = 0; round < 200; round++) {
+        off_t block = drawn(&state) % BLOCKS, page = drawn(&state) % PAGES, byte = drawn(&state) % PAGE_BYTES;
+        begin(&image, MINTLINTEL_NEVER);
+        CHECK(unreadable(&image) == 0);
+        change_byte(HEAD_BYTES + block * BLOCK_BYTES + 4096 + page * PAGE_BYTES + byte, 1);
+        CHECK(unreadable(&image) <= 1);
+        mintlintel_image_close(&image);
+    }
+}
+
+/* A copy has what the image had, and goes its own way. */
+static void copies(void)
+{
+    struct mintlintel_image image = {0}, copy = {0};
+    struct stat about;
+    uint8_t then[SECTORS];
+    begin(&image, MINTLINTEL_FLUSH);
+    memcpy(then, values, sizeof then);
+    CHECK(mintlintel_image_copy(&image, other) == MINTLINTEL_DONE);
+    CHECK(mintlintel_image_copy(&image, other) == MINTLINTEL_NO_FILE && errno == EEXIST);
+    use(&image, 300);
+    CHECK(unreadable(&image) == 0);
+    CHECK(mintlintel_image_open(&copy, other, MINTLINTEL_FLUSH, NUMBERS) == MINTLINTEL_DONE);
+    memcpy(values, then, sizeof values);
+    CHECK(unreadable(&copy) == 0);
+    CHECK(stat(other, &about) == 0 && about.st_size == HEAD_BYTES + BLOCKS * BLOCK_BYTES);
+    mintlintel_image_close(&copy);
+    mintlintel_image_close(&image);
+    CHECK(mintlintel_image_copy(&image, other) == MINTLINTEL_CLOSED);
+    unlink(other);
+}
+
+/* A file that can't grow: the call says so, and nothing that was acknowledged is lost. */
+static void full_disk(void)
+{
+    struct mintlintel_image image = {0};
+    struct rlimit limit, small;
+    uint32_t code = 0, sector = 0;
+    signal(SIGXFSZ, SIG_IGN);
+    CHECK(getrlimit(RLIMIT_FSIZE, &limit) == 0);
+    for (rlim_t blocks = 1; blocks < BLOCKS; blocks++) {
+        begin(&image, MINTLINTEL_NEVER);
+        small = limit;
+        small.rlim_cur = HEAD_BYTES + blocks * BLOCK_BYTES + 4096 + 700;
+        CHECK(setrlimit(RLIMIT_FSIZE, &small) == 0);
+        do {
+            sector = drawn(&state) % SECTORS;
+            code = write_value(&image, sector, 77);
+            if (code <= MINTLINTEL_WRITTEN)
+                values[sector] = 77;
+        } while (code <= MINTLINTEL_WRITTEN);
+        CHECK(code == MINTLINTEL_FILE_FAILED && mintlintel_image_errno(&image) == EFBIG);
+        CHECK(write_value(&image, 0, 1) == MINTLINTEL_FILE_FAILED && mintlintel_durable_flush(&image.device) == MINTLINTEL_FILE_FAILED);
+        CHECK(setrlimit(RLIMIT_FSIZE, &limit) == 0);
+        mintlintel_image_close(&image);
+        CHECK(mintlintel_image_open(&image, path, MINTLINTEL_NEVER, NUMBERS) == MINTLINTEL_DONE);
+        CHECK(unreadable(&image) == 0);
+        mintlintel_image_close(&image);
+    }
+}
+
+int main(int argc, char **argv)
+{
+    const char *folder = argc > 1 ? argv[1] : "out";
+    snprintf(path, sizeof path, "%s/test.image", folder);
+    snprintf(other, sizeof other, "%s/copy.image", folder);
+    unlink(other);
+    sessions();
+    refusals();
+    flipped_heads();
+    flipped_pages();
+    copies();
+    full_disk();
+    unlink(path);
+    printf("image: sessions, refusals, flipped bytes, copies and a full disk agree with what was acknowledged\n");
+    return 0;
+}

@@ -1,0 +1,238 @@
+/* power FOLDER [ROUNDS]: an image whose machine loses power at random. Of what was written since the last sync each 4096 bytes are on the disk, or not, or
+ * each sector of 512 bytes is for itself, up to any of the writes to it. In mode `always` the image then has each acknowledged call, and in mode `flush`
+ * a beginning of the history with all that was flushed. The writes and syncs of the library are wrapped. */
+#include "mintlintel_image.h"
+#include "testing.h"
+#include <errno.h>
+#include <fcntl.h>
+#include <unistd.h>
+
+enum { LUNS = 1, BLOCKS = 5, PAGES = 40, PAGE_BYTES = 256, SECTORS = 120, BLOCK_BYTES = 4096 + 12288, HEAD_BYTES = 8192, SPARE_BYTES = 32,
+       LENGTH = HEAD_BYTES + BLOCKS * BLOCK_BYTES };
+enum { SECTOR_BYTES = 512, PART_BYTES = 4096, MOST = 4096, CALLS = 3000 };
+enum { NOTHING, SOME, ALL };
+/* Where the state of the last session stands, and what it is. */
+enum { AT_SESSION = 4096, IN_USE = 1, CLOSED = 2 };
+
+struct write { size_t at, count; uint8_t *bytes; };
+struct update { uint32_t sector, value; };
+
+static uint8_t disk[LENGTH];
+static struct write pending[MOST];
+static struct update history[4 * CALLS];
+static uint32_t begun, safe; /* updates that were begun, and those that have to be there */
+static size_t writes;
+static long left; /* writes and syncs up to the power cut */
+static int is_off;
+static uint64_t state = 88172645463325252u;
+static char path[4096];
+static long cuts, calls;
+
+ssize_t __real_pwrite64(int fd, const void *bytes, size_t count, off_t at);
+ssize_t __wrap_pwrite64(int fd, const void *bytes, size_t count, off_t at);
+int __wrap_fdatasync(int fd);
+int __wrap_fsync(int fd);
+
+static int goes_off(void)
+{
+    is_off |= --left <= 0;
+    return is_off;
+}
+
+/* A stamp is written to erased spare bytes, and no stamp stands behind it in its block. */
+static void check_stamp(int fd, size_t count, off_t at)
+{
+    uint8_t spares[PAGES * SPARE_BYTES];
+    size_t inside = (size_t)(at - HEAD_BYTES) % BLOCK_BYTES;
+    if (at < HEAD_BYTES || count != SPARE_BYTES || inside >= sizeof spares)
+        return;
+    CHECK(pread(fd, spares, sizeof spares - inside, at) == (ssize_t)(sizeof spares - inside));
+    for (size_t i = 0; i < sizeof spares - inside; i++)
+        CHECK(spares[i] == 0);
+}
+
+/* A write that the power goes in is one that is pending. */
+ssize_t __wrap_pwrite64(int fd, const void *bytes, size_t count, off_t at)
+{
+    check_stamp(fd, count, at);
+    if (!is_off) {
+        CHECK(writes < MOST && (size_t)at + count <= LENGTH);
+        pending[writes] = (struct write){(size_t)at, count, malloc(count)};
+        CHECK(pending[writes].bytes);
+        memcpy(pending[writes++].bytes, bytes, count);
+    }
+    if (goes_off()) {
+        errno = EIO;
+        return -1;
+    }
+    return __real_pwrite64(fd, bytes, count, at);
+}
+
+static void forget_writes(void)
+{
+    while (writes > 0)
+        free(pending[--writes].bytes);
+}
+
+int __wrap_fdatasync(int fd)
+{
+    (void)fd;
+    if (goes_off()) {
+        errno = EIO;
+        return -1;
+    }
+    for (size_t i = 0; i < writes; i++)
+        memcpy(disk + pending[i].at, pending[i].bytes, pending[i].count);
+    forget_writes();
+    return 0;
+}
+
+int __wrap_fsync(int fd)
+{
+    return __wrap_fdatasync(fd);
+}
+
+/* What the disk has after the cut, and another run of the machine. */
+static void lose_power(void)
+{
+    static uint8_t is_frozen[LENGTH / SECTOR_BYTES], parts[LENGTH / PART_BYTES];
+    uint32_t one_in = 2 + drawn(&state) % 8;
+    memset(is_frozen, 0, sizeof is_frozen);
+    for (size_t part = 0; part < sizeof parts; part++)
+        parts[part] = drawn(&state) % 3;
+    for (size_t i = 0; i < writes; i++)
+        for (size_t at = pending[i].at, end = at + pending[i].count; at < end;) {
+            size_t sector = at / SECTOR_BYTES, stop = (sector + 1) * SECTOR_BYTES < end ? (sector + 1) * SECTOR_BYTES : end;
+            uint8_t part = parts[at / PART_BYTES];
+            is_frozen[sector] |= part == NOTHING || (part == SOME && drawn(&state) % one_in == 0);
+            if (!is_frozen[sector])
+                memcpy(disk + at, pending[i].bytes + (at - pending[i].at), stop - at);
+            at = stop;
+        }
+    forget_writes();
+    if (disk[4096] != 0) {
+        memset(disk + 4104, '0', 36);
+        uint32_t check = mintlintel_crc32c(0, disk + 4096, 44);
+        for (int i = 0; i < 4; i++)
+            disk[4140 + i] = (uint8_t)(check >> 8 * i);
+    }
+    int fd = open(path, O_RDWR);
+    CHECK(fd >= 0 && __real_pwrite64(fd, disk, LENGTH, 0) == LENGTH);
+    close(fd);
+    cuts++;
+}
+
+static void fill(uint8_t *page, uint32_t value)
+{
+    for (int i = 0; i < PAGE_BYTES; i += 4)
+        memcpy(page + i, &value, sizeof value);
+}
+
+/* Whether the sectors are those after so many updates. */
+static int agree(const uint32_t *values, uint32_t updates)
+{
+    uint32_t after[SECTORS] = {0};
+    for (uint32_t i = 0; i < updates; i++)
+        after[history[i].sector] = history[i].value;
+    return memcmp(after, values, sizeof after) == 0;
+}
+
+static int read_all(struct mintlintel_image *image, uint32_t *values)
+{
+    uint8_t page[PAGE_BYTES], wanted[PAGE_BYTES];
+    for (uint32_t sector = 0; sector < SECTORS; sector++) {
+        uint32_t code = mintlintel_durable_read(&image->device, sector, page, sizeof page);
+        CHECK(code <= MINTLINTEL_WRITTEN);
+        values[sector] = 0;
+        if (code == MINTLINTEL_WRITTEN)
+            memcpy(&values[sector], page, sizeof values[sector]);
+        fill(wanted, values[sector]);
+        CHECK(code == MINTLINTEL_EMPTY || memcmp(page, wanted, sizeof page) == 0);
+    }
+    return 1;
+}
+
+/* Opens the image, through power cuts, and finds the beginning of the history that it has. */
+static void open_image(struct mintlintel_image *image, enum mintlintel_image_mode mode)
+{
+    uint32_t values[SECTORS], code;
+    for (;;) {
+        is_off = 0;
+        left = 1 + drawn(&state) % 400;
+        code = mintlintel_image_open(image, path, mode, LUNS, BLOCKS, PAGES, PAGE_BYTES, SECTORS);
+        if (code == MINTLINTEL_DONE)
+            break;
+        CHECK(code == MINTLINTEL_FILE_FAILED && is_off);
+        lose_power();
+    }
+    CHECK(disk[AT_SESSION] == IN_USE);
+    read_all(image, values);
+    uint32_t updates = begun;
+    while (updates > safe && !agree(values, updates))
+        updates--;
+    CHECK(agree(values, updates));
+    begun = safe = updates;
+}
+
+static uint32_t one_call(struct mintlintel_image *image, enum mintlintel_image_mode mode)
+{
+    uint8_t page[PAGE_BYTES];
+    uint32_t sector = drawn(&state) % SECTORS, kind = drawn(&state) % 64, value = kind < 52 ? 1 + drawn(&state) : 0, code;
+    calls++;
+    if (kind == 63) {
+        code = mintlintel_durable_flush(&image->device);
+        safe = code == MINTLINTEL_DONE ? begun : safe;
+        return code;
+    }
+    history[begun++] = (struct update){sector, value};
+    fill(page, value);
+    code = value ? mintlintel_durable_write(&image->device, sector, page, sizeof page) : mintlintel_durable_trim(&image->device, sector, 1);
+    if (code <= MINTLINTEL_WRITTEN && mode == MINTLINTEL_ALWAYS)
+        safe = begun;
+    return code;
+}
+
+/* Closes the image, which may be cut too, and opens it. An image that was closed in order has every call. */
+static void close_and_open(struct mintlintel_image *image, enum mintlintel_image_mode mode)
+{
+    left = drawn(&state) % 2 ? 1 + drawn(&state) % 6 : 1000;
+    if (mintlintel_image_close(image) == MINTLINTEL_DONE && !is_off) {
+        CHECK(disk[AT_SESSION] == CLOSED);
+        safe = begun;
+    }
+    if (is_off || drawn(&state) % 2)
+        lose_power();
+    open_image(image, mode);
+}
+
+static void run(enum mintlintel_image_mode mode)
+{
+    struct mintlintel_image image = {0};
+    unlink(path);
+    memset(disk, 0, sizeof disk);
+    begun = safe = 0;
+    left = 1000;
+    is_off = 0;
+    CHECK(mintlintel_image_open(&image, path, mode, LUNS, BLOCKS, PAGES, PAGE_BYTES, SECTORS) == MINTLINTEL_DONE);
+    CHECK(disk[AT_SESSION] == IN_USE);
+    for (int i = 0; i < CALLS; i++) {
+        uint32_t code = one_call(&image, mode);
+        CHECK(code <= MINTLINTEL_WRITTEN || (code == MINTLINTEL_FILE_FAILED && is_off));
+        if (is_off || drawn(&state) % 100 == 0)
+            close_and_open(&image, mode);
+    }
+    left = 1000;
+    mintlintel_image_close(&image);
+    forget_writes();
+}
+
+int main(int argc, char **argv)
+{
+    int rounds = argc > 2 ? atoi(argv[2]) : 20;
+    snprintf(path, sizeof path, "%s/power.image", argc > 1 ? argv[1] : "out");
+    for (int round = 0; round < rounds; round++)
+        run(round % 2 ? MINTLINTEL_FLUSH : MINTLINTEL_ALWAYS);
+    unlink(path);
+    printf("power: %ld calls with %ld power cuts of the machine keep the promises of `always` and `flush`\n", calls, cuts);
+    return 0;
+}
