@@ -10,21 +10,14 @@ from measuring import OUT, table
 # The C library's copying and filling, which callgrind counts by the byte where they use `rep movsb`.
 MOVING = re.compile(r"mem(cpy|move|set)")
 LINE = re.compile(r"\s*([\d,]+) \(\s*[\d.]+%\)\s+(?:\S*?:)?(\S.*?)(?: \[[^\]]*\])?$")
-DEAREST = 5
 
 
 class Count:
-    """What a run executed: instructions without copying and filling memory, those of copying and filling, and each function's."""
+    """What a run executed: instructions without copying and filling memory, and those of copying and filling."""
 
     def __init__(self, functions):
         self.moving = sum(count for name, count in functions.items() if MOVING.search(name))
         self.own = sum(functions.values()) - self.moving
-        self.functions = functions
-
-    def dearest(self):
-        """The functions that executed most, without those that copy and fill."""
-        named = [(count, name) for name, count in self.functions.items() if not MOVING.search(name)]
-        return [(name, count) for count, name in sorted(named, reverse=True)[:DEAREST]]
 
 
 def short(name):
@@ -77,12 +70,4 @@ def counts_table(rows):
     for label, ours, plain, times in rows:
         counts = [millions(ours.own), millions(plain.own), f"{ours.own / plain.own:.2f}", millions(ours.moving), millions(plain.moving)]
         cells.append([label, *counts, *(f"{seconds * 1e3:.1f} ms" for seconds in times), f"{times[0] / times[1]:.2f}"])
-    return table(cells)
-
-
-def dearest_table(rows):
-    """The functions that executed most, of both programs."""
-    cells = [["Work", "Ours: the five costliest functions, million", "Plain Rust"]]
-    for label, *counted, _ in rows:
-        cells.append([label, *("; ".join(f"`{name}` {millions(count)}" for name, count in it.dearest()) for it in counted)])
     return table(cells)

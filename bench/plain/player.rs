@@ -4,15 +4,14 @@
 mod answers;
 mod hex;
 mod layer;
+mod session;
 mod trace;
 
 use answers::{Answers, EMPTY, MET, NAMES, WORN, WRITTEN, was};
 use layer::{Ftl, Geometry};
-use std::io::{self, Read, Write};
+use std::io::{self, Write};
 use std::process::ExitCode;
 use trace::{Command, Op};
-
-const MAX_TRACE_BYTES: usize = 268_435_456;
 
 /// A trace may name this many workers, whose numbers are ignored.
 const MAX_WORKERS: u32 = 500;
@@ -26,15 +25,10 @@ fn main() -> ExitCode {
         eprintln!("geometry: {fault}");
         return ExitCode::from(2);
     }
-    let mut text = Vec::new();
-    if io::stdin().take(MAX_TRACE_BYTES as u64 + 1).read_to_end(&mut text).is_err() {
-        eprintln!("line 0: Read");
-        return ExitCode::from(1);
-    }
-    if text.len() > MAX_TRACE_BYTES {
-        eprintln!("line 0: Big");
-        return ExitCode::from(3);
-    }
+    let mut text = match session::read_trace() {
+        Ok(text) => text,
+        Err(status) => return status,
+    };
     let mut commands = Vec::new();
     if let Err((line, kind)) = trace::parse(&mut text, &geometry, MAX_WORKERS, |_, command| commands.push(command)) {
         eprintln!("line {line}: {kind}");
@@ -48,20 +42,11 @@ fn main() -> ExitCode {
 }
 
 fn options() -> Option<Geometry> {
-    let mut geometry =
-        Geometry { luns: 1, blocks: 64, pages: 64, words: 64, sectors: 3072, endurance: 1000 };
+    let mut geometry = session::DEFAULT;
     let mut words = std::env::args().skip(1);
     while let Some(name) = words.next() {
         let number = words.next()?.parse().ok()?;
-        match name.as_str() {
-            "--luns" => geometry.luns = number,
-            "--blocks" => geometry.blocks = number,
-            "--pages" => geometry.pages = number,
-            "--words" => geometry.words = number,
-            "--sectors" => geometry.sectors = number,
-            "--endurance" => geometry.endurance = number,
-            _ => return None,
-        }
+        session::set(&mut geometry, &name, number).then_some(())?;
     }
     Some(geometry)
 }

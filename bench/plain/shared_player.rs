@@ -6,19 +6,18 @@ mod answers;
 mod hex;
 #[allow(dead_code)]
 mod layer;
+mod session;
 mod table;
 mod trace;
 
 use answers::{Answers, EMPTY, MET, NAMES, Short, was};
 use layer::Geometry;
-use std::io::{self, Read, Write};
+use std::io::{self, Write};
 use std::process::ExitCode;
 use std::sync::atomic::AtomicBool;
 use std::sync::atomic::Ordering::SeqCst;
 use table::{Broom, Open, Table};
 use trace::{Command, Op};
-
-const MAX_TRACE_BYTES: usize = 268_435_456;
 
 /// Stands for the worker of a line at which all meet.
 const ALL: u16 = u16::MAX;
@@ -40,15 +39,10 @@ fn main() -> ExitCode {
         eprintln!("geometry: {fault}");
         return ExitCode::from(2);
     }
-    let mut text = Vec::new();
-    if io::stdin().take(MAX_TRACE_BYTES as u64 + 1).read_to_end(&mut text).is_err() {
-        eprintln!("line 0: Read");
-        return ExitCode::from(1);
-    }
-    if text.len() > MAX_TRACE_BYTES {
-        eprintln!("line 0: Big");
-        return ExitCode::from(3);
-    }
+    let mut text = match session::read_trace() {
+        Ok(text) => text,
+        Err(status) => return status,
+    };
     let mut plan = Plan::new(options.workers as usize);
     let parsed = trace::parse(&mut text, &options.geometry, options.workers, |worker, command| plan.add(worker, command));
     if let Err((line, kind)) = parsed {
@@ -65,23 +59,16 @@ fn main() -> ExitCode {
 }
 
 fn options() -> Option<Options> {
-    let geometry = Geometry { luns: 1, blocks: 64, pages: 64, words: 64, sectors: 3072, endurance: 1000 };
-    let mut options = Options { geometry, workers: 0, brooms: 0, patience: 1_000_000, drains: 1 };
+    let mut options = Options { geometry: session::DEFAULT, workers: 0, brooms: 0, patience: 1_000_000, drains: 1 };
     let mut words = std::env::args().skip(1);
     while let Some(name) = words.next() {
         let number = words.next()?.parse().ok()?;
         match name.as_str() {
-            "--luns" => options.geometry.luns = number,
-            "--blocks" => options.geometry.blocks = number,
-            "--pages" => options.geometry.pages = number,
-            "--words" => options.geometry.words = number,
-            "--sectors" => options.geometry.sectors = number,
-            "--endurance" => options.geometry.endurance = number,
             "--workers" => options.workers = number,
             "--brooms" => options.brooms = number,
             "--patience" => options.patience = number,
             "--drains" => options.drains = number,
-            _ => return None,
+            _ => session::set(&mut options.geometry, &name, number).then_some(())?,
         }
     }
     Some(options)

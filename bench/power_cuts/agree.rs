@@ -1,0 +1,215 @@
+//! Compares the commands and mounts of the proved core with the model's rule, over the runs that `crates/durable_runs` prints.
+
+use crate::flash::{Block, Cell, Device, Page, Place, Size, Version, BLOCKS};
+use crate::layer::{Command, Freed, Rule, Wrong};
+
+/// Wrong rules that runs without failures, ranges and flushes tell apart.
+pub const TOLD_APART: [Wrong; 11] = [
+    Wrong::FirstFound,
+    Wrong::LastFound,
+    Wrong::NumbersStartAgain,
+    Wrong::ContinuesOpenBlock,
+    Wrong::TrustsErased,
+    Wrong::FreesNoBlock,
+    Wrong::TrimInMemory,
+    Wrong::TombstoneNotCopied,
+    Wrong::ErasesEarly,
+    Wrong::NoReserve,
+    Wrong::CopyRenumbered,
+];
+
+/// How much was compared.
+#[derive(Default)]
+pub struct Compared {
+    pub devices: u64,
+    pub calls: u64,
+    pub commands: u64,
+    pub cuts: u64,
+}
+
+/// A device of the model that follows the lines.
+struct Follower {
+    rule: Rule,
+    device: Device,
+    compared: Compared,
+}
+
+/// Follows all lines; at the first that differs from the rule it says why.
+pub fn compare(text: &str, wrong: Option<Wrong>) -> Result<Compared, String> {
+    let mut follower = Follower::new(Size { blocks: 1, pages: 1, sectors: 1 }, wrong);
+    for (number, line) in text.lines().enumerate() {
+        let words: Vec<&str> = line.split_ascii_whitespace().collect();
+        follower.line(&words).map_err(|why| format!("line {}: {line}: {why}\n{}", number + 1, follower.device))?;
+    }
+    Ok(follower.compared)
+}
+
+fn numbers(words: &[&str]) -> Result<Vec<usize>, String> {
+    words.iter().map(|word| word.parse().map_err(|_| format!("{word} is no number"))).collect()
+}
+
+impl Follower {
+    fn new(size: Size, wrong: Option<Wrong>) -> Follower {
+        let rule = Rule { size, failures: 0, has_reserve: false, freed: Freed::One, drops_tombstones: false, reads_to_gap: false, wrong };
+        let device = Device { blocks: [Block::BLANK; BLOCKS], call: None, next_number: 1, failures_left: 0, allowed: 0 };
+        Follower { rule, device, compared: Compared::default() }
+    }
+
+    fn line(&mut self, words: &[&str]) -> Result<(), String> {
+        match words {
+            ["device", sizes @ ..] => self.start(&numbers(sizes)?),
+            ["call", call @ ..] => self.begin(&numbers(call)?),
+            ["nothing"] => self.done(Command::Nothing),
+            ["mount", entries @ ..] => self.mount(entries),
+            [name, numbers_of @ .., "done"] => {
+                let command = self.command(name, &numbers(numbers_of)?)?;
+                self.done(command)
+            }
+            [name, numbers_of @ .., "cut", part] => {
+                let command = self.command(name, &numbers(numbers_of)?)?;
+                self.cut(command, numbers(&[part])?[0])
+            }
+            _ => Err("it is no line of a run".to_string()),
+        }
+    }
+
+    fn start(&mut self, sizes: &[usize]) -> Result<(), String> {
+        let [blocks, pages, sectors] = sizes else {
+            return Err("a device has three numbers".to_string());
+        };
+        let devices = self.compared.devices + 1;
+        let compared = std::mem::take(&mut self.compared);
+        *self = Follower::new(Size { blocks: *blocks, pages: *pages, sectors: *sectors }, self.rule.wrong);
+        self.compared = Compared { devices, ..compared };
+        Ok(())
+    }
+
+    fn begin(&mut self, call: &[usize]) -> Result<(), String> {
+        let [sector, value] = call else {
+            return Err("a call has a sector and a value".to_string());
+        };
+        if self.device.call.is_some() {
+            return Err("the call before has not come to its end".to_string());
+        }
+        self.device.call = Some(Version { first: *sector as u8, count: 1, number: 0, value: *value as u8 });
+        self.compared.calls += 1;
+        Ok(())
+    }
+
+    /// The command, if the rule allows it now.
+    fn command(&self, name: &str, numbers: &[usize]) -> Result<Command, String> {
+        let call = self.device.call.ok_or("there is no call")?;
+        let (command, number, to) = match (name, numbers) {
+            ("program", [block, page, number]) => (Command::Program { block: *block }, Some(*number), Some((*block, *page))),
+            ("copy", [block, page, to, to_page]) => (Command::Copy { from: (*block, *page), block: *to }, None, Some((*to, *to_page))),
+            ("erase", [block]) => (Command::Erase { block: *block }, None, None),
+            _ => return Err("it is no command".to_string()),
+        };
+        if number.is_some_and(|number| number + 1 != self.device.next_number as usize) {
+            return Err(format!("the model's next number is {}, counted from 1", self.device.next_number));
+        }
+        if to.is_some_and(|(block, page)| self.device.blocks[block].open != Some(page as u8)) {
+            return Err("it is not the next page of the open block".to_string());
+        }
+        let allowed = self.rule.commands(&self.device, call);
+        if allowed.iter().any(|other| self.is_same(command, *other)) {
+            return Ok(command);
+        }
+        let names: Vec<String> = allowed.iter().map(Command::to_string).collect();
+        Err(format!("the rule has: {}", names.join(", or ")))
+    }
+
+    /// The rule names one kept page of a victim, and any other will do.
+    fn is_same(&self, command: Command, rules: Command) -> bool {
+        match (command, rules) {
+            (Command::Copy { from, block }, Command::Copy { from: first, block: other }) => {
+                block == other && from.0 == first.0 && self.device.cell(from).kept != 0
+            }
+            _ => command == rules,
+        }
+    }
+
+    fn done(&mut self, command: Command) -> Result<(), String> {
+        let call = self.device.call.ok_or("there is no call")?;
+        if command == Command::Nothing && !self.rule.commands(&self.device, call).contains(&Command::Nothing) {
+            return Err("the rule gives a command".to_string());
+        }
+        let before = self.rule.array(&self.device);
+        for (place, page) in self.rule.puts(&self.device, call, command) {
+            self.put(place, page);
+        }
+        self.rule.done(&mut self.device, call, command);
+        let ended = self.device.call.is_none();
+        let expected = if ended { self.rule.after(before, call) } else { before };
+        if self.rule.array(&self.device) != expected {
+            return Err("the model's own array is wrong".to_string());
+        }
+        self.compared.commands += u64::from(command != Command::Nothing);
+        Ok(())
+    }
+
+    fn put(&mut self, place: Place, page: Page) {
+        let kept = self.device.cell(place).kept;
+        *self.device.cell_mut(place) = Cell { now: page, sure: page, kept };
+    }
+
+    /// A cut leaves a part of the command: see `Flash::cut` of the program.
+    fn cut(&mut self, command: Command, part: usize) -> Result<(), String> {
+        let call = self.device.call.ok_or("there is no call")?;
+        let mut digits = part;
+        for (place, page) in self.rule.puts(&self.device, call, command) {
+            match digits % 3 {
+                0 => {}
+                1 => self.put(place, Page::Unreadable),
+                _ => self.put(place, page),
+            }
+            digits /= 3;
+        }
+        self.compared.commands += 1;
+        self.compared.cuts += 1;
+        Ok(())
+    }
+
+    /// The map has to be one that a mount may make, with the array from before the call or from after it.
+    fn mount(&mut self, entries: &[&str]) -> Result<(), String> {
+        let before = self.rule.array(&self.device);
+        let call = self.device.call;
+        let map: Vec<Option<(Place, u8)>> = entries.iter().map(|entry| place(entry)).collect::<Result<_, _>>()?;
+        let mounted = self.rule.mount(&self.device);
+        let found = mounted.iter().find(|device| self.has_map(device, &map));
+        let Some(device) = found else {
+            return Err(format!("no mount of the model has this map; one is\n{}", mounted[0]));
+        };
+        let array = self.rule.array(device);
+        let values = map.iter().map(|entry| entry.map_or(0, |(_, value)| value));
+        if !values.eq(array[..self.rule.size.sectors].iter().copied()) {
+            return Err("the values are not the model's".to_string());
+        }
+        if array != before && call.map(|call| self.rule.after(before, call)) != Some(array) {
+            return Err("the array is neither the one before the call nor the one after it".to_string());
+        }
+        self.device = *device;
+        Ok(())
+    }
+
+    fn has_map(&self, device: &Device, map: &[Option<(Place, u8)>]) -> bool {
+        let keeps = |sector: usize, place: Place| device.cell(place).kept >> sector & 1 == 1;
+        map.len() == self.rule.size.sectors
+            && map.iter().enumerate().all(|(sector, entry)| match entry {
+                Some((place, _)) => keeps(sector, *place),
+                None => !self.rule.size.places().any(|place| keeps(sector, place)),
+            })
+    }
+}
+
+/// An entry of a map: `block.page=value`, or `-`.
+fn place(entry: &str) -> Result<Option<(Place, u8)>, String> {
+    if entry == "-" {
+        return Ok(None);
+    }
+    let parts: Vec<&str> = entry.split(['.', '=']).collect();
+    match numbers(&parts)?[..] {
+        [block, page, value] => Ok(Some(((block, page), value as u8))),
+        _ => Err(format!("{entry} is no entry")),
+    }
+}

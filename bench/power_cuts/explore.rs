@@ -1,0 +1,444 @@
+//! Every state that a device can reach, by calls, commands, failures and power cuts.
+
+use crate::canon;
+use crate::flash::{Block, Device, Page, Place, Version, BLOCKS};
+use crate::layer::{Array, Command, Rule, Wrong};
+use std::collections::{HashMap, VecDeque};
+use std::fmt;
+use std::hash::{BuildHasherDefault, Hasher};
+
+/// When what a command did is sure to survive a power cut.
+#[derive(Clone, Copy, PartialEq, Eq, Debug)]
+pub enum Sync {
+    /// At its success.
+    Always,
+    /// At the host's flush, and before each erase.
+    Flush,
+    /// The same, and between an erase and the block's first program.
+    FlushAndAfterErase,
+}
+
+/// What a mount may show.
+#[derive(Clone, Copy, PartialEq, Eq, Debug)]
+pub enum Promise {
+    /// The array after a beginning of the history that has all that is sure.
+    Whole,
+    /// Each sector as it surely is, or as a later call left it.
+    EachSector,
+}
+
+/// What the flash holds at the start.
+#[derive(Clone, Copy, PartialEq, Eq, Debug)]
+pub enum Start {
+    Blank,
+    /// Each sector has bytes: so many in a block, as long as the blocks but one last, and then in the pages left there.
+    Filled(usize),
+    /// A tombstone of three sectors, two other sectors, the rest torn, one block free.
+    Tombstone,
+}
+
+#[derive(Clone, Copy, Debug)]
+pub struct Model {
+    pub rule: Rule,
+    pub sync: Sync,
+    pub promise: Promise,
+    /// Whether the process may end while the flash keeps what was not synced.
+    pub kills: bool,
+    /// The longest range that is trimmed.
+    pub range: u8,
+    pub values: u8,
+    /// Whether numbers are told apart only where their versions share a sector.
+    pub by_overlap: bool,
+}
+
+/// A step of a run, for its report.
+#[derive(Clone, Copy, Debug)]
+pub enum Event {
+    Begins(Version),
+    Flushed,
+    Did(Command),
+    CutBetween,
+    Cut(Command),
+    KilledBetween,
+    Killed(Command),
+    Failed(Command),
+}
+
+impl fmt::Display for Event {
+    fn fmt(&self, f: &mut fmt::Formatter) -> fmt::Result {
+        match self {
+            Event::Begins(call) if call.has_bytes() => {
+                write!(f, "write of {} to sector {}", call.value, call.first)
+            }
+            Event::Begins(call) => write!(f, "trim of {} sectors from {}", call.count, call.first),
+            Event::Flushed => write!(f, "flush"),
+            Event::Did(command) => write!(f, "{command}"),
+            Event::CutBetween => write!(f, "power cut between two commands, and mount"),
+            Event::Cut(command) => write!(f, "power cut in: {command}; and mount"),
+            Event::KilledBetween => write!(f, "kill between two commands, and mount"),
+            Event::Killed(command) => write!(f, "kill in: {command}; and mount"),
+            Event::Failed(command) => write!(f, "failure of: {command}; and mount"),
+        }
+    }
+}
+
+pub struct Violation {
+    pub what: String,
+    pub steps: Vec<Event>,
+}
+
+pub enum Outcome {
+    /// Every reachable state was visited.
+    Holds {
+        states: usize,
+        depth: usize,
+    },
+    /// The limit was met first.
+    Limit {
+        states: usize,
+    },
+    Refused {
+        states: usize,
+        violation: Violation,
+    },
+}
+
+type Next = Vec<(Event, Device)>;
+
+impl Model {
+    fn is(&self, wrong: Wrong) -> bool {
+        self.rule.is(wrong)
+    }
+
+    /// The bits of an array in `Device::allowed`.
+    fn bits(&self, array: &Array) -> u32 {
+        let sectors = self.rule.size.sectors;
+        match self.promise {
+            Promise::Whole => 1 << array[..sectors].iter().rev().fold(0, |number, value| number * 3 + *value as u32),
+            Promise::EachSector => array[..sectors].iter().enumerate().map(|(sector, value)| 1 << (3 * sector + *value as usize)).sum(),
+        }
+    }
+
+    fn now(&self, device: &Device) -> u32 {
+        self.bits(&self.rule.array(device))
+    }
+
+    fn sync(&self, device: &mut Device) {
+        for place in self.rule.size.places() {
+            let cell = device.cell_mut(place);
+            cell.sure = cell.now;
+        }
+        device.allowed = self.now(device);
+    }
+
+    fn start(&self, start: Start) -> Device {
+        let mut device =
+            Device { blocks: [Block::BLANK; BLOCKS], call: None, next_number: 1, failures_left: self.rule.failures, allowed: 0 };
+        if self.rule.has_reserve {
+            let used = self.rule.size.blocks - self.rule.failures as usize;
+            device.blocks[used..self.rule.size.blocks].iter_mut().for_each(|block| block.is_reserve = true);
+        }
+        let mut put = |place: Place, page: Page| {
+            device.cell_mut(place).now = page;
+            device.cell_mut(place).sure = page;
+        };
+        let bytes = |sector: u8| Page::Holds(Version { first: sector, count: 1, number: sector + 1, value: 1 });
+        let size = self.rule.size;
+        match start {
+            Start::Blank => {}
+            Start::Filled(pages) => {
+                let first = size.places().filter(|(block, page)| *page < pages && block + 1 < size.blocks);
+                let then = size.places().filter(|(block, page)| *page >= pages && block + 1 < size.blocks);
+                size.sectors().zip(first.chain(then)).for_each(|(sector, place)| put(place, bytes(sector)));
+            }
+            Start::Tombstone => {
+                (0..3).for_each(|block| put((block, 1), Page::Unreadable));
+                put((0, 0), Page::Holds(Version { first: 0, count: 3, number: 6, value: 0 }));
+                put((1, 0), bytes(3));
+                put((2, 0), bytes(4));
+            }
+        }
+        let mut device = self.rule.mount(&device)[0];
+        device.allowed = self.now(&device);
+        device
+    }
+
+    /// What a power cut may leave: of each page that isn't sure the old content, the new one, or none.
+    fn cuts(&self, device: &Device) -> Vec<Device> {
+        let mut left = vec![*device];
+        for place in self.rule.size.places() {
+            let cell = *device.cell(place);
+            let mut pages = vec![cell.now.untrusted()];
+            if cell.now != cell.sure {
+                pages.extend([cell.sure.untrusted(), Page::LooksErased, Page::Unreadable]);
+                pages.sort_unstable();
+                pages.dedup();
+            }
+            left = left.iter().flat_map(|device| pages.iter().map(move |page| with(device, place, *page, *page))).collect();
+        }
+        left
+    }
+
+    /// Mounts, and checks what the mount shows.
+    fn mounts(&self, device: &Device, allowed: u32, event: Event, sure: bool, out: &mut Next) -> Result<(), String> {
+        for mut mounted in self.rule.mount(device) {
+            let array = self.rule.array(&mounted);
+            let bits = self.bits(&array);
+            if allowed & bits != bits {
+                return Err(format!("{event}: it shows {:?}, which is not allowed\n{device}", &array[..self.rule.size.sectors]));
+            }
+            if array != self.rule.newest_array(&mounted) {
+                return Err(format!("{event}: the map differs from the newest pages\n{mounted}"));
+            }
+            mounted.allowed = if sure { bits } else { mounted.allowed | bits };
+            out.push((event, mounted));
+        }
+        Ok(())
+    }
+
+    fn cut(&self, device: &Device, event: Event, out: &mut Next) -> Result<(), String> {
+        self.cuts(device).iter().try_for_each(|left| self.mounts(left, device.allowed, event, true, out))
+    }
+
+    fn calls(&self) -> Vec<Version> {
+        let mut calls = vec![];
+        for first in self.rule.size.sectors() {
+            calls.extend((1..=self.values).map(|value| Version { first, count: 1, number: 0, value }));
+            let longest = self.range.min(self.rule.size.sectors as u8 - first);
+            calls.extend((1..=longest).map(|count| Version { first, count, number: 0, value: 0 }));
+        }
+        calls
+    }
+
+    /// The device with what the command puts, not yet sure, and with the calls that a mount may show then.
+    fn put(&self, device: &Device, call: Version, command: Command) -> Device {
+        let mut put = *device;
+        if let Command::Program { .. } = command {
+            put.allowed |= self.bits(&self.rule.after(self.rule.array(device), call));
+        }
+        for (place, page) in self.rule.puts(device, call, command) {
+            put.cell_mut(place).now = page;
+        }
+        put
+    }
+
+    fn before(&self, device: &Device, command: Command) -> Device {
+        let mut device = *device;
+        if matches!(command, Command::Erase { .. }) && !self.is(Wrong::NoSyncBeforeErase) {
+            self.sync(&mut device);
+        }
+        device
+    }
+
+    fn done(&self, put: &Device, call: Version, command: Command) -> Device {
+        let mut done = *put;
+        self.rule.done(&mut done, call, command);
+        let erased = matches!(command, Command::Erase { .. });
+        if self.sync == Sync::Always || (erased && self.sync == Sync::FlushAndAfterErase) {
+            self.sync(&mut done);
+        }
+        done
+    }
+
+    /// Without a fault each run of commands ends the call, and none is refused where there is space.
+    fn ends(&self, device: &Device, depth: usize) -> Result<(), String> {
+        let call = match device.call {
+            Some(call) => call,
+            None => return Ok(()),
+        };
+        if depth > 2 * self.rule.size.blocks * (self.rule.size.pages + 1) {
+            return Err(format!("the call never ends\n{device}"));
+        }
+        for command in self.rule.commands(device, call) {
+            match command {
+                Command::Refused(why) if self.rule.has_space() => return Err(format!("refused though there is space: {why}\n{device}")),
+                Command::Refused(_) => {}
+                _ => {
+                    let put = self.put(&self.before(device, command), call, command);
+                    self.ends(&self.done(&put, call, command), depth + 1)?;
+                }
+            }
+        }
+        Ok(())
+    }
+
+    fn check(&self, device: &Device) -> Result<(), String> {
+        let kept = |sector: u8| self.rule.size.places().filter(|place| device.cell(*place).kept >> sector & 1 == 1).count();
+        if self.rule.size.sectors().any(|sector| kept(sector) > 1) {
+            return Err(format!("a sector is kept twice\n{device}"));
+        }
+        if self.rule.array(device) != self.rule.newest_array(device) && self.rule.wrong.is_none() {
+            return Err(format!("the map differs from the newest pages\n{device}"));
+        }
+        Ok(())
+    }
+
+    fn next(&self, device: &Device) -> Result<Next, String> {
+        let mut out = vec![];
+        self.check(device)?;
+        self.cut(device, Event::CutBetween, &mut out)?;
+        if self.kills {
+            self.mounts(device, self.now(device), Event::KilledBetween, false, &mut out)?;
+        }
+        match device.call {
+            None => self.begin(device, &mut out)?,
+            Some(call) => {
+                for command in self.rule.commands(device, call) {
+                    self.perform(device, call, command, &mut out)?;
+                }
+            }
+        }
+        Ok(out)
+    }
+
+    fn begin(&self, device: &Device, out: &mut Next) -> Result<(), String> {
+        for call in self.calls() {
+            let mut begun = *device;
+            begun.call = Some(call);
+            self.ends(&begun, 0)?;
+            if self.is(Wrong::AcknowledgesEarly) {
+                begun.allowed = self.bits(&self.rule.after(self.rule.array(device), call));
+            }
+            out.push((Event::Begins(call), begun));
+        }
+        if self.sync != Sync::Always {
+            let mut flushed = *device;
+            if self.is(Wrong::FlushesNothing) {
+                flushed.allowed = self.now(device);
+            } else {
+                self.sync(&mut flushed);
+            }
+            out.push((Event::Flushed, flushed));
+        }
+        Ok(())
+    }
+
+    fn perform(&self, device: &Device, call: Version, command: Command, out: &mut Next) -> Result<(), String> {
+        let before = self.before(device, command);
+        for (place, _) in self.rule.puts(&before, call, command) {
+            if before.blocks[place.0].bad {
+                return Err(format!("{command}: the block is bad\n{device}"));
+            }
+            if !matches!(command, Command::Erase { .. }) && before.cell(place).now != Page::Erased {
+                return Err(format!("{command}: the page isn't erased\n{device}"));
+            }
+        }
+        let put = self.put(&before, call, command);
+        self.cut(&put, Event::Cut(command), out)?;
+        let after = self.bits(&self.rule.after(self.rule.array(device), call));
+        let shown = self.now(device) | if matches!(command, Command::Program { .. }) { after } else { 0 };
+        if self.kills {
+            for part in self.parts(&before, &put) {
+                self.mounts(&part, shown, Event::Killed(command), false, out)?;
+            }
+        }
+        if device.failures_left > 0 {
+            self.fail(&before, &put, call, command, shown, out)?;
+        }
+        out.push((Event::Did(command), self.done(&put, call, command)));
+        Ok(())
+    }
+
+    /// What reads may show of a command that ended halfway: each of its pages as before, as after, or torn.
+    fn parts(&self, before: &Device, put: &Device) -> Vec<Device> {
+        let mut parts = vec![*put];
+        for place in self.rule.size.places().filter(|place| before.cell(*place).now != put.cell(*place).now) {
+            let pages = [before.cell(place).now.untrusted(), put.cell(place).now.untrusted(), Page::LooksErased, Page::Unreadable];
+            parts = parts.iter().flat_map(|part| pages.iter().map(move |page| with(part, place, *page, part.cell(place).sure))).collect();
+            parts.dedup();
+        }
+        parts
+    }
+
+    /// A failure marks the block as bad, one in reserve takes its place, and the layer mounts again.
+    fn fail(&self, before: &Device, put: &Device, call: Version, command: Command, shown: u32, out: &mut Next) -> Result<(), String> {
+        let block = match command {
+            Command::Program { block } | Command::Copy { block, .. } | Command::Erase { block } => block,
+            Command::Nothing | Command::Refused(_) => return Ok(()),
+        };
+        for mut part in self.parts(before, put) {
+            part.failures_left -= 1;
+            if self.is(Wrong::FailureIgnored) {
+                out.push((Event::Failed(command), self.done(&part, call, command)));
+                continue;
+            }
+            part.blocks[block].bad = true;
+            if !self.is(Wrong::ReserveForgotten) {
+                part.blocks.iter_mut().filter(|block| block.is_reserve).take(1).for_each(|block| block.is_reserve = false);
+            }
+            if self.sync == Sync::Always {
+                for place in self.rule.size.places() {
+                    let now = part.cell(place).now;
+                    part.cell_mut(place).sure = now;
+                }
+            }
+            self.mounts(&part, shown, Event::Failed(command), self.sync == Sync::Always, out)?;
+        }
+        Ok(())
+    }
+
+    /// Visits states in the order of their distance from the start.
+    pub fn explore(&self, start: Start, limit: usize) -> Outcome {
+        let start = canon::of(self, &self.start(start));
+        let mut parents: HashMap<u128, (u128, Option<Event>), BuildHasherDefault<ByFingerprint>> = HashMap::default();
+        parents.insert(canon::fingerprint(&start), (0, None));
+        let mut queue = VecDeque::from([(start, 0)]);
+        let mut depth = 0;
+        while let Some((device, steps)) = queue.pop_front() {
+            depth = steps;
+            let from = canon::fingerprint(&device);
+            match self.next(&device) {
+                Err(what) => {
+                    let states = parents.len();
+                    let mut events = vec![];
+                    let mut at = from;
+                    while let Some((parent, Some(event))) = parents.get(&at) {
+                        events.push(*event);
+                        at = *parent;
+                    }
+                    events.reverse();
+                    return Outcome::Refused { states, violation: Violation { what, steps: events } };
+                }
+                Ok(next) => {
+                    for (event, device) in next {
+                        let device = canon::of(self, &device);
+                        if let std::collections::hash_map::Entry::Vacant(new) = parents.entry(canon::fingerprint(&device)) {
+                            new.insert((from, Some(event)));
+                            queue.push_back((device, steps + 1));
+                        }
+                    }
+                }
+            }
+            if parents.len() > limit {
+                return Outcome::Limit { states: parents.len() };
+            }
+        }
+        Outcome::Holds { states: parents.len(), depth }
+    }
+}
+
+fn with(device: &Device, place: Place, now: Page, sure: Page) -> Device {
+    let mut device = *device;
+    let cell = device.cell_mut(place);
+    cell.now = now;
+    cell.sure = sure;
+    device
+}
+
+/// A fingerprint is its own hash.
+#[derive(Default, Clone, Copy)]
+pub struct ByFingerprint(u64);
+
+impl Hasher for ByFingerprint {
+    fn finish(&self) -> u64 {
+        self.0
+    }
+
+    fn write(&mut self, _: &[u8]) {
+        unreachable!("keys are numbers")
+    }
+
+    fn write_u128(&mut self, key: u128) {
+        self.0 = key as u64 ^ (key >> 64) as u64;
+    }
+}

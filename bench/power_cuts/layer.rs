@@ -1,0 +1,518 @@
+//! The layer's rule: what a mount keeps, which command comes next, and what its success changes. And rules that are wrong in one point.
+
+use crate::flash::{Block, Device, Page, Place, Size, Version, PAGES, SECTORS};
+use std::fmt;
+
+macro_rules! wrong_rules {
+    ($($(#[$doc:meta])* $name:ident),* $(,)?) => {
+        #[derive(Clone, Copy, PartialEq, Eq, Debug)]
+        pub enum Wrong { $($(#[$doc])* $name),* }
+        pub const WRONG: &[(&str, Wrong)] = &[$((stringify!($name), Wrong::$name)),*];
+    };
+}
+
+wrong_rules! {
+    /// A mount takes the first version of a sector that it finds.
+    FirstFound,
+    /// A mount takes the last one.
+    LastFound,
+    /// Numbers start again at a mount.
+    NumbersStartAgain,
+    /// The next number is above those of kept pages alone.
+    NumberAboveKept,
+    /// A mount goes on with a block that was open.
+    ContinuesOpenBlock,
+    /// A mount opens a block that reads as erased.
+    TrustsErased,
+    /// A mount looks for no block that twins can free.
+    FreesNoBlock,
+    /// A mount chooses between twins sector by sector.
+    TwinBySector,
+    /// A mount reads no bad block.
+    BadBlocksUnread,
+    /// A mount keeps no page of a bad block.
+    BadBlocksDropped,
+    /// A bad block is erased and programmed again.
+    BadBlocksUsed,
+    /// A mount reads a block up to its first page that reads as erased.
+    StopsAtErased,
+    /// A mount reads a block up to its first unreadable page.
+    StopsAtUnreadable,
+    /// A tombstone is dropped at each mount.
+    DropsTombstones,
+    /// A tombstone is dropped if the older bytes stand in its own block alone.
+    OwnBlockUncounted,
+    /// A tombstone is dropped if the older bytes stand in bad blocks alone.
+    BadBlocksUncounted,
+    /// A tombstone is dropped if the older bytes stand in half-erased blocks alone.
+    TornBlocksUncounted,
+    /// A tombstone is dropped once its first sector has no bytes.
+    DropsByFirstSector,
+    /// A trim programs nothing.
+    TrimInMemory,
+    /// A tombstone is not copied.
+    TombstoneNotCopied,
+    /// A block is erased that keeps one page.
+    ErasesEarly,
+    /// A host's write needs no spare block.
+    NoReserve,
+    /// A host's write needs one free block, however many failures may come.
+    OneSpare,
+    /// A block in reserve is used before a block fails.
+    ReserveUsed,
+    /// No block in reserve takes the place of one that fails.
+    ReserveForgotten,
+    /// A copy gets a number of its own.
+    CopyRenumbered,
+    /// A copy gets the number 0.
+    CopyNumberedZero,
+    /// A copy of a tombstone has only the sectors that are kept there.
+    CopyNarrowed,
+    /// A copy of a tombstone has the first sector that is kept there.
+    CopySplit,
+    /// A copy moves one sector of a tombstone.
+    CopyMovesOneSector,
+    /// A tombstone has the first sector of its range alone.
+    RangeFirstSector,
+    /// A tombstone has a sector more.
+    RangeOneMore,
+    /// A write in a tombstone's range ends it for the others.
+    WriteEndsTombstone,
+    /// A call is acknowledged before its program.
+    AcknowledgesEarly,
+    /// A failed program is taken for a success.
+    FailureIgnored,
+    /// Nothing is synced before an erase.
+    NoSyncBeforeErase,
+    /// The host's flush does nothing.
+    FlushesNothing,
+}
+
+/// Which blocks a mount leaves empty, where the pages that it would keep there have twins elsewhere.
+#[derive(Clone, Copy, PartialEq, Eq, Debug)]
+pub enum Freed {
+    /// A set with the most blocks.
+    Most,
+    /// One block after the other, those with the fewest newest pages first.
+    FewestFirst,
+    /// One block.
+    One,
+    /// A set that no other contains.
+    Maximal,
+}
+
+#[derive(Clone, Copy, PartialEq, Eq, Debug)]
+pub enum Command {
+    Program {
+        block: usize,
+    },
+    Copy {
+        from: Place,
+        block: usize,
+    },
+    Erase {
+        block: usize,
+    },
+    /// A trim of sectors that are empty.
+    Nothing,
+    Refused(&'static str),
+}
+
+impl fmt::Display for Command {
+    fn fmt(&self, f: &mut fmt::Formatter) -> fmt::Result {
+        match self {
+            Command::Program { block } => write!(f, "program in block {block}"),
+            Command::Copy { from, block } => write!(f, "copy of page {} of block {} to block {block}", from.1, from.0),
+            Command::Erase { block } => write!(f, "erase of block {block}"),
+            Command::Nothing => write!(f, "nothing to trim"),
+            Command::Refused(why) => write!(f, "refused: {why}"),
+        }
+    }
+}
+
+#[derive(Clone, Copy, Debug)]
+pub struct Rule {
+    pub size: Size,
+    pub failures: u8,
+    /// As many blocks are in reserve, in place of free blocks that a host's write leaves.
+    pub has_reserve: bool,
+    pub freed: Freed,
+    pub drops_tombstones: bool,
+    /// A mount reads each block up to its first page that is no version.
+    pub reads_to_gap: bool,
+    pub wrong: Option<Wrong>,
+}
+
+/// The value of each sector, 0 for an empty one.
+pub type Array = [u8; SECTORS];
+
+impl Rule {
+    pub fn is(&self, wrong: Wrong) -> bool {
+        self.wrong == Some(wrong)
+    }
+
+    /// Whether the sectors fit beside all failures that may come: then no call may be refused.
+    pub fn has_space(&self) -> bool {
+        self.size.sectors < (self.size.blocks - 1 - self.failures as usize) * self.size.pages
+    }
+
+    fn covers(&self, version: Version, sector: u8) -> bool {
+        if self.is(Wrong::RangeFirstSector) {
+            return version.first == sector;
+        }
+        version.covers(sector) || (self.is(Wrong::RangeOneMore) && !version.has_bytes() && sector == version.first + version.count)
+    }
+
+    /// The versions that a mount reads in a block.
+    fn read(&self, block: &Block) -> [Option<Version>; PAGES] {
+        let mut seen = [None; PAGES];
+        if self.is(Wrong::BadBlocksUnread) && block.bad {
+            return seen;
+        }
+        for (page, cell) in block.cells[..self.size.pages].iter().enumerate() {
+            let stops = match cell.now {
+                Page::Holds(_) => false,
+                Page::Unreadable => self.reads_to_gap || self.is(Wrong::StopsAtUnreadable),
+                Page::Erased | Page::LooksErased => self.reads_to_gap || self.is(Wrong::StopsAtErased),
+            };
+            if stops {
+                break;
+            }
+            seen[page] = cell.now.version();
+        }
+        seen
+    }
+
+    fn versions(&self, device: &Device) -> Vec<(Place, Version)> {
+        let mut all = vec![];
+        for block in 0..self.size.blocks {
+            for (page, version) in self.read(&device.blocks[block]).into_iter().enumerate() {
+                all.extend(version.map(|version| ((block, page), version)));
+            }
+        }
+        all
+    }
+
+    /// The array by the pages that the layer keeps.
+    pub fn array(&self, device: &Device) -> Array {
+        let mut array = [0; SECTORS];
+        for place in self.size.places() {
+            let cell = device.cell(place);
+            for sector in self.size.sectors().filter(|sector| cell.kept >> sector & 1 == 1) {
+                array[sector as usize] = cell.now.version().map_or(0, |version| version.value);
+            }
+        }
+        array
+    }
+
+    /// The array by the definition: of each sector, the version with the greatest number.
+    pub fn newest_array(&self, device: &Device) -> Array {
+        let versions = self.versions(device);
+        let mut array = [0; SECTORS];
+        for sector in self.size.sectors() {
+            let newest = versions.iter().filter(|(_, version)| self.covers(*version, sector)).max_by_key(|(_, version)| version.number);
+            array[sector as usize] = newest.map_or(0, |(_, version)| version.value);
+        }
+        array
+    }
+
+    pub fn after(&self, mut array: Array, call: Version) -> Array {
+        for sector in call.sectors() {
+            array[sector as usize] = call.value;
+        }
+        array
+    }
+
+    /// The states that a mount may lead to: several where it may choose.
+    pub fn mount(&self, device: &Device) -> Vec<Device> {
+        let mut base = *device;
+        base.call = None;
+        for block in base.blocks.iter_mut() {
+            block.open = None;
+            for cell in block.cells.iter_mut() {
+                *cell = crate::flash::Cell { now: cell.now.untrusted(), sure: cell.sure.untrusted(), kept: 0 };
+            }
+        }
+        let versions = self.versions(&base);
+        let numbers = versions.iter().map(|(_, version)| version.number);
+        base.next_number = if self.is(Wrong::NumbersStartAgain) { 1 } else { numbers.max().unwrap_or(0) + 1 };
+        let found: Vec<Vec<Place>> = self.size.sectors().map(|sector| self.found(&base, &versions, sector)).collect();
+        let mut mounted = vec![];
+        for freed in self.sets_to_free(&base, &found) {
+            let device = self.keep(&base, &found, freed);
+            if !mounted.contains(&device) {
+                mounted.push(device);
+            }
+        }
+        mounted
+    }
+
+    /// The pages with the newest version of a sector; none where it needs no page.
+    fn found(&self, device: &Device, versions: &[(Place, Version)], sector: u8) -> Vec<Place> {
+        let mut of_sector = versions.iter().filter(|(_, version)| self.covers(*version, sector));
+        let newest = match self.wrong {
+            Some(Wrong::FirstFound) => of_sector.next(),
+            Some(Wrong::LastFound) => of_sector.last(),
+            _ => of_sector.max_by_key(|(_, version)| version.number),
+        };
+        let (place, newest) = match newest {
+            Some(found) => *found,
+            None => return vec![],
+        };
+        let mut twins: Vec<Place> = versions.iter().filter(|(_, version)| *version == newest).map(|(place, _)| *place).collect();
+        if matches!(self.wrong, Some(Wrong::FirstFound | Wrong::LastFound | Wrong::FreesNoBlock)) {
+            twins = vec![place];
+        }
+        if twins.iter().all(|place| self.may_drop(device, versions, sector, *place, newest)) {
+            twins.clear();
+        }
+        twins
+    }
+
+    /// Whether a tombstone isn't needed for a sector: no readable page has bytes of it.
+    fn may_drop(&self, device: &Device, versions: &[(Place, Version)], sector: u8, place: Place, tombstone: Version) -> bool {
+        if tombstone.has_bytes() || !self.drops_tombstones {
+            return false;
+        }
+        let sector = if self.is(Wrong::DropsByFirstSector) { tombstone.first } else { sector };
+        let counts = |block: usize| match self.wrong {
+            Some(Wrong::DropsTombstones) => false,
+            Some(Wrong::OwnBlockUncounted) => block != place.0,
+            Some(Wrong::BadBlocksUncounted) => !device.blocks[block].bad,
+            Some(Wrong::TornBlocksUncounted) => {
+                let pages = &device.blocks[block].cells[..self.size.pages];
+                let readable = pages.iter().rposition(|cell| cell.now.version().is_some());
+                readable.map_or(true, |last| pages[..last].iter().all(|cell| cell.now.version().is_some()))
+            }
+            _ => true,
+        };
+        !versions.iter().any(|((block, _), version)| version.has_bytes() && version.covers(sector) && counts(*block))
+    }
+
+    /// The sets of blocks, a bit for each, one of which a mount leaves without kept pages.
+    fn sets_to_free(&self, device: &Device, found: &[Vec<Place>]) -> Vec<u32> {
+        let frees = |set: u32| {
+            let outside = |twins: &Vec<Place>| twins.is_empty() || twins.iter().any(|twin| set >> twin.0 & 1 == 0);
+            found.iter().all(outside) && (0..self.size.blocks).all(|block| set >> block & 1 == 0 || self.is_used(&device.blocks[block]))
+        };
+        let all: Vec<u32> = (0..1 << self.size.blocks).filter(|set| frees(*set)).collect();
+        let most = all.iter().map(|set| set.count_ones()).max().unwrap_or(0);
+        let chosen: Vec<u32> = match self.freed {
+            Freed::Most => all.iter().copied().filter(|set| set.count_ones() == most).collect(),
+            Freed::One => all.iter().copied().filter(|set| set.count_ones() == 1).collect(),
+            Freed::Maximal => all.iter().copied().filter(|set| !all.iter().any(|other| other != set && other & set == *set)).collect(),
+            Freed::FewestFirst => self.fewest_first(found, frees),
+        };
+        if chosen.is_empty() {
+            vec![0]
+        } else {
+            chosen
+        }
+    }
+
+    fn fewest_first(&self, found: &[Vec<Place>], frees: impl Fn(u32) -> bool) -> Vec<u32> {
+        let newest_pages = |block: usize| {
+            let mut pages: Vec<Place> = found.iter().flatten().copied().filter(|place| place.0 == block).collect();
+            pages.sort_unstable();
+            pages.dedup();
+            pages.len()
+        };
+        let counts: Vec<usize> = (0..self.size.blocks).map(newest_pages).collect();
+        let mut sets = vec![];
+        let mut partial = vec![(0u32, 0u32)];
+        while let Some((set, tried)) = partial.pop() {
+            let rest: Vec<usize> = (0..self.size.blocks).filter(|block| tried >> block & 1 == 0).collect();
+            let fewest = match rest.iter().map(|block| counts[*block]).min() {
+                Some(fewest) => fewest,
+                None => {
+                    sets.push(set);
+                    continue;
+                }
+            };
+            for block in rest.into_iter().filter(|block| counts[*block] == fewest) {
+                let more = set | 1 << block;
+                partial.push((if frees(more) { more } else { set }, tried | 1 << block));
+            }
+        }
+        sets.sort_unstable();
+        sets.dedup();
+        sets
+    }
+
+    fn keep(&self, base: &Device, found: &[Vec<Place>], freed: u32) -> Device {
+        let mut device = *base;
+        for (sector, twins) in found.iter().enumerate() {
+            let chosen = if self.is(Wrong::TwinBySector) && sector % 2 == 1 {
+                twins.last()
+            } else {
+                twins.iter().find(|twin| freed >> twin.0 & 1 == 0).or(twins.first())
+            };
+            let chosen = chosen.filter(|place| !self.is(Wrong::BadBlocksDropped) || !base.blocks[place.0].bad);
+            if let Some(place) = chosen {
+                device.cell_mut(*place).kept |= 1 << sector;
+            }
+        }
+        if self.is(Wrong::NumberAboveKept) {
+            let kept = self.size.places().filter(|place| device.cell(*place).kept != 0);
+            device.next_number = kept.filter_map(|place| device.cell(place).now.version()).map(|v| v.number).max().unwrap_or(0) + 1;
+        }
+        for block in device.blocks[..self.size.blocks].iter_mut().filter(|block| !block.bad && !block.is_reserve) {
+            let used = block.cells[..self.size.pages].iter().rposition(|cell| !cell.now.is_blank()).map_or(0, |last| last + 1);
+            let continues = self.is(Wrong::ContinuesOpenBlock) && used > 0 && used < self.size.pages;
+            if continues || (self.is(Wrong::TrustsErased) && used == 0) {
+                block.open = Some(used as u8);
+                break;
+            }
+        }
+        device
+    }
+
+    /// Whether the block may be erased and programmed.
+    fn is_used(&self, block: &Block) -> bool {
+        (!block.bad || self.is(Wrong::BadBlocksUsed)) && (!block.is_reserve || self.is(Wrong::ReserveUsed))
+    }
+
+    fn is_free(&self, block: &Block) -> bool {
+        block.open.is_none() && self.is_used(block) && block.kept_pages() <= self.is(Wrong::ErasesEarly) as usize
+    }
+
+    /// The commands that may come next for the call under way: several where the rule leaves a choice.
+    pub fn commands(&self, device: &Device, call: Version) -> Vec<Command> {
+        let array = self.array(device);
+        let in_memory = self.is(Wrong::TrimInMemory) && !call.has_bytes();
+        if in_memory || !call.has_bytes() && call.sectors().all(|sector| array[sector as usize] == 0) {
+            return vec![Command::Nothing];
+        }
+        let blocks = || (0..self.size.blocks).map(|number| (number, &device.blocks[number]));
+        let free: Vec<usize> = blocks().filter(|(_, block)| self.is_free(block)).map(|(number, _)| number).collect();
+        let open = match device.open_block() {
+            Some(open) => open,
+            None if free.is_empty() => return vec![Command::Refused("no free block")],
+            None => return free.into_iter().map(|block| Command::Erase { block }).collect(),
+        };
+        let reserve = match self.wrong {
+            Some(Wrong::NoReserve) => 0,
+            Some(Wrong::OneSpare) => 1,
+            _ if self.has_reserve => 1,
+            _ => device.failures_left as usize + 1,
+        };
+        if free.len() >= reserve {
+            return vec![Command::Program { block: open }];
+        }
+        let victims: Vec<(usize, usize)> = blocks()
+            .filter(|(number, block)| *number != open && self.is_used(block) && block.kept_pages() > 0)
+            .map(|(number, block)| (block.kept_pages(), number))
+            .collect();
+        match victims.iter().map(|(count, _)| *count).min() {
+            None if free.is_empty() => vec![Command::Refused("no block to collect")],
+            None => vec![Command::Program { block: open }],
+            Some(fewest) if fewest >= self.size.pages => {
+                vec![Command::Refused("every block is full of kept pages")]
+            }
+            Some(fewest) => victims
+                .into_iter()
+                .filter(|(count, _)| *count == fewest)
+                .map(|(_, victim)| Command::Copy { from: self.first_kept(device, victim), block: open })
+                .collect(),
+        }
+    }
+
+    fn first_kept(&self, device: &Device, block: usize) -> Place {
+        let page = device.blocks[block].cells.iter().position(|cell| cell.kept != 0);
+        (block, page.expect("a victim keeps a page"))
+    }
+
+    /// The version that a copy programs: the same one, with its number.
+    fn copied(&self, device: &Device, from: Place) -> Page {
+        let cell = device.cell(from);
+        let mut version = match cell.now {
+            Page::Holds(version) => version,
+            other => return other,
+        };
+        let range = !version.has_bytes();
+        match self.wrong {
+            Some(Wrong::CopyRenumbered) => version.number = device.next_number,
+            Some(Wrong::CopyNumberedZero) => version.number = 0,
+            Some(Wrong::CopyNarrowed) if range => {
+                version.first = cell.kept.trailing_zeros() as u8;
+                version.count = 8 - cell.kept.leading_zeros() as u8 - version.first;
+            }
+            Some(Wrong::CopySplit) if range => {
+                version.first = cell.kept.trailing_zeros() as u8;
+                version.count = 1;
+            }
+            _ => {}
+        }
+        Page::Holds(version)
+    }
+
+    fn forgets(&self, device: &Device, from: Place) -> bool {
+        self.is(Wrong::TombstoneNotCopied) && device.cell(from).now.version().map_or(false, |version| !version.has_bytes())
+    }
+
+    /// The pages that a command changes, and what it puts there.
+    pub fn puts(&self, device: &Device, call: Version, command: Command) -> Vec<(Place, Page)> {
+        let open = |block: usize| (block, device.blocks[block].open.unwrap_or(0) as usize);
+        match command {
+            Command::Program { block } => vec![(open(block), Page::Holds(Version { number: device.next_number, ..call }))],
+            Command::Copy { from, .. } if self.forgets(device, from) => vec![],
+            Command::Copy { from, block } => vec![(open(block), self.copied(device, from))],
+            Command::Erase { block } => (0..self.size.pages).map(|page| ((block, page), Page::Erased)).collect(),
+            Command::Nothing | Command::Refused(_) => vec![],
+        }
+    }
+
+    /// The layer's memory after a command that succeeded; `device` already has what it put.
+    pub fn done(&self, device: &mut Device, call: Version, command: Command) {
+        match command {
+            Command::Program { block } => {
+                let place = self.use_page(device, block);
+                for other in self.size.places() {
+                    let cell = device.cell_mut(other);
+                    let ends = self.is(Wrong::WriteEndsTombstone) && cell.now.version().map_or(false, |v| !v.has_bytes());
+                    if ends && cell.kept & call.mask() != 0 {
+                        cell.kept = 0;
+                    }
+                    cell.kept &= !call.mask();
+                }
+                device.cell_mut(place).kept = call.mask();
+                device.next_number += 1;
+                device.call = None;
+            }
+            Command::Copy { from, .. } if self.forgets(device, from) => device.cell_mut(from).kept = 0,
+            Command::Copy { from, block } => {
+                let place = self.use_page(device, block);
+                let mut moved = device.cell(from).kept;
+                let range = device.cell(from).now.version().map_or(false, |version| !version.has_bytes());
+                if self.is(Wrong::CopyMovesOneSector) || (self.is(Wrong::CopySplit) && range) {
+                    moved = 1 << moved.trailing_zeros();
+                }
+                device.cell_mut(from).kept &= !moved;
+                device.cell_mut(place).kept = moved;
+                if device.cell(place).now.version().map(|version| version.number) == Some(device.next_number) {
+                    device.next_number += 1;
+                }
+            }
+            Command::Erase { block } => {
+                device.blocks[block].open = Some(0);
+                for cell in device.blocks[block].cells.iter_mut() {
+                    cell.kept = 0;
+                }
+            }
+            Command::Nothing | Command::Refused(_) => {
+                if self.is(Wrong::TrimInMemory) {
+                    for place in self.size.places() {
+                        device.cell_mut(place).kept &= !call.mask();
+                    }
+                }
+                device.call = None;
+            }
+        }
+    }
+
+    fn use_page(&self, device: &mut Device, block: usize) -> Place {
+        let page = device.blocks[block].open.unwrap_or(0);
+        device.blocks[block].open = if page as usize + 1 == self.size.pages { None } else { Some(page + 1) };
+        (block, page as usize)
+    }
+}
