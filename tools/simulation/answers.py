@@ -1,74 +1,79 @@
-"""The answers of a run of `flashplay`, counted, and the kind of each line."""
+"""The answers of a run of `flashplay`: the kind of each line, and the totals."""
 
+import binascii
 from dataclasses import dataclass, field
 
+from .device import RANGES
 from .faults import BROKEN, Fault, LineFault
 from .lines import number_in, numbered_lines, shown
 
-# The answers of each op; a read may also return the page.
-ANSWERS = {
-    b"read": {b"empty"},
-    b"write": {b"empty", b"written", b"worn", b"full"},
-    b"new": {b"empty", b"written", b"worn", b"full"},
-    b"trim": {b"empty", b"written"},
-    b"meet": {b"met"},
-}
-REFUSALS = (b"worn", b"full")
-# The kinds of lines, as bytes: what a line did is all that its time depends on.
-READ_DATA, READ_EMPTY, WRITE_DONE, WRITE_REFUSED, NEW_OF_WRITTEN, TRIM, MEET = range(7)
-KINDS = {
-    (b"read", b"data"): READ_DATA,
-    (b"read", b"empty"): READ_EMPTY,
-    **{(op, answer): WRITE_REFUSED for op in (b"write", b"new") for answer in REFUSALS},
-    # A write of an empty sector that found it written changed nothing.
-    (b"new", b"written"): NEW_OF_WRITTEN,
-    **{(op, b"empty"): WRITE_DONE for op in (b"write", b"new")},
-    (b"write", b"written"): WRITE_DONE,
-    **{(b"trim", answer): TRIM for answer in (b"empty", b"written")},
-    (b"meet", b"met"): MEET,
-}
+# What a line did, by its op and its answer: all that its time depends on. A read may also return a page.
+PAIRS = (
+    "read data", "read empty", "write empty", "write written", "write worn", "write full", "new empty", "new written", "new worn", "new full",
+    "trim empty", "trim written", "meet met",
+)  # fmt: skip
+KINDS = {tuple(pair.encode().split()): kind for kind, pair in enumerate(PAIRS)}
+OPS = {op for op, _ in KINDS}
+READ_DATA, READ_EMPTY, FIRST_WRITE, NEW_WRITTEN, LAST_WRITE, MEET = (PAIRS.index(pair) for pair in (
+    "read data", "read empty", "write empty", "new written", "new full", "meet met",
+))  # fmt: skip
+# A `new` of a written sector changes nothing.
+DONE = tuple(PAIRS.index(pair) for pair in ("write empty", "write written", "new empty"))
+REFUSED = tuple(PAIRS.index(pair) for pair in ("write worn", "write full", "new worn", "new full"))
 # The totals of a run by one thread; a run by workers ends with only the first of these words.
 TOTALS = (b"end", b"programs", b"copies", b"erases")
+MOST_COPIES_OF_AN_ERASE = RANGES["pages"].most
 
 
 @dataclass
 class Answers:
-    """How many lines of each op gave each answer; the kind of each; the pages of the reads; and the totals, if the run has them."""
+    """The kind of each line after the first `before` ones; and the totals of these lines, if they are known."""
 
-    lines: int = 0
-    counts: dict = field(default_factory=dict)
     kinds: bytearray = field(default_factory=bytearray)
-    first_refused: int | None = None
+    before: int = 0
     page_bytes: int | None = None
     quiet: bool = False
     programs: int | None = None
     copies: int | None = None
     erases: int | None = None
 
-    def count(self, op, answer):
-        return self.counts.get((op.encode(), answer.encode()), 0)
+    @property
+    def lines(self) -> int:
+        return len(self.kinds)
 
-    def accepted_writes(self):
-        """Writes that were done."""
-        return sum(count for key, count in self.counts.items() if KINDS[key] == WRITE_DONE)
+    @property
+    def last(self) -> int:
+        """The number of the last line."""
+        return self.before + len(self.kinds)
 
-    def refused_writes(self):
-        return sum(self.count(op, answer.decode()) for op in ("write", "new") for answer in REFUSALS)
+    def count(self, *pairs: str) -> int:
+        return sum(self.kinds.count(PAIRS.index(pair)) for pair in pairs)
 
-    def programs_at(self, line):
+    def accepted_writes(self) -> int:
+        return sum(map(self.kinds.count, DONE))
+
+    def refused_writes(self) -> int:
+        return sum(map(self.kinds.count, REFUSED))
+
+    def first_refused(self) -> int | None:
+        """The number of the first line that was refused."""
+        found = [place for place in map(self.kinds.find, REFUSED) if place >= 0]
+        return self.before + 1 + min(found) if found else None
+
+    def programs_at(self, line: int) -> bool:
         """Whether a line, counted from 1, is a write that was done."""
-        return 0 < line <= self.lines and self.kinds[line - 1] == WRITE_DONE
+        return self.before < line <= self.last and self.kinds[line - 1 - self.before] in DONE
 
-    def programs_within(self, before, end):
+    def programs_within(self, before: int, end: int) -> int:
         """The writes that were done after line `before`, up to line `end`."""
-        return self.kinds.count(WRITE_DONE, before, end)
+        return sum(self.kinds.count(kind, before - self.before, end - self.before) for kind in DONE)
 
-    def write_amplification(self):
+    def write_amplification(self) -> float | None:
         """Pages programmed, for writes and for copies, divided by the pages programmed for writes."""
         return (self.programs + self.copies) / self.programs if self.programs else None
 
 
-def read_answers(source):
+def read_answers(source) -> Answers:
     """Reads the answers of a whole run, and counts them. They may be only the last line."""
     answers = Answers()
     ended = False
@@ -79,49 +84,53 @@ def read_answers(source):
             _end(answers, number, line)
             ended = True
         else:
-            _count(answers, number, line)
+            answers.kinds.append(_kind(answers, number, line))
     if not ended:
         raise Fault(f"the answers don't end with a line `end`: they are cut short after line {answers.lines}", BROKEN)
     return answers
 
 
-def _count(answers, number, line):
+def _kind(answers: Answers, number: int, line: bytes) -> int:
     fields = line.split(b",")
     if len(fields) != 4:
         raise LineFault(number, f"an answer has 4 fields, and this line {len(fields)}")
     counted, op, sector, answer = fields
     if number_in(counted, number, "line number") != number:
         raise LineFault(number, f"it is counted as line {counted.decode()}")
-    if op not in ANSWERS:
+    if op not in OPS:
         raise LineFault(number, f"{shown(op)} isn't an op")
-    number_in(sector, number, "sector")
-    if answer not in ANSWERS[op]:
-        answer = _page(answers, number, op, answer)
-    key = op, answer
-    answers.counts[key] = answers.counts.get(key, 0) + 1
-    answers.kinds.append(KINDS[key])
-    answers.lines = number
-    if answers.first_refused is None and answer in REFUSALS:
-        answers.first_refused = number
+    # The last sector has a number below that of all sectors.
+    if number_in(sector, number, "sector") >= RANGES["sectors"].most:
+        raise LineFault(number, f"the sector {int(sector):,} isn't one of the {RANGES['sectors'].most:,} that a device may have")
+    kind = KINDS.get((op, answer))
+    return _page(answers, number, op, answer) if kind is None or kind == READ_DATA else kind
 
 
-def _page(answers, number, op, digits):
-    if op != b"read" or len(digits) % 16 or not digits:
+def _page(answers: Answers, number: int, op: bytes, digits: bytes) -> int:
+    try:
+        page = binascii.unhexlify(digits)
+    except binascii.Error:
+        page = b""
+    if op != b"read" or not page or len(page) % 8:
         raise LineFault(number, f"{shown(digits)} isn't an answer of a {op.decode()}")
     if answers.page_bytes is None:
-        answers.page_bytes = len(digits) // 2
-    if len(digits) != 2 * answers.page_bytes:
-        raise LineFault(number, f"a page of {len(digits) // 2} bytes, but others have {answers.page_bytes}")
-    return b"data"
+        answers.page_bytes = len(page)
+    if len(page) != answers.page_bytes:
+        raise LineFault(number, f"a page of {len(page)} bytes, but others have {answers.page_bytes}")
+    return READ_DATA
 
 
-def _end(answers, number, line):
+def _end(answers: Answers, number: int, line: bytes):
     fields = line.split(b",")
     if fields[0] != b"end" or len(fields) not in (1, len(TOTALS)):
         raise LineFault(number, f"{shown(line)} isn't a last line")
-    if len(fields) == len(TOTALS):
-        names = (name.decode() for name in TOTALS[1:])
-        answers.programs, answers.copies, answers.erases = (number_in(text, number, name) for text, name in zip(fields[1:], names))
-        answers.quiet = answers.lines == 0 and answers.programs > 0
-        if not answers.quiet and answers.programs != answers.accepted_writes():
-            raise LineFault(number, f"{answers.programs:,} programs, where {answers.accepted_writes():,} writes were accepted")
+    if len(fields) == 1:
+        return
+    names = (name.decode() for name in TOTALS[1:])
+    answers.programs, answers.copies, answers.erases = (number_in(text, number, name) for text, name in zip(fields[1:], names))
+    answers.quiet = answers.lines == 0 and answers.programs > 0
+    if not answers.quiet and answers.programs != answers.accepted_writes():
+        raise LineFault(number, f"{answers.programs:,} programs, where {answers.accepted_writes():,} writes were accepted")
+    # A write erases one block at most, and before that copies the pages of that block.
+    if answers.erases > answers.programs or answers.copies > answers.erases * MOST_COPIES_OF_AN_ERASE:
+        raise LineFault(number, f"no run has {answers.copies:,} copies and {answers.erases:,} erases for {answers.programs:,} programs")

@@ -1,49 +1,50 @@
 """Arrival times: a line for each line of a trace, in microseconds with at most three digits after the point. In the tools they are
-whole nanoseconds."""
+whole nanoseconds. A time with a plus counts from the moment at which all lines without one are done."""
 
 import math
 import random
 import re
+from dataclasses import dataclass
 
 from .faults import Fault, LineFault
 from .lines import shown
+from .traces import Column
 
 NANOSECONDS = 1_000
+# A time has at most 12 digits before the point.
+TIMES = 10**12 * NANOSECONDS
 CHUNK = 1 << 20
-LINES = re.compile(rb"(?:\d{1,12}(?:\.\d{1,3})?\n)*")
-LINE = re.compile(rb"\d{1,12}(?:\.\d{1,3})?")
+LINES = re.compile(rb"(?:\+?\d{1,12}(?:\.\d{1,3})?\n)*")
+LINE = re.compile(rb"\+?\d{1,12}(?:\.\d{1,3})?")
 
 
-class ArrivalsWriter:
+def text_of(time: int) -> bytes:
+    return b"%d.%03d\n" % divmod(time, NANOSECONDS)
+
+
+class ArrivalsWriter(Column):
     """Writes the arrival of each line of a trace, at the times that an iterator yields."""
 
     def __init__(self, sink, times):
-        self._sink = sink
+        super().__init__(sink)
         self._times = iter(times)
-        self._waiting = []
 
-    def put(self):
-        self._waiting.append(b"%d.%03d\n" % divmod(next(self._times), NANOSECONDS))
-        if len(self._waiting) == 4096:
-            self.flush()
-
-    def flush(self):
-        self._sink.write(b"".join(self._waiting))
-        self._sink.flush()
-        self._waiting.clear()
+    def line(self) -> bytes:
+        time = next(self._times)
+        if time >= TIMES:
+            raise Fault(f"a line would arrive after {time // NANOSECONDS:,} µs, and a time has at most 12 digits")
+        return text_of(time)
 
 
-class Clock:
-    """The time of the request whose lines are being written, since that of the first one."""
+class Clock(ArrivalsWriter):
+    """Writes the time of the request whose lines are being written, since that of the first one."""
 
-    def __init__(self):
+    def __init__(self, sink):
+        super().__init__(sink, iter(self._since, None))
         self._first = self._now = None
         self._line = 0
 
-    def __iter__(self):
-        return self
-
-    def __next__(self) -> int:
+    def _since(self) -> int:
         return self._now - self._first
 
     def turn(self, request):
@@ -76,22 +77,46 @@ def _exponential(seeded, mean):
         yield round(now)
 
 
-def read_arrivals(source):
+@dataclass
+class Arrivals:
+    """The times of the lines; those from `drained` on count from the moment at which the lines before are done."""
+
+    times: object
+    drained: int
+
+
+def read_arrivals(source) -> Arrivals:
     """The times, none before the one that precedes it."""
     import numpy
 
-    parts, line, rest = [], 0, b""
+    parts, line, rest, first = [], 0, b"", None
     while piece := source.read(CHUNK):
         whole, mark, rest = (rest + piece).replace(b"\r\n", b"\n").rpartition(b"\n")
+        first = _first_plus(whole + mark, line, first)
         parts.append(_times(numpy, whole + mark, line))
         line += len(parts[-1])
     if rest:
+        first = _first_plus(rest + b"\n", line, first)
         parts.append(_times(numpy, rest + b"\n", line))
     times = numpy.concatenate(parts) if parts else numpy.zeros(0, dtype=numpy.int64)
+    drained = len(times) if first is None else first
     backwards = numpy.flatnonzero(times[1:] < times[:-1])
+    backwards = backwards[backwards != drained - 1]
     if len(backwards):
         raise LineFault(int(backwards[0]) + 2, "an arrival before that of the line before it")
-    return times
+    return Arrivals(times, drained)
+
+
+def _first_plus(text: bytes, before: int, first):
+    """The first line with a plus, counted from 0, if there is one; all that follow have one too."""
+    if first is None and b"+" not in text:
+        return None
+    for number, line in enumerate(text.split(b"\n")[:-1], before):
+        if first is None and line.startswith(b"+"):
+            first = number
+        if first is not None and not line.startswith(b"+"):
+            raise LineFault(number + 1, f"{shown(line)} has no plus, and a line before it has one")
+    return first
 
 
 def _times(numpy, text, before):

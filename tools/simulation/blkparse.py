@@ -4,9 +4,11 @@ import re
 
 from .faults import LineFault
 from .lines import number_in, shown
+from .numbers import OFFSET, TIMESTAMP, Number
 from .requests import READ, TRIM, WRITE, PassedOver, Request
 
 SECTOR_BYTES = 512
+SECTORS = Number(0, OFFSET.most // SECTOR_BYTES)
 SECOND = 1_000_000_000
 EVENT = re.compile(rb"\s*\d+,\d+\s")
 # The counts that follow the events: of each processor, of a device, and of all.
@@ -47,7 +49,7 @@ def _event(line, text, wanted):
 
 def _nanoseconds(time, line):
     """Seconds with nine digits after the point are nanoseconds without it."""
-    number_in(time.replace(b".", b"", 1), line, "time")
+    number_in(time.replace(b".", b"", 1), line, "time", TIMESTAMP)
     seconds, _, rest = time.partition(b".")
     return int(seconds or b"0") * SECOND + int(rest[:9].ljust(9, b"0"))
 
@@ -65,5 +67,5 @@ def _of_kind(line, device, action, kind, rest, time):
         raise LineFault(line, "the event is cut short")
     if action == COMPLETE and rest[-1] != b"[0]":
         return PassedOver("failed request")
-    sector, count = number_in(rest[0], line, "sector"), number_in(rest[2], line, "count")
+    sector, count = (number_in(field, line, what, SECTORS) for field, what in ((rest[0], "sector"), (rest[2], "count")))
     return Request(line, op, device, sector * SECTOR_BYTES, count * SECTOR_BYTES, time)

@@ -1,14 +1,24 @@
 """The log of collections of a run by one thread, as `flashplay --collections` writes it; or what each broom of a run by workers did."""
 
+import bisect
 from array import array
-from dataclasses import dataclass, field, fields
+from dataclasses import dataclass, field, fields, replace
 
+from .device import RANGES
 from .faults import BROKEN, Fault, LineFault
 from .lines import number_in, numbered_lines, shown
+from .numbers import LINE, Number
 
 HEAD = b"line,victim,copied,copybacks,erases,outcome"
 BROOMS_HEAD = b"broom,drained,moved,programmed,erased,kept,retired,lost,pinned,stale,idle"
 FREED, RETIRED = b"freed", b"retired"
+FIELDS = {
+    "line": LINE,
+    "victim": Number(0, RANGES["blocks"].most - 1),
+    "copied": Number(0, RANGES["pages"].most),
+    "copybacks": Number(0, RANGES["pages"].most),
+    "erases": Number(0, RANGES["endurance"].most),
+}
 
 
 def _column() -> array:
@@ -28,6 +38,11 @@ class Collections:
 
     def __len__(self) -> int:
         return len(self.lines)
+
+    def from_line(self, first: int) -> "Collections":
+        """The collections at a line or behind it."""
+        place = bisect.bisect_left(self.lines, first)
+        return Collections(*(getattr(self, column.name)[place:] for column in fields(self)[:-1]), retired=self.retired)
 
 
 @dataclass
@@ -72,7 +87,7 @@ def _add(log: Collections, number: int, line: bytes):
     if len(parts) != 6:
         raise LineFault(number, f"a collection has 6 fields, and this line has {len(parts)}")
     *parts, outcome = parts
-    cause, victim, copied, copybacks, erases = (number_in(text, number, name) for text, name in zip(parts, HEAD.decode().split(",")))
+    cause, victim, copied, copybacks, erases = (number_in(text, number, name, wanted) for text, (name, wanted) in zip(parts, FIELDS.items()))
     if log.retired:
         raise LineFault(number, "a collection after the one that retired its victim, which left no spare")
     if log.lines and cause <= log.lines[-1]:
@@ -111,6 +126,16 @@ def check(log: Collections, answers):
     for number, line in enumerate(log.lines, 2):
         if not answers.quiet and not answers.programs_at(line):
             raise Fault(f"line {number} of the log: line {line:,} of the answers isn't a write that was done: they are of two runs", BROKEN)
+
+
+def with_brooms(answers, brooms: list):
+    """The answers of a run by workers, with the pages that its writes and its brooms programmed, and the erases of these. A `new` that
+    finds its sector written has programmed a page before."""
+    programs = answers.accepted_writes() + answers.count("new written")
+    copies, erased = sum(broom.programmed for broom in brooms), sum(broom.erased for broom in brooms)
+    if answers.erases is not None:
+        raise Fault("the log is of brooms, and the answers are of a run by one thread: they are of two runs", BROKEN)
+    return replace(answers, programs=programs, copies=copies, erases=erased)
 
 
 def _total(number) -> str:

@@ -6,13 +6,24 @@ import pathlib
 import subprocess
 from dataclasses import dataclass
 
-from .faults import Fault
+from .faults import ARGUMENTS, Fault
+from .numbers import Number
 
 TOP = pathlib.Path(__file__).resolve().parents[2]
 # The program that plays: the repository's launcher, or what the environment names in its place.
 LAUNCHER = os.environ.get("FLASHPLAY") or str(TOP / "flashplay")
 # The options of flashplay and their defaults.
 DEFAULTS = {"luns": 1, "blocks": 64, "pages": 64, "words": 64, "sectors": 3072, "endurance": 1000}
+RANGES = {
+    "luns": Number(1, 8),
+    "blocks": Number(3, 4096),
+    "pages": Number(1, 16_384),
+    "words": Number(1, 512),
+    "sectors": Number(1, 1_048_576),
+    "endurance": Number(1, 1_000_000),
+}
+# The sectors, the blocks, and the words of all pages with one more for each page, are at most as many.
+MOST_WORDS = 16_777_216
 READ_AT_ONCE = 1 << 20
 
 
@@ -27,9 +38,9 @@ class Totals:
     worn: int
 
 
-def add_options(parser):
+def add_options(parser, ranges=RANGES):
     for name, default in DEFAULTS.items():
-        parser.add_argument(f"--{name}", type=int, metavar="N", help=f"as for flashplay ({default})")
+        parser.add_argument(f"--{name}", type=ranges[name], metavar="N", help=f"as for flashplay ({default})")
 
 
 def numbers_of(options):
@@ -43,11 +54,67 @@ def is_named(options):
     return any(getattr(options, name) is not None for name in DEFAULTS)
 
 
+def pages_of(numbers) -> int:
+    return numbers["blocks"] * numbers["pages"]
+
+
+def over_provisioning(numbers) -> float:
+    """The pages beyond the sectors, in percent of the sectors."""
+    return 100 * (pages_of(numbers) - numbers["sectors"]) / numbers["sectors"]
+
+
 def shown(numbers):
     """A device as a title names it."""
     luns = f"{numbers['luns']:,} LUNs, " if numbers["luns"] > 1 else ""
-    percent = 100 * numbers["sectors"] / (numbers["blocks"] * numbers["pages"])
+    percent = 100 * numbers["sectors"] / pages_of(numbers)
     return f"{luns}{numbers['blocks']:,} blocks of {numbers['pages']:,} pages, {numbers['sectors']:,} sectors ({percent:.3g} %)"
+
+
+def fault_of(numbers, shared=False) -> str | None:
+    """Why these numbers make no device for one thread: what was given, the limit, and the nearest device. None if they make one. A
+    shared device may have one sector more."""
+    luns, blocks, pages, words, sectors, _ = (numbers[name] for name in RANGES)
+    for name, wanted in RANGES.items():
+        if numbers[name] not in wanted:
+            nearest = min(max(numbers[name], wanted.least), wanted.most)
+            return f"{numbers[name]:,} {name}: a device has {wanted.least:,} to {wanted.most:,}, and the nearest has {nearest:,}"
+    if blocks % luns:
+        fewer, more = blocks // luns * luns, -(-blocks // luns) * luns
+        return f"{blocks:,} blocks aren't a multiple of {luns} LUNs: the nearest are {fewer:,} and {more:,} blocks"
+    taken = sectors + blocks + pages_of(numbers) * (words + 1)
+    if taken > MOST_WORDS:
+        return f"{taken:,} words of memory, and a device has at most {MOST_WORDS:,}: {_smaller(numbers)}"
+    if sectors >= (blocks - 1) * pages + shared:
+        return f"{sectors:,} sectors, and {blocks:,} blocks of {pages:,} pages take at most {(blocks - 1) * pages - 1:,}: {_more_blocks(numbers)}"
+    return None
+
+
+def _smaller(numbers) -> str:
+    pages, rest = pages_of(numbers), MOST_WORDS - numbers["sectors"] - numbers["blocks"]
+    if rest >= 2 * pages:
+        return f"--words {rest // pages - 1} fits, and the same pages are programmed, copied and erased with fewer words"
+    luns, of_a_block = numbers["luns"], 1 + 2 * numbers["pages"]
+    blocks = (MOST_WORDS - numbers["sectors"]) // of_a_block // luns * luns
+    return f"with --words 1 as many as {blocks:,} blocks fit"
+
+
+def _more_blocks(numbers) -> str:
+    blocks = fewest_blocks(numbers)
+    if blocks in RANGES["blocks"]:
+        return f"{blocks:,} blocks are enough"
+    return f"{RANGES['blocks'].most:,} blocks need {numbers['sectors'] // (RANGES['blocks'].most - 1) + 1:,} pages each"
+
+
+def fewest_blocks(numbers) -> int:
+    """The fewest blocks for the sectors: one is the spare, and one page more than the sectors is in the others."""
+    blocks, luns = max(RANGES["blocks"].least, numbers["sectors"] // numbers["pages"] + 2), numbers["luns"]
+    return -(-blocks // luns) * luns
+
+
+def check(numbers, shared=False):
+    """Refuses numbers that make no device."""
+    if fault := fault_of(numbers, shared):
+        raise Fault(f"no device has {fault}", ARGUMENTS)
 
 
 def words_of(device):

@@ -2,6 +2,7 @@
 
 from .faults import Fault, LineFault
 from .lines import number_in, shown
+from .numbers import OFFSET, TIMESTAMP
 from .requests import READ, TRIM, WRITE, PassedOver, Request
 
 VERSIONS = {b"fio version 2 iolog": 2, b"fio version 3 iolog": 3}
@@ -25,7 +26,7 @@ def requests(lines, timed=False):
             continue
         if line.strip() in VERSIONS:
             raise LineFault(number, "a second iolog begins here, as if two jobs wrote into one file: convert each by itself")
-        time = number_in(fields.pop(0), number, "timestamp") * MICROSECOND if version == 3 else None
+        time = number_in(fields.pop(0), number, "timestamp", TIMESTAMP) * MICROSECOND if version == 3 else None
         yield _request(number, fields, time)
 
 
@@ -42,4 +43,5 @@ def _request(line, fields, time):
         return PassedOver("file action" if action in FILE_ACTIONS else action.decode())
     if len(numbers) != 2:
         raise LineFault(line, f"a {op} has an offset and a length, and this one {len(numbers)} numbers")
-    return Request(line, op, name, number_in(numbers[0], line, "offset"), number_in(numbers[1], line, "length"), time)
+    offset, length = (number_in(field, line, what, OFFSET) for field, what in zip(numbers, ("offset", "length")))
+    return Request(line, op, name, offset, length, time)

@@ -9,7 +9,7 @@ import sys
 import threading
 import zlib
 
-from .faults import BROKEN, Fault
+from .faults import BROKEN, Fault, LineFault
 
 GZIP, ZSTD = b"\x1f\x8b", b"\x28\xb5\x2f\xfd"
 OTHERS = {b"BZh": "bzip2", b"\xfd7zXZ": "xz", b"PK\x03\x04": "zip"}
@@ -20,12 +20,28 @@ def name_of(path) -> str:
     return "standard input" if path == "-" else str(path)
 
 
+def standard_input():
+    """The bytes of standard input, which the caller may have closed."""
+    if sys.stdin is None:
+        raise Fault("standard input is closed")
+    return sys.stdin.buffer
+
+
 @contextlib.contextmanager
 def opened(path):
     """The bytes of a file, or of standard input for `-`, as they were before they were compressed."""
     with contextlib.ExitStack() as stack:
-        source = sys.stdin.buffer if path == "-" else stack.enter_context(open(path, "rb"))
+        source = standard_input() if path == "-" else stack.enter_context(open(path, "rb"))
         yield stack.enter_context(_plain(source, name_of(path)))
+
+
+def read(path, reader):
+    """The result of a reader of a file; a fault names the file."""
+    try:
+        with opened(path) as source:
+            return reader(source)
+    except LineFault as fault:
+        raise Fault(f"{name_of(path)}: {fault}", fault.status)
 
 
 @contextlib.contextmanager

@@ -1,5 +1,6 @@
 """Lines of a text, one at a time, with their numbers from 1."""
 
+from . import numbers
 from .faults import LineFault
 
 LONGEST = 65_536
@@ -15,14 +16,13 @@ def numbered_lines(source):
         yield number, line.rstrip(b"\r\n")
 
 
-def number_in(field, line, what):
-    """A field as a whole number."""
-    if field.isdigit() and len(field) <= 20:
-        return int(field)
-    raise LineFault(line, f"the {what} {shown(field)} isn't a whole number")
+def number_in(field: bytes, line: int, what: str, wanted=numbers.COUNT) -> int:
+    """A field as a whole number within its range."""
+    if field.isdigit() and len(field) <= 20 and (number := int(field)) in wanted:
+        return number
+    raise LineFault(line, f"the {what} {shown(field)} isn't {wanted.told()}")
 
 
-def shown(field):
+def shown(field: bytes) -> str:
     """A field as a message shows it."""
-    text = field.decode("utf-8", "backslashreplace")
-    return repr(text if len(text) <= 40 else text[:37] + "...")
+    return numbers.shown(field.decode("utf-8", "backslashreplace"))

@@ -3,44 +3,52 @@
 import argparse
 import bisect
 import itertools
-import math
 from array import array
 
 from . import traces
+from .device import RANGES
+from .numbers import LINE_COUNT, PERCENT, Number
+
+
+KINDS = ("uniform", "sequential", "zipf", "hot-cold")
+EXPONENT = Number(0, 10, whole=False)
+DATA_BYTES = Number(1, 8 * RANGES["words"].most)
+SEED = Number(0, 2**63 - 1)
+RATE, INTERVAL = Number(0.001, 1_000_000_000, whole=False), Number(0.001, 1_000_000_000, whole=False)
 
 
 def add_options(parser, sized=True):
     """The options of `trace make`; without `sized` the caller passes the sectors and the lines."""
-    parser.add_argument("kind", choices=("uniform", "sequential", "zipf", "hot-cold"), help="which sectors the lines name")
+    parser.add_argument("kind", choices=KINDS, help="which sectors the lines name")
     if sized:
-        parser.add_argument("--sectors", type=int, required=True, metavar="N", help="sectors of the device")
-        parser.add_argument("--lines", type=int, required=True, metavar="N", help="lines, without those of --fill")
+        parser.add_argument("--sectors", type=RANGES["sectors"], required=True, metavar="N", help="sectors of the device")
+        parser.add_argument("--lines", type=LINE_COUNT, required=True, metavar="N", help="lines, without those of --fill")
     parser.add_argument("--fill", action="store_true", help="write each sector once, in order, before the lines")
-    parser.add_argument("--reads", type=float, default=0, metavar="PERCENT", help="share of the lines that are reads (0); the rest are writes")
-    parser.add_argument("--trims", type=float, default=0, metavar="PERCENT", help="share of the lines that are trims (0)")
-    parser.add_argument("--meets", type=float, default=0, metavar="PERCENT", help="share of the lines at which all workers meet (0)")
-    parser.add_argument("--exponent", type=float, default=0.99, metavar="X", help="zipf: the sector of rank r has a probability proportional to r to the power of -X (0.99)")
-    parser.add_argument("--hot-sectors", type=float, default=20, metavar="PERCENT", help="hot-cold: this share of the sectors, the first ones, is hot (20)")
-    parser.add_argument("--hot-share", type=float, default=80, metavar="PERCENT", help="hot-cold: share of the lines that name a hot sector (80)")
-    parser.add_argument("--uniform-reads", action="store_true", help="reads and trims name all sectors with the same probability; the kind is that of the writes alone")
-    parser.add_argument("--data-bytes", type=int, default=8, metavar="N", help="with --data random: bytes of a write (8)")
-    parser.add_argument("--rate", type=float, metavar="N", help="arrivals: N lines a second, at exponential intervals from the seed")
-    parser.add_argument("--interval", type=float, metavar="US", help="arrivals: one line every US microseconds")
-    parser.add_argument("--seed", type=int, default=1, metavar="N", help="the same seed makes the same trace (1)")
+    parser.add_argument("--reads", type=PERCENT, default=0, metavar="PERCENT", help="share of the lines that are reads (0); the rest are writes")
+    parser.add_argument("--trims", type=PERCENT, default=0, metavar="PERCENT", help="share of the lines that are trims (0)")
+    parser.add_argument("--meets", type=PERCENT, default=0, metavar="PERCENT", help="share of the lines at which all workers meet (0)")
+    exponent = "zipf: the sector of rank r has a probability proportional to r to the power of -X (0.99)"
+    parser.add_argument("--exponent", type=EXPONENT, default=0.99, metavar="X", help=exponent)
+    parser.add_argument("--hot-sectors", type=PERCENT, default=20, metavar="PERCENT", help="hot-cold: this share of the sectors, the first ones, is hot (20)")
+    parser.add_argument("--hot-share", type=PERCENT, default=80, metavar="PERCENT", help="hot-cold: share of the lines that name a hot sector (80)")
+    uniform = "reads and trims name all sectors with the same probability; the kind is that of the writes alone"
+    parser.add_argument("--uniform-reads", action="store_true", help=uniform)
+    parser.add_argument("--data-bytes", type=DATA_BYTES, default=8, metavar="N", help="with --data random: bytes of a write (8)")
+    parser.add_argument("--rate", type=RATE, metavar="N", help="arrivals: N lines a second, at exponential intervals from the seed")
+    parser.add_argument("--interval", type=INTERVAL, metavar="US", help="arrivals: one line every US microseconds")
+    parser.add_argument("--seed", type=SEED, default=1, metavar="N", help="the same seed makes the same trace (1)")
 
 
 def check(options):
     """Raises `argparse.ArgumentTypeError` if no trace can be made by the numbers."""
-    shares = [options.reads, options.trims, options.meets, options.hot_sectors, options.hot_share]
-    if any(not 0 <= share <= 100 for share in shares) or sum(shares[:3]) > 100:
-        raise argparse.ArgumentTypeError("shares are percents from 0 to 100, and those of the ops are 100 together at most")
-    if options.sectors < 1 or options.lines < 0 or options.data_bytes < 1:
-        raise argparse.ArgumentTypeError("sectors and bytes are at least 1, and lines at least 0")
-    times = [time for time in (options.rate, options.interval) if time is not None]
-    if len(times) > 1 or not all(0 < time < math.inf for time in times):
-        raise argparse.ArgumentTypeError("arrivals have a rate or an interval, which is above 0")
+    given = options.reads + options.trims + options.meets
+    if given > 100:
+        raise argparse.ArgumentTypeError(f"--reads, --trims and --meets are {given:g} percent together, and at most 100 are")
+    if options.rate is not None and options.interval is not None:
+        raise argparse.ArgumentTypeError("arrivals have a --rate or an --interval, and not both")
     if options.kind == "hot-cold" and not 0 < hot_count(options) < options.sectors:
-        raise argparse.ArgumentTypeError("with hot-cold at least one sector is hot, and one cold")
+        told = f"--hot-sectors {options.hot_sectors:g} makes {hot_count(options):,} of {options.sectors:,} sectors hot"
+        raise argparse.ArgumentTypeError(f"{told}, and at least one is hot, and one cold")
 
 
 def make(options, random, writer):

@@ -6,12 +6,15 @@ import io
 import re
 from dataclasses import dataclass, field
 
+from .device import MOST_WORDS, RANGES
 from .faults import ARGUMENTS, Fault, LineFault
+from .numbers import TRACE_BYTES, Number
 
 # What docs/FORMATS.md says of traces and devices.
-LONGEST_TRACE, WORKERS, WORDS = 268_435_456, 500, 16_777_216
+WORKERS = 500
 OPS = ("read", "write", "new", "trim", "meet")
-RANGES = {"luns": (1, 8), "blocks": (3, 4096), "pages": (1, 16384), "words": (1, 512), "sectors": (1, 1_048_576), "endurance": (1, 1_000_000)}
+# What the program reads as a number of a device, before it says that no device has it.
+ARGUMENT = Number(0, 4_294_967_295)
 BYTE_ORDER_MARK = b"\xef\xbb\xbf"
 
 
@@ -116,7 +119,7 @@ class Model:
 
     def commands(self, trace):
         """The op, sector and data of each record of a trace."""
-        csv.field_size_limit(LONGEST_TRACE)
+        csv.field_size_limit(TRACE_BYTES)
         text = io.TextIOWrapper(io.BytesIO(trace.removeprefix(BYTE_ORDER_MARK)), encoding="latin-1", newline="")
         for line, record in enumerate((record for record in csv.reader(text) if record), 1):
             if kind := self._fault_of(record):
@@ -159,10 +162,10 @@ def _is_number(text, above):
 def check(device):
     """Refuses numbers that make no device."""
     luns, blocks, pages, words, sectors, _ = (device[name] for name in RANGES)
-    for name, (least, most) in RANGES.items():
-        if not least <= device[name] <= most or name == "blocks" and blocks % luns:
+    for name, wanted in RANGES.items():
+        if device[name] not in wanted or name == "blocks" and blocks % luns:
             raise Fault(f"geometry: {name.capitalize()}", ARGUMENTS)
-    if sectors + blocks + blocks * pages * (words + 1) > WORDS:
+    if sectors + blocks + blocks * pages * (words + 1) > MOST_WORDS:
         raise Fault("geometry: TooManyWords", ARGUMENTS)
     if sectors >= (blocks - 1) * pages:
         raise Fault("geometry: TooFewBlocks", ARGUMENTS)

@@ -4,6 +4,7 @@ import re
 
 from .faults import LineFault
 from .lines import number_in, shown
+from .numbers import OFFSET
 from .requests import READ, WRITE, Request
 
 HEAD = b"timestamp,hostname,disknumber,type,offset,size,responsetime"
@@ -20,7 +21,9 @@ def requests(lines):
         found = LINE.fullmatch(line)
         if found:
             time, host, disk, kind, offset, size = found.groups()
-            yield Request(number, OPS[kind.lower()], host + b"_" + disk, int(offset), int(size), int(time) * STEP)
+            ranged = (number_in(field, number, what, OFFSET) for field, what in ((offset, "offset"), (size, "size"), (time, "timestamp")))
+            offset, size, time = ranged
+            yield Request(number, OPS[kind.lower()], host + b"_" + disk, offset, size, time * STEP)
         elif line and not (number == 1 and line.lower() == HEAD):
             _refuse(number, line)
 

@@ -21,11 +21,11 @@ class Piece:
 
 
 def in_pieces(answers, log, count: int) -> list:
-    """The run in `count` pieces with equally many lines, as far as possible."""
+    """The lines of the answers in `count` pieces, equally many in each, as far as possible."""
     if answers.quiet:
         raise Fault("the answers have only their last line, so it isn't known when pages were written", ARGUMENTS)
-    ends = sorted({answers.lines * piece // count for piece in range(1, count + 1)} - {0})
-    pieces, line, place = [], 0, 0
+    ends = sorted({answers.before + answers.lines * piece // count for piece in range(1, count + 1)} - {answers.before})
+    pieces, line, place = [], answers.before, 0
     for end in ends:
         behind = bisect.bisect_right(log.lines, end)
         pieces.append(Piece(line + 1, end, answers.programs_within(line, end), sum(log.copied[place:behind]), behind - place))

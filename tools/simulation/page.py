@@ -1,74 +1,54 @@
-"""One page of a run, in a single file that needs nothing else: what was played, the totals, and pictures with their tables."""
+"""One page of a run, in a single file that needs nothing else: four figures, pictures with their tables, and what was played."""
 
-import io
 import pathlib
-import re
 import shlex
-import sys
-from dataclasses import dataclass
 from html import escape
 
-from . import collected, device, over_time, pictures, response, response_shapes, summary, titles, wear
+from . import collected, device, html, latency, life, names, over_time, pictures, response_shapes, titles, wear
+from .html import Figure, Section
+from .run import Run
 
-SIZE = (4.6, 4.0)
+SIZE = (4.6, 3.6)
 PIECES, ROWS = 20, 16
-STYLE = pathlib.Path(__file__).with_name("page.css")
-# Colours of a picture that the page's style sets, for light and dark.
-VARIABLES = {
-    pictures.BLUE: "var(--blue)",
-    pictures.GOLD: "var(--gold)",
-    pictures.RED: "var(--red)",
-    pictures.GRID: "var(--grid)",
-    "#000000": "currentColor",
-    "#ffffff": "var(--paper)",
-    "#cccccc": "var(--grid)",
-}
-
-
-@dataclass
-class Run:
-    """A run: its answers, wear, log of collections and response times, each None where it isn't given, and what a report says of them."""
-
-    answers: object
-    blocks: list | None
-    log: object
-    response: object
-    summary: object
-    responses: dict
-
-
-@dataclass
-class Section:
-    """A picture with what it shows in words, and its table: the names of the columns and the rows."""
-
-    key: str
-    head: str
-    text: str
-    draw: object
-    columns: tuple
-    rows: list
+# The numbers of a device, as a table names them.
+FIELDS = {
+    "luns": "LUNs", "blocks": "blocks", "pages": "pages in a block", "words": "words in a page (8 bytes each)", "sectors": "sectors",
+    "endurance": "endurance (erases of a block)",
+}  # fmt: skip
 
 
 def write(options, run: Run):
-    pathlib.Path(options.page).write_text(html(options, run))
+    pathlib.Path(options.page).write_text(page(options, run), encoding="utf-8")
 
 
-def html(options, run: Run) -> str:
-    title = titles.title_of(options, run.blocks) or f"answers {options.answers}"
-    further = [] if run.log is None else collected.as_rows(run.log)
-    if run.response:
-        further += [row for row in response.as_rows(run.responses, run.response.part.shown()) if not row[0].startswith("response of")]
+def page(options, run: Run) -> str:
+    refused = not run.answers.quiet and run.answers.refused_writes() > 0
+    rows = [row for row in run.as_rows() if not row[0].startswith("latency of")]
+    totals = html.table("totals-table", "What the run did", ("", ""), rows, texts=True)
     parts = [
-        f"<h1>{escape(title)}</h1>",
+        f'<p{" class=alarm" if refused else ""}>{escape(run.headline())}</p>',
+        html.figures(figures(run)),
+        html.sections(sections(run)),
+        '<h2 id="totals">Totals and what was played</h2>',
+        html.details("Totals", totals),
         *_played(options, run.answers.quiet),
-        '<h2 id="totals">Totals</h2>',
-        _table("totals-table", "What the run did", ("", ""), [*summary.as_rows(run.summary), *further], texts=True),
-        *(part for section in sections(options, run) for part in _section(section)),
     ]
-    body = "\n".join(parts)
-    head = f'<meta charset="utf-8"><meta name="viewport" content="width=device-width, initial-scale=1"><title>{escape(title)}</title>'
-    head += f'<link rel="icon" href="data:,"><style>\n{STYLE.read_text()}</style>'
-    return f'<!DOCTYPE html>\n<html lang="en"><head>{head}</head>\n<body><main>\n{body}\n</main></body></html>\n'
+    return html.document(run.title or f"answers {titles.printable(options.answers)}", parts)
+
+
+def figures(run: Run) -> list:
+    """The head of the page: amplification, the slowest thousandth of the writes, the life that is used, and the refused writes."""
+    amplification, slowest = run.summary.write_amplification, run.responses.get("response_writes_p999_us")
+    overloaded = bool(run.responses.get("overloaded"))
+    waits = "overloaded" if overloaded else "not known" if slowest is None else latency.duration(slowest)
+    refused = run.summary.writes_refused
+    unknown = "not known"
+    return [
+        Figure(unknown if amplification is None else f"{amplification:.3f}", "write amplification"),
+        Figure(waits, "p99.9 latency of writes" if not overloaded else f"{run.responses['load']:.3f} of what the device can carry", overloaded),
+        Figure(life.percent(run.life.used_worst) if run.life else unknown, "of the endurance used by the worst block"),
+        Figure(unknown if refused is None else f"{refused:,}", "refused writes", bool(refused)),
+    ]
 
 
 def _played(options, quiet):
@@ -76,15 +56,15 @@ def _played(options, quiet):
     rows = []
     if device.is_named(options):
         numbers = device.numbers_of(options)
-        rows += [(name, f"{number:,}") for name, number in numbers.items()]
-        rows.append(("utilisation", f"{100 * numbers['sectors'] / (numbers['blocks'] * numbers['pages']):.4g} % (sectors of physical pages)"))
+        rows += [(FIELDS[name], f"{number:,}") for name, number in numbers.items()]
+        rows.append(("over-provisioning", f"{device.over_provisioning(numbers):.4g} % (pages beyond the sectors, of the sectors)"))
+        rows.append(("utilisation", f"{100 * numbers['sectors'] / device.pages_of(numbers):.4g} % (sectors, of all pages)"))
     if options.trace:
-        rows.append(("trace", options.trace))
-    played = ['<h2 id="played">What was played</h2>']
+        rows.append(("trace", titles.printable(options.trace)))
     if rows:
-        played.append(_table("device-table", "Device and trace", ("", ""), rows, texts=True))
-    lines = "\n".join(escape(line) for line in command_lines(options, quiet))
-    return [*played, "<p>The command lines:</p>", f"<pre><code>{lines}</code></pre>"]
+        yield html.details("Device and trace", html.table("device-table", "Device and trace", ("", ""), rows, texts=True))
+    lines = "\n".join(escape(titles.printable(line)) for line in command_lines(options, quiet))
+    yield html.details("Command lines", f"<pre><code>{lines}</code></pre>")
 
 
 def command_lines(options, quiet) -> list:
@@ -95,20 +75,23 @@ def command_lines(options, quiet) -> list:
         given = {"--wear": options.wear, "--collections": options.collections}
         files = [word for option, name in given.items() if name for word in (option, name)]
         lines.append(f"{shlex.join(['./flashplay', *numbers, *files, *(['--quiet'] if quiet else [])])} < {trace} > {answers}")
-    return [*lines, shlex.join(["tools/report", *sys.argv[1:]])]
+    return [*lines, shlex.join([names.of_tools("tools/report"), *options.call])]
 
 
-def sections(options, run: Run):
+def sections(run: Run):
     """What there is to show, in the order of the page."""
     if isinstance(run.log, collected.Collections) and not run.answers.quiet and run.answers.lines:
         yield _amplification(run)
+    if run.response and run.responses["overloaded"]:
+        yield Section("response", "Latency", f"{latency.overload(run.responses)}.".capitalize(), None)
+    elif run.response:
+        yield _tails(run)
+    if run.response:
+        yield _over_time(run)
     if isinstance(run.log, collected.Collections) and len(run.log):
         yield _victims(run)
     if run.blocks:
         yield _wear(run)
-    if run.response:
-        yield _tails(run)
-        yield _over_time(options, run)
 
 
 def _amplification(run):
@@ -117,7 +100,7 @@ def _amplification(run):
     text = "Nothing was written."
     if parts:
         whole = run.summary.write_amplification
-        text = f"The write amplification is {parts[0]:.3f} in the first part with writes, {parts[-1]:.3f} in the last, and {whole:.3f} over the whole run."
+        text = f"{parts[0]:.3f} in the first part with writes, {parts[-1]:.3f} in the last, and {whole:.3f} over all of these lines."
     rows = []
     for piece, so_far in zip(pieces, over_time.so_far(pieces)):
         counts = (f"{count:,}" for count in (piece.programs, piece.copies, piece.collections))
@@ -157,11 +140,14 @@ def _wear(run):
     names = ("least", "first quartile", "median", "third quartile", "most")
     retired = sum(block.retired for block in run.blocks)
     least, _, median, _, most = spread
-    text = f"A block was erased {least:,g} to {most:,g} times, with the median at {median:,g}; {retired:,} of {len(run.blocks):,} blocks are retired."
+    within = " in these lines" if run.answers.before else ""
+    text = f"A block was erased {least:,g} to {most:,g} times{within}, with the median at {median:,g}; {retired:,} of {len(run.blocks):,} blocks are retired."
     rows = [*((name, f"{number:,g}") for name, number in zip(names, spread)), ("blocks", f"{len(run.blocks):,}"), ("retired", f"{retired:,}")]
+    if run.life:
+        rows += life.as_rows(run.life, retired)
 
     def draw(sink):
-        pictures.erases_by_block(run.blocks, spread, sink, size=SIZE)
+        pictures.erases_by_block(run.blocks, sink, size=SIZE, endurance=run.life.endurance if run.life else None)
 
     return Section("wear", "Wear", text, draw, ("erases of a block", ""), rows)
 
@@ -170,17 +156,22 @@ def _tails(run):
     response_of, told = run.response.response(), run.responses
     tails = [(group, response_shapes.tail(response_of[run.response.of(group)])) for group in ("reads", "writes")]
     texts = [_told(told, group) for group in ("reads", "writes") if _figure(told, group, "count")]
-    names = {"count": "lines", "mean": "mean", "median": "median", "p95": "95 %", "p99": "99 %", "p999": "99.9 %", "p9999": "99.99 %", "longest": "longest"}
-    rows = [(name, *(_number(_figure(told, group, key), ",.0f" if key == "count" else ",.1f") for group in response.GROUPS)) for key, name in names.items()]
+    names = {"count": "requests" if told["response_by"] == "request" else "pages", **latency.SHOWN}
+    rows = [(name, *(_cell(told, group, key) for group in latency.GROUPS)) for key, name in names.items()]
 
     def draw(sink):
         pictures.response_tails(tails, sink, size=SIZE)
 
-    return Section("response", "Response times", " ".join(texts) or "No line reads or writes.", draw, ("µs", *response.GROUPS), rows)
+    return Section("response", "Latency", " ".join(texts) or "No line reads or writes.", draw, ("", *latency.GROUPS), rows)
+
+
+def _cell(told, group, key) -> str:
+    value = _figure(told, group, key)
+    return "" if value is None else f"{value:,}" if key == "count" else latency.duration(value)
 
 
 def _told(told, group) -> str:
-    mean, hundredth, longest = (f"{_figure(told, group, key):,.1f} µs" for key in ("mean", "p99", "longest"))
+    mean, hundredth, longest = (latency.duration(_figure(told, group, key)) for key in ("mean", "p99", "longest"))
     return f"{group.capitalize()} take {mean} on average; one in a hundred takes more than {hundredth}, and the longest {longest}."
 
 
@@ -188,58 +179,25 @@ def _figure(told, group, key):
     return told[f"response_{group}_{key}" if key == "count" else f"response_{group}_{key}_us"]
 
 
-def _over_time(options, run):
+def _over_time(run):
     timed = run.response.timed
-    parts = response_shapes.over_time(run.response, options.from_line)
+    parts = response_shapes.over_time(run.response, run.answers.before + 1)
     step = max(1, -(-len(parts) // PIECES))
     unit = "from second" if timed else "from line"
     rows = []
     for some in (parts[place : place + step] for place in range(0, len(parts), step)):
         place = f"{some[0].place:,.3f}" if timed else f"{some[0].place:,.0f}"
         mean, longest = sum(part.mean for part in some) / len(some), max(part.longest for part in some)
-        rows.append((place, f"{mean:,.1f}", f"{longest:,.1f}", f"{sum(part.collections for part in some):,}"))
-    longest = max((part.longest for part in parts), default=0)
+        rows.append((place, latency.duration(mean), latency.duration(longest), f"{sum(part.collections for part in some):,}"))
     collecting = sum(bool(part.collections) for part in parts)
-    text = f"The longest response is {longest:,.1f} µs; {collecting:,} of {len(parts):,} parts of the run had collections, which are marked at the bottom."
-    columns = (unit, "mean (µs)", "longest (µs)", "collections")
+    text = f"{collecting:,} of {len(parts):,} parts of the run had collections, which are marked at the bottom."
+    columns = (unit, "mean", "longest", "collections")
 
     def draw(sink):
         pictures.response_over_time(parts, timed, sink, size=SIZE)
 
-    return Section("over-time", "Response times over time", text, draw, columns, rows)
+    return Section("over-time", "Latency over time", text, draw, columns, rows)
 
 
 def _number(value, form) -> str:
     return "" if value is None else format(value, form)
-
-
-def _section(section: Section):
-    table = f"{section.key}-table"
-    yield f'<section id="{section.key}"><h2>{escape(section.head)}</h2>'
-    yield f"<figure>{inline(section)}<figcaption>{escape(section.text)} <a href=\"#{table}\">The numbers</a></figcaption></figure>"
-    yield _table(table, section.head, section.columns, section.rows) + "</section>"
-
-
-def _table(key, caption, columns, rows, texts=False) -> str:
-    head = "".join(f'<th scope="col">{escape(name)}</th>' for name in columns)
-    head = f"<thead><tr>{head}</tr></thead>" if any(columns) else ""
-    body = "".join(f'<tr><th scope="row">{escape(row[0])}</th>' + "".join(f"<td>{escape(cell)}</td>" for cell in row[1:]) + "</tr>" for row in rows)
-    kind = ' class="texts"' if texts else ""
-    return f'<div class="scrolled"><table id="{key}"{kind}><caption>{escape(caption)}</caption>{head}<tbody>{body}</tbody></table></div>'
-
-
-def inline(section: Section) -> str:
-    """The picture as part of the page: names of its own, the page's colours, and its text for those who can't see it."""
-    sink = io.StringIO()
-    section.draw(sink)
-    drawn = sink.getvalue()
-    drawn = drawn[drawn.index("<svg") :]
-    drawn = re.sub(r"<metadata>.*?</metadata>|<!--.*?-->", "", drawn, flags=re.DOTALL)
-    drawn = re.sub(r'(\bid="|href="#|url\(#)', rf"\g<1>{section.key}-", drawn)
-    for colour, variable in VARIABLES.items():
-        drawn = drawn.replace(colour, variable)
-    drawn = re.sub(r'(<svg[^>]*?) width="[^"]*"', r"\1", drawn, count=1)
-    drawn = re.sub(r'(<svg[^>]*?) height="[^"]*"', r"\1", drawn, count=1)
-    named = f'role="img" aria-labelledby="{section.key}-title {section.key}-text"'
-    told = f'<title id="{section.key}-title">{escape(section.head)}</title><desc id="{section.key}-text">{escape(section.text)}</desc>'
-    return re.sub(r"<svg([^>]*)>", lambda found: f"<svg{found[1]} {named}>{told}", drawn, count=1).strip()

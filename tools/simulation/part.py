@@ -5,13 +5,14 @@ from dataclasses import dataclass
 
 from . import inputs
 from .faults import ARGUMENTS, BROKEN, Fault
+from .numbers import MICROSECONDS
 
 NANOSECONDS = 1_000
+LONGEST_FILE = 1 << 20
 TIMES = ("read", "program", "copyback", "erase", "transfer")
 # A part need not have a copyback, and may have its transfer within its read and its program.
 OPTIONAL, MAY_BE_ZERO = {"copyback"}, {"transfer"}
 TEXTS = ("name", "source")
-LONGEST = 1e9
 
 
 @dataclass(frozen=True)
@@ -49,7 +50,7 @@ def add_options(parser):
     parser.add_argument("--part", metavar="FILE", help="a TOML file with the times of a part")
     for name in TIMES:
         what = "of a block" if name == "erase" else "of a page over the bus" if name == "transfer" else "of a page"
-        parser.add_argument(f"--{name}-time", type=float, metavar="US", help=f"the {name} {what}, in microseconds; replaces the one of the file")
+        parser.add_argument(f"--{name}-time", type=MICROSECONDS, metavar="US", help=f"the {name} {what}, in microseconds; replaces the one of the file")
 
 
 def is_named(options) -> bool:
@@ -61,6 +62,12 @@ def part_of(options) -> Part:
     from_file = read_part(options.part) if options.part else {}
     given = {name: _option(options, name) for name in TIMES}
     return part_in({**from_file, **{name: time for name, time in given.items() if time is not None}}, options.part or "the part")
+
+
+def keys_of(part: Part) -> dict:
+    """The keys of a file of the same part."""
+    times = {name: getattr(part, name) for name in TIMES}
+    return {"name": part.name, **{name: time / NANOSECONDS for name, time in times.items() if time is not None}}
 
 
 def words_of(part: Part) -> list:
@@ -77,8 +84,8 @@ def read_part(path) -> dict:
     """The keys of a part's file."""
     with inputs.opened(path) as source:
         try:
-            return tomllib.loads(source.read().decode())
-        except (tomllib.TOMLDecodeError, UnicodeDecodeError) as error:
+            return tomllib.loads(source.read(LONGEST_FILE).decode())
+        except (ValueError, RecursionError) as error:
             raise Fault(f"{path} isn't a TOML file: {error}", BROKEN)
 
 
@@ -96,9 +103,10 @@ def part_in(keys: dict, where) -> Part:
 
 
 def _nanoseconds(name, time, where, status) -> int:
-    is_number = isinstance(time, (int, float)) and not isinstance(time, bool)
-    if not is_number or not 0 <= time <= LONGEST:
-        raise Fault(f"{where}: the {name} {time!r} isn't a time in microseconds from 0 to {LONGEST:,.0f}", status)
+    try:
+        MICROSECONDS.check(time, f"the {name}")
+    except ValueError as error:
+        raise Fault(f"{where}: {error}, in microseconds", status)
     rounded = round(time * NANOSECONDS)
     if rounded == 0 and name not in MAY_BE_ZERO:
         hint = "; leave it out for a part without it" if name in OPTIONAL else ""

@@ -43,10 +43,8 @@ class Within:
 
     def sectors_of(self, request, pages):
         if pages and pages[-1] >= self._sectors:
-            raise LineFault(
-                request.line,
-                f"page {pages[-1]:,} is past the end of the device of {self._sectors:,} sectors; --wrap maps such pages into it, and --dense renumbers the pages",
-            )
+            past = f"page {pages[-1]:,} is past the end of the device of {self._sectors:,} sectors"
+            raise LineFault(request.line, f"{past}; --wrap maps such pages into it, and --dense renumbers the pages")
         return pages
 
 

@@ -2,7 +2,7 @@
 
 from dataclasses import dataclass
 
-from .response import MICROSECOND, SECOND
+from .latency import MICROSECOND, SECOND
 
 # The most points of a curve, and the most parts of a run.
 POINTS, PARTS = 300, 200
@@ -38,15 +38,17 @@ class Part:
 
 
 def over_time(told, first_line=1) -> list:
-    """A run in parts with equally many lines, as far as possible. Meets are left out."""
+    """A run in parts with equally many requests, as far as possible. Meets are left out."""
     import numpy
 
-    lines = numpy.flatnonzero(told.of("all"))
-    response = told.response()
+    requests = numpy.flatnonzero(told.of("all"))
+    response, arrival = told.response(), told.arrival()
+    collections = numpy.concatenate([[0], numpy.cumsum(told.lines.collects)])
     parts = []
-    for some in numpy.array_split(lines, min(PARTS, len(lines))) if len(lines) else ():
+    for some in numpy.array_split(requests, min(PARTS, len(requests))) if len(requests) else ():
         times = response[some]
-        place = float(told.arrival[some[0]] - told.arrival[0]) / SECOND if told.timed else float(some[0] + first_line)
+        first, last = told.first[some[0]], told.last[some[-1]]
+        place = float(arrival[some[0]] - told.lines.arrival[0]) / SECOND if told.timed else float(first + first_line)
         mean, longest = float(times.mean()) / MICROSECOND, float(times.max()) / MICROSECOND
-        parts.append(Part(place, mean, longest, int(told.collects[some].sum())))
+        parts.append(Part(place, mean, longest, int(collections[last + 1] - collections[first])))
     return parts

@@ -13,6 +13,8 @@ SPREAD = ("least", "quartile_1", "median", "quartile_3", "most")
 class Summary:
     """What the given files don't show is None."""
 
+    first_line: int | None
+    last_line: int | None
     lines: int | None
     reads_empty: int | None
     reads_data: int | None
@@ -20,6 +22,8 @@ class Summary:
     writes_written: int | None
     writes_worn: int | None
     writes_full: int | None
+    news_empty: int | None
+    news_written: int | None
     writes_refused: int | None
     first_refused_line: int | None
     trims_empty: int | None
@@ -55,7 +59,7 @@ def summarise(answers, page_bytes, blocks):
         programs=answers.programs,
         copies=answers.copies,
         erases=answers.erases,
-        write_amplification=answers.write_amplification(),
+        write_amplification=None if answers.copies is None else answers.write_amplification(),
         page_bytes=page_bytes,
         page_bytes_from=size_from,
         bytes_written=written,
@@ -68,19 +72,24 @@ def summarise(answers, page_bytes, blocks):
 
 def _counts(answers):
     """How many lines gave each answer; the last line alone doesn't show it."""
+    count = answers.count
     counts = {
+        "first_line": answers.before + 1,
+        "last_line": answers.last,
         "lines": answers.lines,
-        "reads_empty": answers.count("read", "empty"),
-        "reads_data": answers.count("read", "data"),
-        "writes_empty": answers.count("write", "empty"),
-        "writes_written": answers.count("write", "written"),
-        "writes_worn": answers.count("write", "worn"),
-        "writes_full": answers.count("write", "full"),
+        "reads_empty": count("read empty"),
+        "reads_data": count("read data"),
+        "writes_empty": count("write empty"),
+        "writes_written": count("write written"),
+        "writes_worn": count("write worn"),
+        "writes_full": count("write full"),
+        "news_empty": count("new empty"),
+        "news_written": count("new written"),
         "writes_refused": answers.refused_writes(),
-        "first_refused_line": answers.first_refused,
-        "trims_empty": answers.count("trim", "empty"),
-        "trims_written": answers.count("trim", "written"),
-        "meets": answers.count("meet", "met"),
+        "first_refused_line": answers.first_refused(),
+        "trims_empty": count("trim empty"),
+        "trims_written": count("trim written"),
+        "meets": count("meet met"),
     }
     return dict.fromkeys(counts) if answers.quiet else counts
 
@@ -100,25 +109,36 @@ def as_object(summary):
     return asdict(summary)
 
 
-def as_text(summary, further=()):
-    """Names and texts, a line each; `further` are those of other files of the run."""
-    return in_lines([*as_rows(summary), *further])
-
-
 def in_lines(rows):
     """Names and texts, a line each."""
     width = max(len(name) for name, _ in rows)
     return "\n".join(f"{name:{width}}  {text}" for name, text in rows)
 
 
-def as_rows(summary):
+def headline(answers) -> str:
+    """Which lines a report is of, and whether the run refused writes."""
+    if answers.quiet:
+        return "the whole run; it was quiet, so refused writes aren't known"
+    window = f"lines {answers.before + 1:,} to {answers.last:,}" if answers.before else f"the whole run, {answers.lines:,} lines"
+    refused = answers.refused_writes()
+    return f"{window}; REFUSED: {refusals(answers)}" if refused else f"{window}; no write was refused"
+
+
+def refusals(answers) -> str:
+    refused, writes = answers.refused_writes(), answers.refused_writes() + answers.accepted_writes() + answers.count("new written")
+    kinds = {"worn": answers.count("write worn", "new worn"), "full": answers.count("write full", "new full")}
+    causes = ", ".join(f"{count:,} {kind}" for kind, count in kinds.items() if count)
+    return f"{refused:,} of {writes:,} writes ({causes}), the first at line {answers.first_refused():,}"
+
+
+def as_rows(summary, head: str):
     s = summary
-    rows = [("answers", "none: the run was quiet")] if s.lines is None else _counted(s)
-    if s.programs is not None:
-        rows += [
-            ("write amplification", _amplification(s)),
-            ("erases", f"{s.erases:,}{_per_gigabyte(s)}"),
-        ]
+    rows = [("run", head)]
+    if s.lines is not None:
+        rows += _counted(s)
+    if s.copies is not None:
+        erases = "" if s.erases is None else f"{s.erases:,}{_per_gigabyte(s)}"
+        rows += [("write amplification", _amplification(s)), *([("erases", erases)] if erases else [])]
     if s.blocks is not None:
         least, *quartiles, most = (getattr(s, f"erases_{name}") for name in SPREAD)
         rows += [
@@ -129,21 +149,18 @@ def as_rows(summary):
 
 
 def _counted(s):
+    refused_news = s.writes_refused - s.writes_worn - s.writes_full
+    writes, news = s.writes_empty + s.writes_written + s.writes_worn + s.writes_full, s.news_empty + s.news_written + refused_news
+    of_new = [("writes of new sectors", f"{news:,}: {s.news_empty:,} to empty sectors, {s.news_written:,} found theirs written")] if news else []
     return [
         ("commands", f"{s.lines:,}"),
         ("reads", f"{s.reads_empty + s.reads_data:,}: {s.reads_data:,} of data, {s.reads_empty:,} empty"),
-        ("writes", f"{s.writes_empty + s.writes_written + s.writes_refused:,}: {s.writes_empty:,} to empty sectors, {s.writes_written:,} to written ones"),
-        ("writes refused", _refused(s)),
+        ("writes", f"{writes:,}: {s.writes_empty:,} to empty sectors, {s.writes_written:,} to written ones"),
+        *of_new,
+        ("writes refused", f"{s.writes_refused:,}"),
         ("trims", f"{s.trims_empty + s.trims_written:,}: {s.trims_written:,} of written sectors, {s.trims_empty:,} of empty ones"),
         ("meets", f"{s.meets:,}"),
     ]
-
-
-def _refused(s):
-    if not s.writes_refused:
-        return "0"
-    kinds = [f"{count:,} {kind}" for kind, count in (("worn", s.writes_worn), ("full", s.writes_full)) if count]
-    return f"{s.writes_refused:,} ({', '.join(kinds)}), the first of them line {s.first_refused_line:,}"
 
 
 def _amplification(s):

@@ -1,9 +1,8 @@
 """The points of a sweep: each plays a trace on its device, by GNU parallel, and the rows are gathered."""
 
 import argparse
-import bisect
 import csv
-import hashlib
+import io
 import itertools
 import json
 import pathlib
@@ -16,12 +15,13 @@ import tempfile
 import uuid
 from dataclasses import dataclass
 
-from . import answers, arrivals, collected, device, inputs, make, part, pictures, response
+from . import answers, arrivals, collected, device, inputs, latency, make, part, pictures, request_lines, response
 from .faults import Fault
+from .manifest import sum_of
 from .traces import TraceWriter
 
 COLUMNS = (*device.DEFAULTS, "utilisation", "lines", "programs", "copies", "erases", "worn", "write_amplification")
-# With the times of a part: the response of writes, by the name in a report, and the load of the device.
+# With the times of a part: the latency of writes, by the name in a report, and the load of the device.
 RESPONSES = {"write_mean_us": "response_writes_mean_us", "write_p99_us": "response_writes_p99_us", "write_p999_us": "response_writes_p999_us"}
 RESPONSE_COLUMNS = ("load", *RESPONSES)
 LINES_AT_ONCE = 4096
@@ -30,25 +30,28 @@ SWEEP = device.TOP / "tools/sweep"
 
 def maker(text, point, lines):
     """The options of `trace make` in the text, for a point's device."""
-    parser = argparse.ArgumentParser(prog="sweep --make", exit_on_error=False)
+    parser = argparse.ArgumentParser(prog="sweep --make", exit_on_error=False, add_help=False)
     make.add_options(parser, sized=False)
     try:
-        options = parser.parse_args(shlex.split(text))
+        options, unknown = parser.parse_known_args(shlex.split(text))
+        if unknown:
+            raise argparse.ArgumentTypeError(f"{unknown[0]!r} isn't an option of trace make")
         options.sectors, options.lines = point.device["sectors"], lines
         make.check(options)
-    except argparse.ArgumentTypeError as error:
+    except (argparse.ArgumentTypeError, ValueError) as error:
         raise argparse.ArgumentError(None, str(error))
     return options
 
 
 def play_point(options, point):
-    """The row of a point: what was done after the lines that settle the device."""
+    """The row of a point: what was done in the lines that count."""
+    device.check(point.device)
     if part.is_named(options):
         row = _responding(options, point)
-    elif options.settle:
+    elif _lines_before(options, point):
         row = _settled(options, point)
     else:
-        whole = device.play(point.device, feeder(options, point, options.rounds))
+        whole = device.play(point.device, feeder(options, point))
         row = _totals(whole.lines, whole.programs, whole.copies, whole.erases, whole.worn)
     row |= {**point.device, "utilisation": f"{point.utilisation():.6g}"}
     return [row[name] for name in columns_of(options)]
@@ -59,31 +62,41 @@ def _totals(lines, programs, copies, erases, worn):
     return {"lines": lines, "programs": programs, "copies": copies, "erases": erases, "worn": worn, "write_amplification": amplification}
 
 
-def _lines_to_settle(options, point):
-    """How many lines don't count: the fill, and the rounds that settle the device."""
-    if not options.settle:
+def _lines_before(options, point) -> int:
+    """How many lines don't count: the fill, and those that settle the device."""
+    if not options.before:
         return 0
     fill = point.device["sectors"] if options.make and maker(options.make, point, 0).fill else 0
-    return fill + lines_of(options.settle, point)
+    return fill + options.before
+
+
+def _counted(played, log, before: int):
+    """The totals of the lines that count."""
+    programs, worn = played.programs_within(before, played.lines), sum(played.kinds.count(kind, before) for kind in answers.REFUSED)
+    return _totals(played.lines - before, programs, sum(log.copied), len(log), worn)
 
 
 def _settled(options, point):
     """The totals after the lines that settle the device, from one run and its log."""
-    run, log = _with_log(point.device, feeder(options, point, options.rounds))
-    before = min(_lines_to_settle(options, point), run.lines)
-    first = bisect.bisect_right(log.lines, before)
-    worn = run.kinds.count(answers.WRITE_REFUSED, before)
-    return _totals(run.lines - before, run.programs_within(before, run.lines), sum(log.copied[first:]), len(log) - first, worn)
+    played, log = _with_log(point.device, feeder(options, point))
+    before = _within(_lines_before(options, point), played)
+    return _counted(played, log.from_line(before + 1), before)
+
+
+def _within(before: int, played) -> int:
+    if before >= max(1, played.lines):
+        raise Fault(f"the first {before:,} lines don't count, and the trace has {played.lines:,}")
+    return before
 
 
 def _responding(options, point):
-    """The totals and the response times, from one run and its log."""
-    first_line = 1 + _lines_to_settle(options, point)
-    run, log = _with_log(point.device, feeder(options, point, options.rounds))
-    told = response.respond(run, log, part.part_of(options), times_of(options, point, run.lines), options.speed, first_line)
-    figures = response.summarise(told, None)
-    worn = run.kinds.count(answers.WRITE_REFUSED, first_line - 1)
-    row = _totals(len(told.kind), run.programs_within(first_line - 1, run.lines), told.copied, told.collections, worn)
+    """The totals and the latencies, from one run and its log."""
+    played, log = _with_log(point.device, feeder(options, point))
+    before = _within(_lines_before(options, point), played)
+    times, given = times_of(options, point, played.lines), requests_of(options, played.lines)
+    told = response.respond(played, log, part.part_of(options), times, options.speed, before + 1, given)
+    figures = latency.summarise(told, None)
+    row = _counted(played, log.from_line(before + 1), before)
     waits = {name: "" if figures[key] is None else f"{figures[key]:.3f}" for name, key in RESPONSES.items()}
     return row | waits | {"load": "" if figures["load"] is None else f"{figures['load']:.6f}"}
 
@@ -105,30 +118,43 @@ def times_of(options, point, lines):
 
     if options.arrivals:
         with inputs.opened(files_of(options)["arrivals"].found()) as source:
-            return arrivals.read_arrivals(source)[: lines if options.rounds is not None else None]
+            given = arrivals.read_arrivals(source)
+        kept = slice(None if options.lines is None else lines)
+        return arrivals.Arrivals(given.times[kept], min(given.drained, len(given.times[kept])))
     made = maker(options.make, point, 0) if options.make else None
     if made and (made.rate or made.interval):
-        return numpy.fromiter(itertools.islice(arrivals.made(made), lines), dtype=numpy.int64, count=lines)
+        times = numpy.fromiter(itertools.islice(arrivals.made(made), lines), dtype=numpy.int64, count=lines)
+        return arrivals.Arrivals(times, lines)
     return None
+
+
+def requests_of(options, lines):
+    """The requests of a run's lines, or None."""
+    if not options.requests:
+        return None
+    with inputs.opened(files_of(options)["requests"].found()) as source:
+        played = None if options.lines is None else lines
+        return request_lines.read_requests(io.BytesIO(b"".join(itertools.islice(source, played))), lines)
 
 
 def columns_of(options):
     return (*COLUMNS, *RESPONSE_COLUMNS) if part.is_named(options) else COLUMNS
 
 
-def lines_of(rounds, point):
-    return None if rounds is None else int(rounds * point.pages())
+def lines_of(rounds, points) -> int:
+    """Rounds as lines: as many for each point, so that all are compared over the same lines. A round has a line for each page of the
+    largest device."""
+    return int(rounds * max(point.pages() for point in points))
 
 
-def feeder(options, point, rounds):
-    """Writes the trace up to this many lines for each page of the device, after the fill if the trace is made."""
-    lines = lines_of(rounds, point)
+def feeder(options, point):
+    """Writes the lines of the trace, after the fill if the trace is made."""
     if options.trace:
         trace = files_of(options)["trace"].found()
-        return lambda sink: copy_lines(trace, lines, sink)
+        return lambda sink: copy_lines(trace, options.lines, sink)
 
     def feed(sink):
-        made = maker(options.make, point, lines)
+        made = maker(options.make, point, options.lines)
         seeded = random.Random(made.seed)
         writer = TraceWriter(sink, make.data_of("zeros", seeded, 0))
         make.make(made, seeded, writer)
@@ -155,6 +181,8 @@ def want_parallel():
         raise Fault("a sweep needs GNU parallel, which isn't installed: apt-get install parallel")
 
 
+# The files that each point reads.
+FILES = ("trace", "arrivals", "requests")
 # What a sweep leaves in its folder.
 KEPT = ("sweep.json", "jobs.log", "sweep.csv", "sweep.svg")
 
@@ -190,17 +218,10 @@ class File:
         raise Fault(f"{self.path} has changed since the sweep began")
 
 
-def sum_of(path):
-    """The SHA-256 sum of a file."""
-    with open(path, "rb") as source:
-        return hashlib.file_digest(source, "sha256").hexdigest()
-
-
 def files_of(options):
     """The files that each point reads, examined before anything is played."""
-    given = {"trace": options.trace, "arrivals": options.arrivals}
-    sums = {"trace": options.trace_sum, "arrivals": options.arrivals_sum}
-    return {name: File(path.resolve(), sums[name] or sum_of(path)) for name, path in given.items() if path}
+    given = {name: getattr(options, name) for name in FILES}
+    return {name: File(path.resolve(), getattr(options, f"{name}_sum") or sum_of(path)) for name, path in given.items() if path}
 
 
 def words_of_play(options):
@@ -208,9 +229,9 @@ def words_of_play(options):
     words = [] if options.trace else ["--make", options.make]
     for name, file in files_of(options).items():
         words += [f"--{name}", str(file.path), f"--{name}-sum", file.sum]
-    for name in ("rounds", "settle"):
+    for name in ("lines", "before"):
         if getattr(options, name) is not None:
-            words += [f"--{name}", f"{getattr(options, name):g}"]
+            words += [f"--{name}", str(getattr(options, name))]
     if part.is_named(options):
         words += [*part.words_of(part.part_of(options)), "--speed", repr(options.speed)]
     return words
@@ -268,9 +289,9 @@ def label_of(column):
         "luns": "LUNs",
         "endurance": "endurance (erases of a block)",
         "load": "load (work / time)",
-        "write_mean_us": "mean response of writes (µs)",
-        "write_p99_us": "response of writes, 99 % (µs)",
-        "write_p999_us": "response of writes, 99.9 % (µs)",
+        "write_mean_us": "mean latency of writes (µs)",
+        "write_p99_us": "p99 latency of writes (µs)",
+        "write_p999_us": "p99.9 latency of writes (µs)",
     }
     return labels.get(column, column)
 
@@ -279,6 +300,26 @@ def name_of(column, number):
     """The legend for the lines of a plot that have one number of a column."""
     what = {"utilisation": "% utilisation", "pages": "pages per block", "words": "words per page", "luns": "LUNs"}.get(column, column)
     return f"{number:,g} {what}"
+
+
+def headline(options, rows) -> str:
+    """What is counted, and whether writes were refused."""
+    told = f"{len(rows):,} points, the whole of each run"
+    if options.before:
+        fill = " and the fill" if options.make and "--fill" in options.make else ""
+        told = f"{len(rows):,} points, the lines of each behind the first {options.before:,}{fill}"
+    refused = [f"{int(row['worn']):,} of {int(row['worn']) + int(row['programs']):,} writes at {_named(row)}" for row in rows if int(row["worn"])]
+    return f"{told}; " + (f"REFUSED: {'; '.join(refused)}" if refused else "no write was refused")
+
+
+def overloads(options, rows) -> list:
+    """A line for each point whose device can't carry its load."""
+    over = [row for row in rows if row.get("load") and float(row["load"]) >= 1]
+    return [f"{_named(row)}: the device cannot carry this load: {float(row['load']):.3f} of it" for row in over]
+
+
+def _named(row) -> str:
+    return f"{row['blocks']} blocks of {row['pages']} pages, {row['sectors']} sectors"
 
 
 def title_of(options, points):

@@ -6,13 +6,18 @@ from . import collected, device
 from .faults import BROKEN, Fault
 
 
+def printable(text: str) -> str:
+    """A name from the command line as a page shows it: whatever the locale is, its bytes are read as UTF-8."""
+    return text.encode("utf-8", "surrogateescape").decode("utf-8", "replace")
+
+
 def title_of(options, blocks) -> str:
     """The device as far as it is known, and the trace."""
     if device.is_named(options):
         played_on = device.shown(device.numbers_of(options))
     else:
         played_on = f"{len(blocks):,} blocks" if blocks else ""
-    trace = pathlib.Path(options.trace).name if options.trace else ""
+    trace = printable(pathlib.Path(options.trace).name) if options.trace else ""
     return " · ".join(text for text in (played_on, trace) if text)
 
 

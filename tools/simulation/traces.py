@@ -1,19 +1,18 @@
 """The traces that `flashplay` plays, as they are written."""
 
 from .faults import Fault
+from .numbers import TRACE_BYTES
 
-# The most bytes of a trace that `flashplay` accepts.
-MOST_BYTES = 268_435_456
 CHUNK = 65_536
 
 
 class TraceWriter:
-    """Writes the lines of a trace, and their arrivals. Each command is of worker 0; `data` returns the data of a write, from the number
-    of its line."""
+    """Writes the lines of a trace, and a line into each of the columns beside it. Each command is of worker 0; `data` returns the data
+    of a write, from the number of its line."""
 
-    def __init__(self, sink, data, arrivals=None):
+    def __init__(self, sink, data, columns=()):
         self.lines = 0
-        self._arrivals = arrivals
+        self._columns = columns
         self._sink = sink
         self._data = data
         self._bytes = 0
@@ -33,12 +32,12 @@ class TraceWriter:
         self._put(b"0,meet,0,\n")
 
     def _put(self, line):
-        if self._bytes + len(line) > MOST_BYTES:
-            raise Fault(f"the trace would have more than {MOST_BYTES:,} bytes, the most that flashplay reads; --lines limits its length")
+        if self._bytes + len(line) > TRACE_BYTES:
+            raise Fault(f"the trace would have more than {TRACE_BYTES:,} bytes, the most that flashplay reads; --lines limits its length")
         self._bytes += len(line)
         self.lines += 1
-        if self._arrivals:
-            self._arrivals.put()
+        for column in self._columns:
+            column.put()
         self._waiting.append(line)
         self._waiting_bytes += len(line)
         if self._waiting_bytes >= CHUNK:
@@ -49,8 +48,29 @@ class TraceWriter:
         self._sink.flush()
         self._waiting.clear()
         self._waiting_bytes = 0
-        if self._arrivals:
-            self._arrivals.flush()
+        for column in self._columns:
+            column.flush()
+
+
+class Column:
+    """A file beside a trace, with a line for each of its lines."""
+
+    def __init__(self, sink):
+        self._sink = sink
+        self._waiting = []
+
+    def put(self):
+        self._waiting.append(self.line())
+        if len(self._waiting) == 4096:
+            self.flush()
+
+    def flush(self):
+        self._sink.write(b"".join(self._waiting))
+        self._sink.flush()
+        self._waiting.clear()
+
+    def line(self) -> bytes:
+        raise NotImplementedError
 
 
 def line_number(line):

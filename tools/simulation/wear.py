@@ -1,19 +1,31 @@
 """The wear of a device's blocks, as `flashplay --wear` writes it."""
 
+import collections
 import statistics
 from dataclasses import dataclass
 
+from .device import RANGES
 from .faults import BROKEN, Fault, LineFault
 from .lines import number_in, numbered_lines
+from .numbers import Number
 
 HEAD = b"block,erases,live,retired"
+FIELDS = {
+    "block": Number(0, RANGES["blocks"].most - 1),
+    "erases": Number(0, RANGES["endurance"].most),
+    "live pages": Number(0, RANGES["pages"].most),
+    "mark (1 of a retired block, 0 of another)": Number(0, 1),
+}
 
 
 @dataclass(slots=True)
 class Block:
+    """The erases are those of the window that is reported, behind those `before` it."""
+
     erases: int
     live: int
     retired: bool
+    before: int = 0
 
 
 def read_wear(source):
@@ -32,13 +44,18 @@ def _block(number, line, wanted):
     fields = line.split(b",")
     if len(fields) != 4:
         raise LineFault(number, f"a block has 4 fields, and this line {len(fields)}")
-    names = ("block", "erases", "live pages", "mark of a retired block")
-    block, erases, live, retired = (number_in(text, number, name) for text, name in zip(fields, names))
+    block, erases, live, retired = (number_in(text, number, name, wanted) for text, (name, wanted) in zip(fields, FIELDS.items()))
     if block != wanted:
         raise LineFault(number, f"block {wanted} is expected here")
-    if retired > 1:
-        raise LineFault(number, "a block is retired (1) or not (0)")
     return Block(erases, live, retired == 1)
+
+
+def within(blocks: list, log) -> list:
+    """The blocks with the erases of a window: as often as the log has each as a victim."""
+    counts = collections.Counter(log.victims)
+    if counts and max(counts) >= len(blocks) or any(counts[number] > block.erases for number, block in enumerate(blocks)):
+        raise Fault("the log erases blocks more often than the wear file says: they are of two runs", BROKEN)
+    return [Block(counts[number], block.live, block.retired, block.erases - counts[number]) for number, block in enumerate(blocks)]
 
 
 def spread(numbers):

@@ -30,7 +30,8 @@ class BlockDeviceCounts(unittest.TestCase):
         self.assertAlmostEqual(reported["share_of_endurance"], 25 / 120)
         text = report(counts()).text
         self.assertIn("write amplification  1.250 (20 pages written, 5 copied)\n", text)
-        self.assertIn("of the endurance     20.83 % is used\n", text)
+        self.assertIn("of all programs      20.83 % are done\n", text)
+        self.assertIn("endurance used       the mean block 20 %, the worst 50 %, 2.50 times the mean (of 10 erases)\n", text)
 
     def test_reports_unwritten_device(self):
         text = report(counts("block,erases,retired\n0,0,0\n1,0,0\n2,0,0\n", programs=0, copies=0, erases=0)).text
@@ -43,7 +44,7 @@ class BlockDeviceCounts(unittest.TestCase):
             (counts(erases=7), "the blocks' erases aren't the erases of the device"),
             (counts(BLOCKS.replace("2,0,0", "3,0,0")), "block 2 is expected here"),
             (counts(BLOCKS.replace("2,0,0", "2,0")), "a block has 3 fields"),
-            (counts(BLOCKS.replace("2,0,0", "2,0,2")), "a block is retired (1) or not (0)"),
+            (counts(BLOCKS.replace("2,0,0", "2,0,2")), "the mark (1 of a retired block, 0 of another) '2' isn't a whole number from 0 to 1"),
             (counts(programs="many"), "the programs 'many' isn't a whole number"),
         ]
         for text, message in rows:

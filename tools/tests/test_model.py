@@ -64,8 +64,9 @@ class ModelAgainstProgram(unittest.TestCase):
     def test_same_answers_and_faults_on_unusual_traces(self):
         words = "--blocks 3 --pages 2 --words 1 --sectors 3 --endurance 10".split()
         records = [
-            b"", b'007,"read",002,', b"0,write,0,aBcD\n0,read,0,", b'0,write,0,"41', b'0,"re"ad,2,', b'0,"read\n",2,', b"\xef\xbb\xbf0,meet,0,\r\n\r\n0,read,0,\r0,trim,1,",
-            b"worker,op,sector,data", b'0,re"ad,2,', b"0,read,2", b"0,read,2,,", b"500,read,0,", b"00000000,read,0,", b" 0,read,0,", b"0,READ,0,", b"0,read,-1,",
+            b"", b'007,"read",002,', b"0,write,0,aBcD\n0,read,0,", b'0,write,0,"41', b'0,"re"ad,2,', b'0,"read\n",2,',
+            b"\xef\xbb\xbf0,meet,0,\r\n\r\n0,read,0,\r0,trim,1,", b"worker,op,sector,data", b'0,re"ad,2,', b"0,read,2", b"0,read,2,,",
+            b"500,read,0,", b"00000000,read,0,", b" 0,read,0,", b"0,READ,0,", b"0,read,-1,",
             b"0,read,3,", b"0,write,0,4", b"0,new,0,4g", b"0,write,0,010203040506070809", b"0,read,0,41", b"1,meet,0,", b"0,meet,1,", b"0,meet,0,00",
             b"\xff,read,0,", b'""', b"0,write,0,\n0,read,9,\n0,nop,0,\n",
         ]

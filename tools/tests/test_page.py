@@ -2,85 +2,17 @@
 overlaps, nothing is cut off, nothing is fetched, and nothing logs an error."""
 
 import html
-import json
 import re
 import subprocess
 import unittest
 
 from simulation import model
+from tests.browser import COLOURS, DARK, LIGHT, Browser
 from tests.packages import needs
-from tests.test_report import InFolder
 from tests.tools import TOOLS, TOP, Run, make
 
 DEVICE = {"luns": 2, "blocks": 16, "pages": 16, "words": 1, "sectors": 180, "endurance": 1000}
-WIDTHS = (340, 800, 1400)
-SECTIONS = ("amplification", "victims", "wear", "response", "over-time")
-# Loads the page in frames of several widths, looks at each, and writes what is found into the document.
-LOOK = """
-<!DOCTYPE html><html><body><pre id="found"></pre><script>
-const page = PAGE;
-const found = [];
-const inside = (a, b) => a.left < b.right - 1 && b.left < a.right - 1 && a.top < b.bottom - 1 && b.top < a.bottom - 1;
-function look(width, frame) {
-  const doc = frame.contentDocument, view = frame.contentWindow;
-  const seen = {width, errors: frame.errors, pictures: [], overlaps: [], cut: [], fetched: view.performance.getEntriesByType("resource").map(e => e.name)};
-  seen.wide = doc.documentElement.scrollWidth > width;
-  seen.links = [...doc.querySelectorAll('a[href^="#"]')].filter(a => !doc.getElementById(a.getAttribute("href").slice(1))).length;
-  const ids = [...doc.querySelectorAll("[id]")].map(e => e.id);
-  seen.twice = ids.filter((id, i) => ids.indexOf(id) != i);
-  for (const svg of doc.querySelectorAll("figure svg")) {
-    const box = svg.getBoundingClientRect();
-    const drawn = [...svg.querySelectorAll("path")].filter(p => { const b = p.getBoundingClientRect(); return b.width + b.height > 5; }).length;
-    const texts = [...svg.querySelectorAll("text")].filter(t => t.textContent.trim());
-    const smallest = Math.min(...texts.map(t => t.getBoundingClientRect().height));
-    seen.pictures.push({width: box.width, height: box.height, drawn, texts: texts.length, smallest});
-    const boxes = texts.map(t => [t.textContent, t.getBoundingClientRect()]);
-    boxes.forEach(([name, a], i) => {
-      if (a.left < box.left - 1 || a.right > box.right + 1 || a.top < box.top - 1 || a.bottom > box.bottom + 1) seen.cut.push(name);
-      boxes.slice(i + 1).forEach(([other, b]) => { if (inside(a, b)) seen.overlaps.push(name + " / " + other); });
-    });
-  }
-  const blocks = [...doc.querySelectorAll("h1, h2, p, pre, figure, .scrolled")].filter(e => !e.parentElement.closest("figure, .scrolled"));
-  blocks.forEach((a, i) => blocks.slice(i + 1).forEach(b => {
-    if (inside(a.getBoundingClientRect(), b.getBoundingClientRect())) seen.overlaps.push(a.tagName + " / " + b.tagName);
-  }));
-  for (const e of blocks) if (e.getBoundingClientRect().right > width + 1) seen.cut.push(e.tagName);
-  found.push(seen);
-}
-async function all() {
-  for (const width of WIDTHS) {
-    const frame = document.createElement("iframe");
-    frame.errors = [];
-    frame.style = `width:${width}px;height:900px;border:0`;
-    const loaded = new Promise(done => frame.onload = done);
-    frame.srcdoc = page;
-    document.body.append(frame);
-    frame.contentWindow.onerror = text => frame.errors.push(String(text));
-    await loaded;
-    look(width, frame);
-  }
-  document.getElementById("found").textContent = JSON.stringify(found);
-}
-all();
-</script></body></html>
-"""
-
-
-# Writes into the document which scheme the browser prefers, and the colours that the page and its pictures have then.
-COLOURS = """
-<pre id="found"></pre><script>
-const style = e => getComputedStyle(e), of = (list, name) => [...new Set([...list].map(e => style(e)[name]))];
-const pictures = [...document.querySelectorAll("figure svg")].map(svg => {
-  const shapes = [...svg.querySelectorAll("path, use")].filter(e => !e.closest("defs"));
-  const filled = shapes.filter(e => e.tagName == "path" || e.style.fill);
-  return {texts: of(svg.querySelectorAll("text"), "fill"), shapes: [...of(filled, "fill"), ...of(shapes, "stroke")]};
-});
-const dark = matchMedia("(prefers-color-scheme: dark)").matches;
-const seen = {dark, paper: style(document.body).backgroundColor, ink: style(document.body).color, pictures};
-document.getElementById("found").textContent = JSON.stringify(seen);
-</script></body>
-"""
-LIGHT, DARK = "--blink-settings=preferredColorScheme=1", "--blink-settings=preferredColorScheme=0"
+SECTIONS = ("amplification", "response", "over-time", "victims", "wear")
 
 
 def schemes():
@@ -118,7 +50,7 @@ class Colours(unittest.TestCase):
 
 
 @needs("matplotlib", "numpy", "chromium")
-class PageInBrowser(InFolder):
+class PageInBrowser(Browser):
     def page_of_a_run(self):
         arrivals, trace = self.folder / "arrivals", self.folder / "zipf.csv"
         words = ("zipf", "--sectors", "180", "--lines", "6000", "--reads", "30", "--trims", "2", "--fill", "--seed", "3")
@@ -134,26 +66,6 @@ class PageInBrowser(InFolder):
         done = Run("report", answers, *files, *device, "--part", part, "--page", page, "--made-by", line)
         self.assertEqual((done.status, done.errors), (0, ""))
         return page.read_text(), line
-
-    def browse(self, page, *words):
-        """What Chromium writes of a page, which may log nothing."""
-        file = self.file("look.html", page.encode())
-        words = ["--headless", "--no-sandbox", "--disable-gpu", "--disable-dev-shm-usage", "--no-first-run", f"--user-data-dir={self.folder}/chromium", *words]
-        words += ["--enable-logging=stderr", "--virtual-time-budget=20000", "--host-resolver-rules=MAP * ~NOTFOUND", f"file://{file}"]
-        done = subprocess.run(["chromium", *words], capture_output=True, text=True, timeout=120)
-        logged = [line for line in done.stderr.splitlines() if "CONSOLE" in line]
-        self.assertEqual(logged, [])
-        return done
-
-    def found_in(self, page, *words):
-        """What a script of the page has found."""
-        done = self.browse(page, "--dump-dom", *words)
-        found = re.search(r'<pre id="found">(.*?)</pre>', done.stdout, re.DOTALL)
-        self.assertTrue(found and found[1], done.stderr)
-        return json.loads(html.unescape(found[1]))
-
-    def look_at(self, page):
-        return self.found_in(LOOK.replace("PAGE", json.dumps(page).replace("</", "<\\/")).replace("WIDTHS", json.dumps(WIDTHS)))
 
     def check_colours(self, page, is_dark):
         """The page and its pictures have the colours of the scheme, and no others; each text stands out."""
@@ -193,17 +105,8 @@ class PageInBrowser(InFolder):
 
     def test_three_widths_without_overlaps(self):
         page, _ = self.page_of_a_run()
-        found = self.look_at(page)
-        self.assertEqual([seen["width"] for seen in found], list(WIDTHS))
-        for seen in found:
-            with self.subTest(width=seen["width"]):
-                self.assertEqual((seen["errors"], seen["fetched"], seen["overlaps"], seen["cut"], seen["twice"]), ([], [], [], [], []))
-                self.assertEqual((seen["wide"], seen["links"], len(seen["pictures"])), (False, 0, len(SECTIONS)))
-                for picture in seen["pictures"]:
-                    self.assertGreater(min(picture["width"], picture["height"]), 250)
-                    self.assertGreater(picture["drawn"], 3)
-                    self.assertGreater(picture["texts"], 5)
-                    self.assertGreater(picture["smallest"], 8)
+        for scheme in (LIGHT, DARK):
+            self.check_widths(page, len(SECTIONS), scheme)
 
     def test_light_and_dark_colours(self):
         page, _ = self.page_of_a_run()
@@ -218,7 +121,8 @@ class PageInBrowser(InFolder):
     def test_print_is_complete_and_dark_on_white(self):
         page, _ = self.page_of_a_run()
         self.check_paper(page)
-        for style in ("main { width: 90rem !important; max-width: none !important }", "section { background: #16181b }", "figcaption { break-before: page }", "table { display: none }"):
+        wrong = ("main { width: 90rem !important; max-width: none !important }", "section { background: #16181b }", "figcaption { break-before: page }")
+        for style in (*wrong, "table { display: none }", "details::details-content { display: none }"):
             with self.subTest(style), self.assertRaises(AssertionError):
                 self.check_paper(page.replace("</style>", f"@media print {{ {style} }}</style>"))
 
@@ -231,7 +135,7 @@ class PageInBrowser(InFolder):
             self.look_at(page)
         for seen in self.look_at(page.replace('throw new Error("x")', "")):
             self.assertEqual((seen["twice"], seen["pictures"][0]["drawn"], seen["wide"]), (["a"], 0, True))
-            self.assertEqual(sorted(seen["overlaps"]), ["H1 / P", "one / two"])
+            self.assertEqual(sorted(seen["overlaps"]), ["A / B", "H1 / P", "one / two"])
 
     def test_page_is_self_contained_and_names_its_run(self):
         page, line = self.page_of_a_run()
@@ -243,8 +147,21 @@ class PageInBrowser(InFolder):
         for section in SECTIONS:
             names = f'<title id="{section}-title">[^<]+</title><desc id="{section}-text">[^<]+</desc>'
             self.assertRegex(page, f'<svg[^>]* role="img" aria-labelledby="{section}-title {section}-text">{names}')
-            self.assertIn(f'<a href="#{section}-table">', page)
-            self.assertIn(f'<table id="{section}-table">', page)
+            self.assertIn(f'<details><summary>The numbers</summary><div class="scrolled"><table id="{section}-table">', page)
+        figures = re.findall(r"<strong>([^<]+)</strong><span>([^<]+)</span>", page)
+        names = ["write amplification", "p99.9 latency of writes", "of the endurance used by the worst block", "refused writes"]
+        self.assertEqual([name for _, name in figures], names)
+
+    def test_pictures_of_docs_are_dark_in_the_dark(self):
+        """Each picture that a page of docs shows has both schemes, and is drawn with them."""
+        for path in sorted((TOP / "docs").glob("*.svg")):
+            picture = path.read_text(encoding="utf-8")
+            with self.subTest(path.name):
+                self.assertEqual(picture.count("prefers-color-scheme: dark"), 1)
+                for scheme, paper in ((LIGHT, "#ffffff"), (DARK, "#16181b")):
+                    drawn = picture[picture.index("<svg") :]
+                    seen = self.found_in(f"<!DOCTYPE html><html><body><figure>{drawn}</figure>{COLOURS}</html>", scheme)
+                    self.assertIn(paper, [in_digits(colour) for colour in seen["pictures"][0]["shapes"]])
 
     def test_page_without_log_has_only_totals(self):
         page = self.folder / "page.html"

@@ -49,15 +49,15 @@ class Reported(unittest.TestCase):
 
     def test_counts_refused_writes_and_names_first(self):
         text = report(b"1,write,0,empty\n2,write,1,worn\n3,write,0,worn\nend,1,0,0\n").text
-        self.assertIn("writes refused       2 (2 worn), the first of them line 2\n", text)
+        self.assertEqual(text.splitlines()[0], "run                  the whole run, 3 lines; REFUSED: 2 of 3 writes (2 worn), the first at line 2")
 
     def test_reports_run_without_totals(self):
         reported = json.loads(report(b"1,write,0,empty\n2,write,0,full\nend\n", "--json").text)
         self.assertEqual((reported["writes_full"], reported["first_refused_line"], reported["write_amplification"]), (1, 2, None))
 
     def test_page_bytes_option_sets_bytes_written(self):
-        reported = json.loads(report(b"1,write,0,empty\nend,1,0,2\n", "--json", "--page-bytes", "4000").text)
-        self.assertEqual((reported["bytes_written"], reported["erases_per_gigabyte"]), (4000, 500_000))
+        reported = json.loads(report(b"1,write,0,empty\nend,1,0,1\n", "--json", "--page-bytes", "4000").text)
+        self.assertEqual((reported["bytes_written"], reported["erases_per_gigabyte"]), (4000, 250_000))
 
     def test_no_amplification_without_writes(self):
         done = report(b"1,read,0,empty\nend,0,0,0\n")
@@ -67,7 +67,7 @@ class Reported(unittest.TestCase):
         with tempfile.NamedTemporaryFile() as wear:
             wear.write(b"block,erases,live,retired\n0,4,0,0\n1,1,1,0\n2,3,0,1\n3,2,2,0\n4,0,0,0\n")
             wear.flush()
-            reported = json.loads(report(b"end,0,0,10\n", "--json", "--wear", wear.name).text)
+            reported = json.loads(report(b"end,99,0,10\n", "--json", "--wear", wear.name).text)
         spread = [reported[f"erases_{name}"] for name in ("least", "quartile_1", "median", "quartile_3", "most")]
         self.assertEqual(spread, [0, 1, 2, 3, 4])
         self.assertEqual((reported["blocks"], reported["retired_blocks"], reported["live_pages"]), (5, 1, 3))
@@ -146,13 +146,15 @@ class Collections(InFolder):
 
     def test_reports_last_line_alone(self):
         reported = json.loads(report(b"end,5,1,1\n", "--json", "--page-bytes", "8", "--collections", self.file("log", LOG)).text)
-        self.assertEqual((reported["lines"], reported["write_amplification"], reported["erases_per_gigabyte"], reported["copybacks"]), (None, 1.2, 25_000_000, 1))
+        names = ("lines", "write_amplification", "erases_per_gigabyte", "copybacks")
+        self.assertEqual([reported[name] for name in names], [None, 1.2, 25_000_000, 1])
 
     @needs("matplotlib")
     def test_page_of_quiet_run_names_the_option(self):
         page = self.folder / "page.html"
         for answers, quiet in ((self.file("quiet", b"end,5,1,1\n"), True), (COLLECTION, False)):
-            words = ("--collections", self.file("log", LOG), "--trace", "trace.csv", "--blocks", "3", "--pages", "2", "--words", "1", "--sectors", "3", "--page", page)
+            device = ("--blocks", "3", "--pages", "2", "--words", "1", "--sectors", "3")
+            words = ("--collections", self.file("log", LOG), "--trace", "trace.csv", *device, "--page", page)
             self.assertEqual(Run("report", answers, *words).errors, "")
             self.assertEqual(" --quiet &lt; trace.csv &gt; " in page.read_text(), quiet)
 
@@ -189,12 +191,13 @@ class Collections(InFolder):
         for words, message in [
             (("--blocks", "4"), "the wear file has 3 blocks, and the device of the options has 4"),
             (("--words", "2"), "the reads show pages of 8 bytes, and the device of the options has 16"),
-            (("--pages", "1"), "the log has a victim that the device of the options can't have"),
+            (("--pages", "1", "--sectors", "1"), "the log has a victim that the device of the options can't have"),
         ]:
             with self.subTest(words):
                 done = Run("report", COLLECTION, *files, *device, *words)
                 self.assertEqual(done.status, 3)
                 self.assertIn(message, done.errors)
+        self.assertEqual(Run("report", COLLECTION, *files, *device, "--pages", "1").status, 2)
 
     def test_refuses_invalid_arguments(self):
         for words in (("--victims-picture", "x.svg"), ("--collections", "log", "--victims-picture", "x.gif"), ("--pieces", "0")):
@@ -258,7 +261,7 @@ class Pictures(InFolder):
     def test_pictures_name_axes_device_and_trace(self):
         device = (TOP / "examples/collection.args").read_text().split()
         title = "3 blocks of 2 pages, 3 sectors (50 %) · collection.csv"
-        axes = ("erases", "write amplification (pages programmed / pages written)", "collections per 1,000 lines", "live pages of the victim (all are copied)")
+        axes = ("erases", "write amplification", "collections per 1,000 lines", "live pages of the victim (all are copied)")
         for picture, wanted in zip(self.drawn(".svg", "--trace", TOP / "examples/collection.csv", *device), axes):
             text = picture.decode()
             self.assertIn("<svg", text)
@@ -276,7 +279,7 @@ class Pictures(InFolder):
             wear = b"block,erases,live,retired\n" + b"".join(b"%d,%d,0,%d\n" % (block, block % 7, block == 6) for block in range(count))
             erases = sum(block % 7 for block in range(count))
             paths.append(self.folder / f"{count}.svg")
-            done = Run("report", self.file("answers", b"end,0,0,%d\n" % erases), "--wear", self.file("wear", wear), "--erases-picture", paths[-1])
+            done = Run("report", self.file("answers", b"end,9999,0,%d\n" % erases), "--wear", self.file("wear", wear), "--erases-picture", paths[-1])
             self.assertEqual(done.status, 0, done.errors)
         bars, curve = (path.read_text() for path in paths)
         self.assertIn("in use", bars)

@@ -5,8 +5,6 @@ import os
 import random
 import subprocess
 import sys
-import time
-import unittest
 
 from simulation import faults, model, part
 from simulation.device import LAUNCHER
@@ -66,7 +64,7 @@ class ServiceTimes(ResponseTest):
 
     def test_failed_erase_takes_time_and_refused_write_none(self):
         reported = self.reported("1,write,0,written\n2,write,0,worn\nend,1,1,1\n", "1,0,1,1,1,retired\n")
-        self.assertEqual((reported["response_writes_count"], reported["response_writes_longest_us"], reported["response_writes_mean_us"]), (2, 1110.5, 1110.5 / 2))
+        self.assertEqual([reported[f"response_writes_{name}"] for name in ("count", "longest_us", "mean_us")], [2, 1110.5, 1110.5 / 2])
 
 
 @needs("numpy")
@@ -198,7 +196,7 @@ class SmallRuns(InFolder):
                 answers = self.file("answers", f"{lines}end,{writes},0,0\n".encode())
                 done = Run("report", answers, "--collections", log, *TIMES, *pictures, "--page", self.folder / "page.html")
                 self.assertEqual((done.status, done.errors), (0, ""))
-                self.assertIn(f"response of writes   {'1: mean 10.5' if writes else 'none'}", done.text)
+                self.assertRegex(done.text, f"latency of writes +{'1: mean 10.5 µs' if writes else 'none'}")
                 self.assertIn("<svg", (self.folder / "page.html").read_text())
 
 
@@ -220,13 +218,13 @@ class Parts(InFolder):
     def test_refuses_invalid_times(self):
         for text, message in [
             (self.good.replace("copyback = 220", "copyback = 0"), "the copyback 0 is less than a nanosecond; leave it out for a part without it"),
-            (self.good.replace("read = 25", "read = -1"), "the read -1 isn't a time in microseconds"),
+            (self.good.replace("read = 25", "read = -1"), "the read -1 isn't a number from 0 to 1,000,000,000, in microseconds"),
             (self.good.replace("read = 25", "read = 0"), "the read 0 is less than a nanosecond"),
-            (self.good.replace("transfer = 0", "transfer = -0.5"), "the transfer -0.5 isn't a time"),
-            (self.good.replace("erase = 1500", "erase = inf"), "the erase inf isn't a time"),
-            (self.good.replace("erase = 1500", "erase = nan"), "the erase nan isn't a time"),
-            (self.good.replace("erase = 1500", 'erase = "1500"'), "the erase '1500' isn't a time"),
-            (self.good.replace("erase = 1500", "erase = true"), "the erase True isn't a time"),
+            (self.good.replace("transfer = 0", "transfer = -0.5"), "the transfer -0.5 isn't a number"),
+            (self.good.replace("erase = 1500", "erase = inf"), "the erase inf isn't a number"),
+            (self.good.replace("erase = 1500", "erase = nan"), "the erase nan isn't a number"),
+            (self.good.replace("erase = 1500", 'erase = "1500"'), "the erase '1500' isn't a number"),
+            (self.good.replace("erase = 1500", "erase = true"), "the erase True isn't a number"),
             (self.good.replace("program = 200.5\n", ""), "the time 'program' is missing"),
             (self.good + "tPROG = 3\n", "'tPROG' isn't a key of a part"),
             (self.good + "read = 3\n", "isn't a TOML file"),
@@ -359,20 +357,17 @@ class Large(InFolder):
         self.file("arrivals", b"".join(b"%d.%03d\n" % (line * 900, line % 1000) for line in range(1, self.COUNT + 1)))
 
     def report(self, *words):
-        """Checks that a report takes at most a minute of processor time and 1.5 GB of memory. It may take longer by the clock only if more
-        processes want to run than there are processors."""
+        """Checks that a report takes at most a minute of processor time and 1.5 GB of memory. How long it takes by the clock also depends on what
+        else runs."""
         files = ("--collections", self.folder / "log", "--arrivals", self.folder / "arrivals")
         call = [sys.executable, TOOLS / "report", self.folder / "answers", "--json", *files, *map(str, TIMES), *words]
-        begun = time.monotonic()
         with open(self.folder / "out", "wb") as sink:
             process = subprocess.Popen(call, stdout=sink)
             _, status, usage = os.wait4(process.pid, 0)
-        passed = time.monotonic() - begun
         process.returncode = os.waitstatus_to_exitcode(status)
         self.assertEqual(process.returncode, 0)
         self.assertEqual(json.loads((self.folder / "out").read_text())["response_all_count"], self.COUNT)
         self.assertLess(usage.ru_utime + usage.ru_stime, 60)
-        self.assertLess(passed, 60 * max(1, os.getloadavg()[0] / os.cpu_count()))
         self.assertLess(usage.ru_maxrss / 1_000_000, 1.5)
 
     def test_report_of_five_million_lines_is_within_limits(self):

@@ -22,15 +22,26 @@ SMALL = ("--blocks", "8", "--words", "1", "--endurance", "1000")
 
 class Grids(unittest.TestCase):
     def test_parses_lists_and_ranges(self):
-        self.assertEqual(grid.numbers_in("50,60:80:10,95"), [50, 60, 70, 80, 95])
-        for text in ("", "1,,2", "1:2", "2:3:0", "90:50:10", "x"):
-            with self.assertRaises(ValueError):
-                grid.numbers_in(text)
+        self.assertEqual(grid.numbers_in("50,60:80:10,95", "utilisation"), [50, 60, 70, 80, 95])
+        for text in ("", "1,,2", "1:2", "2:3:0", "90:50:10", "x", "inf", "nan", "1:2:1e-300", "101", "-5", "1_0", "1:2:3:4"):
+            with self.subTest(text), self.assertRaises(ValueError):
+                grid.numbers_in(text, "utilisation")
+        for text in ("8.7", "8:9:0.5", "-8", "1:4000000000:1"):
+            with self.subTest(text), self.assertRaises(ValueError):
+                grid.numbers_in(text, "blocks")
+
+    def test_has_a_bounded_number_of_points(self):
+        with self.assertRaisesRegex(ValueError, "10,000,000 points"):
+            grid.points_of({name: list(range(1, 10 + 1)) for name in grid.AXES})
+        for text in ("x", "blocks", "blocks=", "blocks=8.7", "colour=3", "blocks=8,,pages=4"):
+            with self.subTest(text), self.assertRaises(ValueError):
+                grid.point_in(text)
 
     def test_points_are_all_combinations(self):
         points = grid.points_of({"pages": [8, 16], "utilisation": [50, 75]})
         self.assertEqual([point.device["sectors"] for point in points], [256, 384, 512, 768])
-        for point in points:
+        large = grid.points_of({"sectors": [1_048_575], "endurance": [1_000_000]}) + grid.points_of({"utilisation": [200 / 3]})
+        for point in points + large:
             self.assertEqual(grid.point_in(str(point)), point)
 
 
@@ -74,9 +85,11 @@ class Sweeps(unittest.TestCase):
         rows = self.rows()
         # Written in order, a victim has no live page, so nothing is copied; a block is erased for each that is filled.
         found = [[row[name] for name in ("pages", "sectors", "lines", "programs", "copies", "erases", "worn")] for row in rows]
-        self.assertEqual(found, [["4", "16", "32", "32", "0", "8", "0"], ["8", "32", "64", "64", "0", "8", "0"]])
+        # Both are measured over as many lines, a round of the larger one: of 64 pages the smaller one has 32.
+        self.assertEqual(found, [["4", "16", "64", "64", "0", "16", "0"], ["8", "32", "64", "64", "0", "8", "0"]])
+        self.assertEqual(done.text, "sweep: 2 points, the lines of each behind the first 64 and the fill; no write was refused\n")
         picture = (self.out / "sweep.svg").read_text()
-        for text in ("pages per block", "write amplification (pages programmed / pages written)", "8 blocks · sequential --fill"):
+        for text in ("pages per block", "write amplification", "8 blocks · sequential --fill"):
             self.assertIn(text, picture)
         # The last job is taken out of the log, as if it had been cut off: it alone is played again.
         log = self.out / "jobs.log"
@@ -98,8 +111,9 @@ class Sweeps(unittest.TestCase):
         trace = TOP / "examples/collection.csv"
         done = Run("sweep", "--out", self.out, "--trace", trace, "--blocks", "2,3", "--pages", "2", "--words", "1", "--sectors", "3", "--endurance", "10")
         self.assertEqual(done.status, 1)
-        self.assertIn("blocks=2,pages=2,words=1,sectors=3,endurance=10: ", done.errors)
-        self.assertIn("geometry: Blocks", done.errors)
+        told = "no device has 2 blocks: a device has 3 to 4,096, and the nearest has 3"
+        self.assertIn(f"blocks=2,pages=2,words=1,sectors=3,endurance=10: {told}\n", done.errors)
+        self.assertIn("1 of 2 points make no device, and --resume can't change that", done.errors)
         found = [[row[name] for name in ("lines", "programs", "copies", "erases", "write_amplification")] for row in self.rows()]
         self.assertEqual(found, [["9", "5", "1", "1", "1.200000"]])
 
@@ -116,23 +130,54 @@ class Sweeps(unittest.TestCase):
         self.assertEqual([float(row[name]) for name in ("write_mean_us", "write_p99_us", "write_p999_us")], [(24 * 10.5 + 8 * 1010.5) / 32, 1010.5, 1010.5])
         self.assertAlmostEqual(float(row["load"]), (32 * 10.5 + 8 * 1000) / 3_100_000, places=6)
         self.assertEqual([row[name] for name in ("lines", "programs", "copies", "erases", "worn")], ["32", "32", "0", "8", "0"])
-        self.assertIn("response of writes, 99 % (µs)", (self.out / "sweep.svg").read_text())
+        self.assertIn("p99 latency of writes (µs)", (self.out / "sweep.svg").read_text())
 
     @needs("numpy")
     def test_response_times_with_arrivals(self):
         arrivals = self.out.parent / "arrivals"
-        arrivals.write_text("".join(f"{line * 4}\n" for line in range(9)))
+        arrivals.write_text("".join(f"{line * 4 if line < 8 else 4000}\n" for line in range(9)))
         times = ("--read-time", "1", "--program-time", "10", "--erase-time", "1000", "--transfer-time", "0")
         device = (TOP / "examples/collection.args").read_text().split()
-        done = Run("sweep", "--out", self.out, "--trace", TOP / "examples/collection.csv", "--arrivals", arrivals, "--speed", "2", *device, *times)
+        words = ("--trace", TOP / "examples/collection.csv", "--arrivals", arrivals, *device, *times)
+        done = Run("sweep", "--out", self.out, *words, "--speed", "2")
         self.assertEqual((done.status, done.errors), (0, ""))
         # Writes arrive at 0, 2, 4, 6 and 8 and take 10, the last one 11 for its copy and 1,000 for its erase before that.
         self.assertEqual(float(self.rows()[0]["write_mean_us"]), (10 + 18 + 26 + 34 + 1053) / 5)
+        # Faster, more work arrives than the device can do.
+        done = Run("sweep", "--out", self.out, *words, "--speed", "4", "--force")
+        self.assertEqual(done.lines[1], "sweep: 3 blocks of 2 pages, 3 sectors: the device cannot carry this load: 1.062 of it")
+        self.assertEqual([self.rows()[0][name] for name in ("write_mean_us", "write_p99_us", "write_p999_us")], ["", "", ""])
+
+    @needs("numpy")
+    def test_latencies_are_of_requests_also_of_a_trace_that_is_cut(self):
+        arrivals, requests = self.out.parent / "arrivals", self.out.parent / "requests"
+        arrivals.write_text("".join(f"{line // 2 * 1000}\n" for line in range(9)))
+        requests.write_text("".join(f"{line // 2 + 1},16\n" for line in range(9)))
+        times = ("--read-time", "1", "--program-time", "10", "--erase-time", "1000", "--transfer-time", "0")
+        device = (TOP / "examples/collection.args").read_text().split()
+        words = ("--trace", TOP / "examples/collection.csv", "--arrivals", arrivals, "--requests", requests, *device, *times)
+        done = Run("sweep", "--out", self.out, *words, "--rounds", "0.67")
+        self.assertEqual((done.status, done.errors), (0, ""))
+        # The first four lines are two requests of two writes each.
+        self.assertEqual([self.rows()[0][name] for name in ("lines", "write_mean_us", "write_p999_us")], ["4", "20.000", "20.000"])
+
+    def test_counts_behind_line_and_tells_of_refused_writes(self):
+        mark = self.out.parent / "mark"
+        mark.write_text("4\n")
+        device = ("--blocks", "3", "--pages", "2", "--words", "1", "--sectors", "3", "--endurance", "1,10")
+        trace = self.out.parent / "trace.csv"
+        trace.write_text("".join(f"0,write,{sector},\n" for sector in (0, 1, 2, 0, 2, 0, 1, 2)))
+        done = Run("sweep", "--out", self.out, "--trace", trace, "--from-mark", mark, *device)
+        self.assertEqual((done.status, done.errors), (0, ""))
+        refused = "REFUSED: 3 of 4 writes at 3 blocks of 2 pages, 3 sectors"
+        self.assertEqual(done.lines[0], f"sweep: 2 points, the lines of each behind the first 4; {refused}")
+        self.assertEqual([[row[name] for name in ("lines", "programs", "worn")] for row in self.rows()], [["4", "1", "3"], ["4", "4", "0"]])
 
     @needs("numpy")
     def test_rows_agree_with_model_on_random_traces(self):
         """Each row with times has the totals and the mean of the writes as the model counts them, and the totals of a row without times."""
-        times, seeded = ("--read-time", "1", "--program-time", "10", "--copyback-time", "9", "--erase-time", "1000", "--transfer-time", "0.5"), random.Random(31)
+        times = ("--read-time", "1", "--program-time", "10", "--copyback-time", "9", "--erase-time", "1000", "--transfer-time", "0.5")
+        seeded = random.Random(31)
         trace, played = self.out.parent / "trace.csv", 0
         for number in range(4):
             numbers, text = random_run(seeded)
@@ -177,12 +222,13 @@ class Sweeps(unittest.TestCase):
         self.assertEqual(Run("sweep", *words).status, 0)
         trace.write_text("0,write,1,\n")
         self.assertIn("is another one", Run("sweep", *words, "--resume").errors)
-        point = Run("sweep", "--trace", trace, "--trace-sum", "0" * 64, "--point", "blocks=8")
+        point = Run("sweep", "--trace", trace, "--trace-sum", "0" * 64, "--point", "blocks=8,sectors=40")
         self.assertEqual((point.status, point.errors), (1, f"sweep: {trace} has changed since the sweep began\n"))
 
     def test_interrupt_says_how_to_resume(self):
         words = ["--out", self.out, "--make", "uniform --fill", "--rounds", "200", *SMALL, "--pages", "256", "--utilisation", "50:90:1", "--jobs", "1"]
-        with subprocess.Popen([sys.executable, TOOLS / "sweep", *words], stderr=subprocess.PIPE, text=True, start_new_session=True) as run:
+        call = {"stderr": subprocess.PIPE, "text": True, "start_new_session": True, "preexec_fn": default_signals}
+        with subprocess.Popen([sys.executable, TOOLS / "sweep", *words], **call) as run:
             while not (self.out / "jobs.log").exists():
                 time.sleep(0.05)
             time.sleep(0.5)
@@ -220,6 +266,12 @@ class Sweeps(unittest.TestCase):
         self.assertIn("127.0.0.1", hosts.pop())
 
 
+def default_signals():
+    """What whoever started the tests ignores isn't ignored here: a shell has jobs in the background ignore an interrupt."""
+    for number in (signal.SIGINT, signal.SIGQUIT):
+        signal.signal(number, signal.SIG_DFL)
+
+
 def other_program():
     """The setting by which another machine plays with the program that this one uses, if that isn't the launcher."""
     return f"FLASHPLAY={os.environ['FLASHPLAY']}" if "FLASHPLAY" in os.environ else ""
@@ -238,9 +290,12 @@ class Refusals(unittest.TestCase):
     def test_refuses_invalid_arguments(self):
         uniform = "--make", "uniform"
         refused = [
-            ("--make", "normal"), ("--trace", "x", *uniform), (),
+            ("--make", "normal"), ("--make", "uniform '"), ("--make", "uniform --exponent nan"), ("--make", "uniform --what"),
+            ("--trace", "x", *uniform), (),
             *((*uniform, *words.split()) for words in (
-                "--pages a", "--blocks 90:50:10", "--settle 9", "--resume --force", "--up load", "--speed 0", "--part /nowhere --arrivals a",
+                "--pages a", "--blocks 8.7", "--blocks inf", "--pages nan", "--blocks=-8", "--blocks 1:2:1e-300", "--blocks 90:50:10", "--point x",
+                "--rounds inf", "--rounds 1000000", "--jobs x", "--from-line 5", "--utilisation 101", "--settle 9",
+                "--resume --force", "--up load", "--speed 0", "--part /nowhere --arrivals a",
             )),
         ]
         for words in refused:

@@ -1,0 +1,143 @@
+"""The launcher in a repository of two crates, beside a stand-in for the toolchain."""
+
+import os
+import pathlib
+import shutil
+import signal
+import subprocess
+import tempfile
+import time
+import unittest
+
+from tests.tools import TOP
+
+# Each check tells how far it is, and starts a process of its own, whose number it leaves in a file. The check of `low` waits for a file.
+TOOLCHAIN = """#!/bin/sh
+[ "$1" != version ] || { echo "kit 1"; exit 0; }
+name=$(basename "$PWD")
+case $1 in
+check)
+  echo "so far: 0 of 3 functions checked; the verdict comes last"
+  echo "checked $name::first, 1 of 3"
+  sleep 600 & echo $! >"$STATE/$name.pid"
+  echo $$ >"$STATE/$name.check"
+  while [ ! -e "$STATE/go" ]; do sleep 0.05; done
+  kill $!
+  [ ! -e "$STATE/$name.fails" ] || { echo "fn $name::first: not proved"; exit 1; } ;;
+run)
+  mkdir -p out
+  printf '#!/bin/sh\\n[ "$*" = --version ] && echo flashplay 1.2.3 || cat "%s/examples/first.out"\\n' "$TOP" >out/flashplay
+  chmod +x out/flashplay ;;
+esac
+"""
+
+
+def is_there(process):
+    try:
+        return pathlib.Path(f"/proc/{process}/stat").read_text().rpartition(")")[2].split()[0] != "Z"
+    except OSError:
+        return False
+
+
+class Launcher(unittest.TestCase):
+    def setUp(self):
+        folder = tempfile.TemporaryDirectory()
+        self.addCleanup(folder.cleanup)
+        self.state = pathlib.Path(folder.name)
+        self.top = self.state / "top"
+        for crate in ("low", "flashplay"):
+            (self.top / "crates" / crate / "src").mkdir(parents=True)
+            (self.top / "crates" / crate / "src/lib.rt").write_text(f"// {crate}\n")
+        (self.top / "crates.txt").write_text("low:\nflashplay: low io\n")
+        shutil.copytree(TOP / "examples", self.top / "examples")
+        shutil.copy(TOP / "flashplay", self.top / "flashplay")
+        path = self.state / "bin"
+        path.mkdir()
+        (path / "rt").write_text(TOOLCHAIN)
+        (path / "rt").chmod(0o755)
+        self.environment = {**os.environ, "PATH": f"{path}:{os.environ['PATH']}", "STATE": str(self.state), "TOP": str(self.top)}
+
+    def prove(self):
+        launcher = subprocess.Popen(
+            [self.top / "flashplay", "--prove"],
+            stdin=subprocess.DEVNULL,
+            stderr=subprocess.PIPE,
+            text=True,
+            env=self.environment,
+            preexec_fn=lambda: signal.signal(signal.SIGINT, signal.SIG_DFL),  # whoever started this test may ignore it
+        )
+        self.addCleanup(launcher.stderr.close)
+        self.addCleanup(launcher.kill)
+        return launcher
+
+    def wait_for(self, test, seconds=30):
+        end = time.monotonic() + seconds
+        while not test():
+            self.assertLess(time.monotonic(), end, test)
+            time.sleep(0.05)
+
+    def processes(self, crate):
+        files = [self.state / f"{crate}.pid", self.state / f"{crate}.check"]
+        self.wait_for(lambda: all(file.exists() and file.read_text().strip() for file in files))
+        return [int(file.read_text()) for file in files]
+
+    def test_tells_functions_and_crates(self):
+        launcher = self.prove()
+        self.processes("low")
+        self.assertIn("proving 2 crates", launcher.stderr.readline())
+        self.assertEqual(launcher.stderr.readline(), "flashplay: functions checked: low 1 of 3\n")
+        self.assertFalse((self.state / "flashplay.check").exists())
+        (self.state / "go").touch()
+        told = launcher.communicate(timeout=30)[1]
+        self.assertEqual(launcher.returncode, 0, told)
+        order = [told.index(text) for text in ("1 of 2 crates are proved, low", "2 of 2 crates are proved, flashplay", "the program is proved")]
+        self.assertEqual(order, sorted(order))
+
+    def test_fails_with_what_the_check_said(self):
+        (self.state / "low.fails").touch()
+        (self.state / "go").touch()
+        launcher = self.prove()
+        told = launcher.communicate(timeout=30)[1]
+        self.assertEqual(launcher.returncode, 70)
+        self.assertIn("fn low::first: not proved", told)
+        self.assertIn("the program was not built: low is not proved", told)
+        self.assertFalse((self.state / "flashplay.check").exists())
+
+    def ends_all(self, by, to_reader=()):
+        """Sends the launcher a signal, after these to what a check has beside it to end it."""
+        launcher = self.prove()
+        processes = self.processes("low")
+        self.assertTrue(all(map(is_there, processes)))
+        for signal_before in to_reader:
+            for reader in self.children(processes[1]):
+                os.kill(reader, signal_before)
+        launcher.send_signal(by)
+        launcher.wait(timeout=30)
+        self.wait_for(lambda: not any(map(is_there, processes)))
+        return launcher.returncode
+
+    def children(self, parent):
+        """The processes of the launcher's name whose parent is this one."""
+        name = bytes(self.top / "flashplay")
+        for folder in pathlib.Path("/proc").glob("[0-9]*"):
+            try:
+                if name in (folder / "cmdline").read_bytes() and int((folder / "stat").read_text().rpartition(")")[2].split()[1]) == parent:
+                    yield int(folder.name)
+            except OSError:
+                continue  # it has ended meanwhile
+
+    def test_ends_its_processes_when_their_readers_are_terminated_and_it_is_killed(self):
+        self.assertEqual(self.ends_all(signal.SIGKILL, to_reader=(signal.SIGINT, signal.SIGTERM)), -signal.SIGKILL)
+
+    def test_ends_its_processes_when_it_is_terminated(self):
+        self.assertEqual(self.ends_all(signal.SIGTERM), 143)
+        self.assertEqual([path.name for path in (self.top / "out/launcher").iterdir()], ["lock"])
+
+    def test_ends_its_processes_when_it_is_interrupted(self):
+        self.assertEqual(self.ends_all(signal.SIGINT), 130)
+
+    def test_ends_its_processes_when_it_is_killed(self):
+        self.assertEqual(self.ends_all(signal.SIGKILL), -signal.SIGKILL)
+        # The next launcher takes over, and removes what was left.
+        (self.state / "go").touch()
+        self.assertEqual(self.prove().wait(timeout=30), 0)
