@@ -1,18 +1,13 @@
-#!/usr/bin/env python3
-"""record-check: what .ci/wrong-bodies records, tried on three small crates with a stand-in for `rt`: a clean checkout passes
-with any version of the toolchain, and no entry of another version is lost."""
+"""What `wrong-bodies` records, tried on three small crates: a clean checkout passes with any version of the toolchain, and no entry of
+another version is lost."""
 
-import os
-import shutil
 import subprocess
-import tempfile
-import unittest
-from pathlib import Path
+from unittest import mock
 
-TOP = Path(__file__).resolve().parent.parent
-STAND_IN = """#!/usr/bin/env bash
-# Refuses each edit except those named in the file `taken`, and prints the line in the file `version` as its version.
-top=${0%/bin/rt}
+from gate import twins, wrong_bodies
+from gate.tests import Small
+
+STAND_IN = """# Refuses each edit except those named in the file `taken`, and prints the line in the file `version` as its version.
 if [ "$1" = version ]; then cat "$top/version"; exit; fi
 for edit in crates/*/must-fail/*.edit; do
   [ -e "$edit" ] || continue
@@ -22,7 +17,6 @@ for edit in crates/*/must-fail/*.edit; do
   echo "rt: must-fail ${name%%/*}/$(basename "$edit"): $said"
 done
 """
-# Definitions with long lines, and the same with their lines broken, and code in which each change tried below is one of its meaning.
 LONG = """use low.{one, two}
 pub use low.{three}
 word : (x : N) → N
@@ -63,48 +57,30 @@ CODE = "fn low() {\n    f(x); // a\n    g((x,), ' ', \"  \");\n    f(x);\n}\n"
 OLD, NEW = "rattle-kit-1a logic 01", "rattle-kit-1b logic 01"
 
 
-class Record(unittest.TestCase):
+class Refused(Small):
     def setUp(self):
-        self.top = Path(tempfile.mkdtemp(prefix="record-"))
-        self.addCleanup(shutil.rmtree, self.top)
-        self.write("bin/rt", STAND_IN).chmod(0o755)
-        self.write(".ci/wrong-bodies", (TOP / ".ci/wrong-bodies").read_text()).chmod(0o755)
-        self.write(".ci/twins", '#!/bin/sh\necho "$@" >>"${0%/.ci/twins}/proved"\n').chmod(0o755)
+        super().setUp()
+        self.stand_in(STAND_IN)
+        self.proved = mock.patch.object(twins, "main", return_value=0).start()
+        self.addCleanup(mock.patch.stopall)
         self.write("crates.txt", "uses:\nlow:\nhigh: low\n")
-        self.write("HANDLES", "Handles allowed: none.\n")
         self.write("taken", "")
         (self.top / ".git").mkdir()
         for name in ("uses", "low", "high"):
             self.write(f"crates/{name}/src/lib.rt", f"// {name}\n")
-            self.write(f"crates/{name}/must-fail/{name}_errs.edit", "file: src/lib.rt\n")
+            self.edit(name, f"must-fail/{name}_errs.edit")
         self.version(OLD)
-        self.run_here("--all")
-
-    def write(self, path, text):
-        file = self.top / path
-        file.parent.mkdir(parents=True, exist_ok=True)
-        file.write_text(text)
-        return file
-
-    def test_all_proves_the_twins_too_and_a_single_crate_does_not(self):
-        self.run_here("low")
-        self.assertEqual((self.top / "proved").read_text(), "--all\n")
+        self.run_main(wrong_bodies, "--all")
 
     def version(self, line):
         self.write("version", line + "\n")
 
-    def run_here(self, *words, status=0):
-        path = f"{self.top}/bin:{os.environ['PATH']}"
-        run = subprocess.run([self.top / ".ci/wrong-bodies", *words], capture_output=True, text=True, env={**os.environ, "PATH": path})
-        self.assertEqual(run.returncode, status, run.stdout + run.stderr)
-        return run.stdout
-
     def gate(self, status=0):
         """A run of the gate: what it prints about the edits that it leaves out, and the crates whose edits it tries."""
-        said = self.run_here("--aside")
+        said = self.run_main(wrong_bodies, "--aside")
         tried = sorted({path.parent.parent.name for path in self.top.glob("crates/*/must-fail/*.edit")})
         log = subprocess.run([self.top / "bin/rt", "ci"], cwd=self.top, capture_output=True, text=True, check=True).stdout
-        self.run_here("--back", str(self.write("log", log)), status=status)
+        self.run_main(wrong_bodies, "--back", str(self.write("log", log)), status=status)
         self.assertEqual(len(list(self.top.glob("crates/*/must-fail/*.edit"))), 3)
         return said, tried
 
@@ -113,6 +89,10 @@ class Record(unittest.TestCase):
 
     def record(self):
         return (self.top / ".ci/refused").read_text()
+
+    def test_all_proves_the_twins_too_and_a_single_crate_does_not(self):
+        self.run_main(wrong_bodies, "low")
+        self.proved.assert_called_once_with(["--all"])
 
     def test_an_unchanged_text_is_not_tried_again_by_another_version(self):
         before = self.record()
@@ -127,7 +107,7 @@ class Record(unittest.TestCase):
         self.write("crates/high/src/lib.rt", "mod changed;\n")
         self.assertEqual(self.gate()[1], ["high", "uses"])
         self.assertEqual(self.entries(), [("high", NEW), ("low", OLD), ("uses", OLD)])
-        self.assertEqual(self.run_here("--versions"), f"{OLD}\n{NEW}\n")
+        self.assertEqual(wrong_bodies.refused().versions(), {"uses": [OLD], "low": [OLD], "high": [NEW]})
 
     def test_definitions_below_count_as_text(self):
         self.write("crates/low/specs/Low.antt", "word = 1\n")
@@ -144,7 +124,7 @@ class Record(unittest.TestCase):
     def test_a_broken_line_is_no_changed_text(self):
         self.write("crates/low/specs/Low.antt", LONG)
         self.write("crates/low/src/lib.rt", "fn low() -> u32 {\n    1\n}\n")
-        self.run_here("low", "high")
+        self.run_main(wrong_bodies, "low", "high")
         before = self.record()
         self.write("crates/low/specs/Low.antt", BROKEN)
         self.write("crates/low/src/lib.rt", "fn low()\n    -> u32\n{\n    1\n}\n\n")
@@ -155,7 +135,7 @@ class Record(unittest.TestCase):
         self.write("crates/low/specs/Low.antt", LONG)
         for old, new in (("  inner", "inner"), ("f x, y", "f x y"), ('"a  b"', '"a b"'), ("{one, two}", "{one}"), ("pub use", "use")):
             self.assertIn(old, LONG)
-            self.run_here("low")
+            self.run_main(wrong_bodies, "low")
             before = self.record()
             self.write("crates/low/specs/Low.antt", LONG.replace(old, new))
             self.assertEqual(self.gate()[1], ["high", "low", "uses"])
@@ -163,29 +143,29 @@ class Record(unittest.TestCase):
             self.write("crates/low/specs/Low.antt", LONG)
         for old, new in (("f(x);", "f(x)"), ("(x,)", "(x)"), ('"  "', '" "'), ("// a\n", "// a ")):
             self.write("crates/low/src/lib.rt", CODE)
-            self.run_here("low", "high")
+            self.run_main(wrong_bodies, "low", "high")
             self.write("crates/low/src/lib.rt", CODE.replace(old, new))
             self.assertEqual(self.gate()[1], ["low", "uses"], old)
 
     def test_an_edit_has_to_fit_its_file(self):
-        self.write("crates/low/must-fail/low_errs.edit", "file: src/lib.rt\nold: // low\nnew: // high\n")
-        self.run_here("low")
-        self.run_here("--aside")
-        self.run_here("--back")
+        self.edit("low", "must-fail/low_errs.edit", ("// low", "// high"))
+        self.run_main(wrong_bodies, "low")
+        self.run_main(wrong_bodies, "--aside")
+        self.run_main(wrong_bodies, "--back")
         self.write("crates/low/src/lib.rt", "// lower\n")
-        self.run_here("--aside")
-        self.run_here("--back")
+        self.run_main(wrong_bodies, "--aside")
+        self.run_main(wrong_bodies, "--back")
         self.write("crates/low/src/lib.rt", "// other words\n")
-        self.run_here("--aside", status=1)
+        self.run_main(wrong_bodies, "--aside", status=1)
 
     def test_all_adds_its_entries_and_takes_none_of_another_version_away(self):
         self.version(NEW)
-        self.run_here("--all")
+        self.run_main(wrong_bodies, "--all")
         self.assertEqual(self.entries(), [(name, its) for name in ("high", "low", "uses") for its in (OLD, NEW)])
 
     def test_an_edit_that_is_proved_is_not_recorded(self):
         self.write("taken", "low_errs.edit\n")
-        self.run_here("low", status=1)
+        self.run_main(wrong_bodies, "low", status=1)
         self.assertEqual(self.entries(), [("high", OLD), ("uses", OLD)])
 
     def test_the_edit_of_each_run_has_to_be_refused(self):
@@ -194,10 +174,10 @@ class Record(unittest.TestCase):
 
     def test_a_log_counts_only_for_the_run_that_put_edits_aside(self):
         before = self.record()
-        self.run_here("--aside")
+        self.run_main(wrong_bodies, "--aside")
         log = str(self.write("log", ""))
-        self.run_here("--back")
-        self.run_here("--back", log, status=2)
+        self.run_main(wrong_bodies, "--back")
+        self.run_main(wrong_bodies, "--back", log, status=2)
         self.assertEqual(self.record(), before)
 
     def test_a_run_that_tries_all_edits_is_recorded(self):
@@ -206,8 +186,4 @@ class Record(unittest.TestCase):
         self.assertEqual(self.entries(), [(name, OLD) for name in ("high", "low", "uses")])
 
     def test_a_crate_without_wrong_bodies_is_named(self):
-        self.run_here("nothing", status=2)
-
-
-if __name__ == "__main__":
-    unittest.main()
+        self.run_main(wrong_bodies, "nothing", status=2)

@@ -1,13 +1,11 @@
-#!/usr/bin/env python3
-"""layout-check: what .ci/layout refuses, tried on a small repository: lines, terms, functions and files at the most that is allowed pass,
-and one more of each is refused."""
+"""What `layout` refuses: lines, terms, functions and files at the most that is allowed pass, and one more of each is refused."""
 
 import subprocess
-import tempfile
 import unittest
-from pathlib import Path
+from unittest import mock
 
-TOP = Path(__file__).resolve().parent.parent
+from gate import layout
+from gate.tests import Small
 
 
 def term(lines):
@@ -18,33 +16,22 @@ def function(lines):
     return "pub fn long(x: u32) -> u32\n    ensures { result ≡ x }\n{\n" + "    x;\n" * lines + "}\n"
 
 
-class Layout(unittest.TestCase):
+class Layout(Small):
     def setUp(self):
-        folder = tempfile.TemporaryDirectory(prefix="layout-check-")
-        self.addCleanup(folder.cleanup)
-        self.top = Path(folder.name)
+        super().setUp()
         subprocess.run(["git", "init", "-q", self.top], check=True)
-        text = (TOP / ".ci/layout").read_text()
-        start, end = text.index("STILL_LONG = {"), text.index("}  # fmt: skip\nSIGNATURE")
-        self.write(".ci/layout", text[:start] + 'STILL_LONG = {"tool": 1\n' + text[end:]).chmod(0o755)
+        listed = mock.patch.object(layout, "STILL_LONG", {"tool": 1})
+        listed.start()
+        self.addCleanup(listed.stop)
         self.write("tool", "#!/bin/sh\n" + "#" * 161 + "\n")
-
-    def write(self, path, text):
-        file = self.top / path
-        file.parent.mkdir(parents=True, exist_ok=True)
-        file.write_text(text)
-        return file
 
     def passes(self, path, text):
         self.write(path, text)
-        run = subprocess.run([self.top / ".ci/layout"], capture_output=True, text=True, check=False)
-        self.assertEqual((run.returncode, run.stderr), (0, ""))
+        self.run_main(layout)
 
     def refuses(self, path, text, *said):
         file = self.write(path, text)
-        run = subprocess.run([self.top / ".ci/layout"], capture_output=True, text=True, check=False)
-        self.assertEqual(run.returncode, 1)
-        self.assertEqual(run.stderr.splitlines(), [*said])
+        self.assertEqual(self.run_main(layout, status=1).splitlines(), [*said])
         file.unlink()
 
     def test_a_line_is_counted_in_characters(self):
@@ -60,7 +47,7 @@ class Layout(unittest.TestCase):
         self.passes("other", "#!/bin/sh\n")
         its = [f"tool:{n}: 161 columns, and at most 160 are wanted" for n in (2, 3)]
         self.refuses("tool", "#!/bin/sh\n" + ("#" * 161 + "\n") * 2, *its)
-        self.refuses("tool", "#!/bin/sh\n", ".ci/layout: tool has 0 long lines now, and 1 are listed")
+        self.refuses("tool", "#!/bin/sh\n", "tool has 0 long lines now, and tools/gate/layout.py lists 1")
 
     def test_a_term_ends_where_the_next_one_begins(self):
         self.passes("crates/low/proofs/Low.antt", term(60) + "\n" + term(60))
@@ -71,6 +58,7 @@ class Layout(unittest.TestCase):
 
     def test_a_function_is_counted_without_its_clauses(self):
         self.passes("crates/low/src/lib.rt", function(40) + "fn short() {}\n" + "// x\n" * 100)
+        self.passes("crates/low/src/lib.rt", function(1).replace("result", "record {\n        y\n    }" + "\n    z" * 50))
         self.refuses("crates/low/src/lib.rt", function(41), "crates/low/src/lib.rt:1: long: a function of 41 lines, and at most 40 are wanted")
 
     def test_a_file_has_an_end(self):

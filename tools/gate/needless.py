@@ -1,0 +1,108 @@
+"""needless CRATE.. | --all | --missing: removes the answers in proofs/ that the check of these crates doesn't need. It checks a copy of each
+crate without any answer: a goal that stays open there needs its answer, and every other answer goes, with the lemmas and imports of its
+file that nothing uses then. But the answer stays at a goal that docs/GALLERY.md names first for a wrong body of the function. In .ci/needed
+it records the answers that each crate has after that. `needless --check` fails if a recorded crate has others, which are to be tried, and
+names the crates that were never tried."""
+
+import hashlib
+import re
+import sys
+
+from gate import gallery, tree
+from gate.twins import in_copies
+from gate.wrong_definitions import part_of
+
+ANSWER = re.compile(r"^pub (\S+) : goal\.\S+$", re.M)
+# How the check names the goals that it leaves open: a file of answers to write, and each goal of it.
+FILE = re.compile(r"help: write \./proofs/(\S+)/Answers\.antt with these lines")
+OPEN = re.compile(r"^\s+pub (\S+) : goal\.")
+
+
+def files(folder):
+    """The files of answers of a crate, each by the path of its function."""
+    return {path.parent.relative_to(folder / "proofs").as_posix(): path for path in sorted(folder.glob("proofs/**/Answers.antt"))}
+
+
+def sum_of(name):
+    """The number of a crate's answers, and a sum of their functions and goals."""
+    its = [(function, goal) for function, path in files(tree.folder(name)).items() for goal in ANSWER.findall(path.read_text())]
+    return f"{len(its)} {hashlib.sha256(repr(its).encode()).hexdigest()}"
+
+
+def opened(log):
+    """The goals that a check left open, each as its function and its name."""
+    found, function = set(), ""
+    for line in log.splitlines():
+        if it := FILE.search(line):
+            function = it[1]
+        elif it := OPEN.match(line):
+            found.add((function, it[1]))
+    return found
+
+
+def tried(room, name):
+    """The goals of a crate that the check leaves open without any answer, and what it printed if it couldn't read the crate."""
+    crate = room / "crates" / name
+    for path in files(crate).values():
+        path.unlink()
+    said = tree.said_by(crate, "rt", "check", "--allow-holes", "--jobs", "2")[1]
+    return opened(said), "" if "\nholes=" in said else said
+
+
+def of_edits(name):
+    """The goals that refuse the wrong bodies of a crate, each as the name of its function and its own."""
+    goals = gallery.goals_on_page()
+    for path in tree.edits(name):
+        for place in gallery.places_of(tree.folder(name), path):
+            yield from ((place and place.name, goal) for goal in goals.get((name, gallery.in_words(path)), [])[:1])
+
+
+def cut(name, needed):
+    """Removes the answers of a crate that it doesn't need. Returns how many."""
+    gone, kept = 0, set(of_edits(name))
+    for function, path in files(tree.folder(name)).items():
+        text = path.read_text()
+        goals = set(ANSWER.findall(text))
+        stay = {goal for goal in goals if (function, goal) in needed or {(function.split("/")[-1], goal), (None, goal)} & kept}
+        gone += len(goals - stay)
+        if stay and stay != goals:
+            path.write_text(part_of(text, stay))
+        elif not stay and goals:
+            path.unlink()
+            if not any(path.parent.iterdir()):
+                path.parent.rmdir()
+    return gone
+
+
+def record():
+    return tree.TOP / ".ci" / "needed"
+
+
+def recorded():
+    return dict(line.split(" ", 1) for line in record().read_text().splitlines()) if record().exists() else {}
+
+
+def lacking():
+    """The crates with answers that were not tried."""
+    return [name for name in tree.crates() if recorded().get(name, "0") != sum_of(name) and files(tree.folder(name))]
+
+
+def main(words):
+    if words == ["--check"]:
+        untried = [name for name in lacking() if name not in recorded()]
+        others = [f"answers of {name} were not tried without: .ci/needless {name}" for name in lacking() if name not in untried]
+        return tree.verdict(others, f"each answer is needed, except in crates that were never tried: {', '.join(untried) or 'none'}")
+    names = {("--all",): list(tree.crates()), ("--missing",): lacking()}.get(tuple(words), words)
+    if not words or not set(names) <= set(tree.crates()):
+        print(__doc__, file=sys.stderr)
+        return 2
+    lost = []
+    for name, (needed, trouble) in zip(names, in_copies(names, tried) if names else ()):
+        if trouble:
+            print(trouble[-2000:], file=sys.stderr)
+            lost.append(name)
+            continue
+        count = sum_of(name).split()[0]
+        print(f"needless {name}: {cut(name, needed)} of {count} answers go", flush=True)
+        record().write_text("".join(f"{it} {its}\n" for it, its in sorted({**recorded(), name: sum_of(name)}.items())))
+    return 1 if lost else 0

@@ -1,0 +1,243 @@
+"""promises: checks that what the pages name exists in the sources.
+
+- In each table with the columns Call and Clause, the calls exist, and one of them has each clause.
+- In each table with the columns Play and Lemma, the play, what it tells, the lemma and the call belong to one step. No step is missing.
+- Each word in code quotes is a word of the sources. Each link leads somewhere, and each named file exists. A file that a page shows
+  whole is the same as on the page, and so are the lines of crates.txt. Each page names its reader in the first line.
+  No page has two headings with the same text, and README has at most 800 words.
+- A page that uses one of the glossary's words for threads and collection links the glossary there or before.
+- No source and no page has a word of RETIRED, but where that says so. No two files of the crates' specs/ define the same name, but those
+  that the glossary's table lists.
+- The pages name the versions of the toolchain for which the record says that the wrong bodies were refused on the present text.
+  The version that this machine has doesn't matter."""
+
+import re
+from functools import cache
+
+from gate import calls, record, tree
+
+MOST_WORDS = {"README.md": 800}
+PAGES = ["README.md", "docs/PROVED.md", "docs/RULE.md", "docs/LIBRARY.md", "docs/LINKING.md", "docs/GLOSSARY.md", "docs/EXTENDING.md"]
+# The files of these suffixes are sources.
+SOURCES = {".rt", ".antt", ".txt", ".h", ".c", ".cpp", ".rs", ".py", ""}
+# These name the toolchain with which all was proved.
+NAMING = ["README.md", "docs/PROVED.md"]
+VERSION = re.compile(r"rattle-kit-\w+|logic [0-9a-f]{16}")
+CODE = re.compile(r"`([^`]+)`")
+# Words of the glossary that a reader meets first; `pass`, `hold` and `stand` as nouns, or of a thread.
+OF_GLOSSARY = re.compile(r"\b(?:brooms?|a pass|passes|pins?|pinned|a hold|holds a page|drain(?:s|ed)?|fold(?:s|ed)?|meets?|stand)\b")
+# Retired words, each with the one name, and where they stay: in the types of a broom with its volume, and where they aren't renamed yet.
+RETIRED = {
+    "post posts": ("worker", "crates/exports/", "crates/durable_exports/"),
+    "crew crews roll rolls enroll": ("team",),
+    "sweeper sweepers": ("collector", "crates/exports/", "crates/uses/", "crates/two_threads/", "docs/LIBRARY.md"),
+    "swept": ("collected, and of passes met", "crates/broom/", "crates/shared_acceptance/"),
+    "deliver delivers delivery delivering": ("send, or merge", *(f"crates/{it}/" for it in ("answers", "runs", "player", "laws")), "docs/ARCHITECTURE.md"),
+    "NoShift": ("RoundFault",),
+    "WereSwept": ("HaveMet",),
+    "AllStart turn_all AreTurned play_posts": ("none: these functions are gone",),
+}
+# These are made from the sources, or tell what was.
+PLACES_OF_PAGES = ("*.md", "docs/*.md", "bench/*.md")
+WITHOUT_RETIRED = {"docs/DEFINITIONS.md", "docs/CALLS.md", "docs/GALLERY.md", "CHANGELOG.md"}
+
+
+def clauses():
+    """The labels of the clauses of each function, by its name and by that of its type before it."""
+    found = {}
+    for text in (path.read_text() for path in tree.TOP.glob("crates/*/src/**/*.rt")):
+        for it in tree.functions(text):
+            labels = {label or "unnamed" for kind, label, *_ in calls.clauses(text, it) if kind == "ensures"}
+            for name in (it.name, it.called):
+                found.setdefault(name, set()).update(labels)
+    return found
+
+
+def cells_of(lines, *wanted):
+    """Each row of the tables with these columns: its line's number, and the texts in these columns."""
+    columns = None
+    for number, line in enumerate(lines, 1):
+        cells = [cell.strip() for cell in re.split(r"(?<!\\)\|", line)[1:-1]]
+        if not line.startswith("|"):
+            columns = None
+        elif set(wanted) <= set(cells):
+            columns = [cells.index(name) for name in wanted]
+        elif columns and not cells[0].startswith("---"):
+            yield number, [cells[column] for column in columns]
+
+
+def rows(lines, *wanted):
+    """Each row of the tables with these columns: its line's number, and the words of code in these columns."""
+    yield from ((number, [CODE.findall(cell) for cell in cells]) for number, cells in cells_of(lines, *wanted))
+
+
+def wrong_rows(page, lines, known):
+    """What is wrong with the tables of promises of a page. A row without calls is of those of the row above."""
+    calls = []
+    for number, (named, labels) in rows(lines, "Call", "Clause"):
+        calls, has, owner = named or calls, set(), ""
+        for call in calls:
+            owner = call.rpartition("::")[0] or owner
+            full = call if "::" in call or f"{owner}::{call}" not in known else f"{owner}::{call}"
+            if full in known:
+                has |= known[full]
+            elif not call[0].isupper() or "::" in call:
+                yield f"{page}:{number}: no function {call}"
+        yield from (f"{page}:{number}: no clause {label} at {', '.join(calls)}" for label in labels if label not in has)
+
+
+def wrong_steps(page, lines):
+    """What is wrong with the tables of steps of a page."""
+    told = "".join(path.read_text() for path in tree.TOP.glob("crates/flash_rule/src/*.rt"))
+    laws = "".join(path.read_text() for path in tree.TOP.glob("crates/flash_rule/proofs/*.antt"))
+    made = "".join(path.read_text() for path in tree.TOP.glob("crates/flash_table/src/*.rt"))
+    tells = dict(re.findall(r"impl Play<[^>]*> for (\w+) \{\s*ghost then = \{ (\w+) \}", told))
+    makers = {}
+    for body in re.split(r"\n    (?:pub(?:\(crate\))? )?fn ", made)[1:]:
+        for play in re.findall(r"::<(\w+)>\(", body):
+            makers.setdefault(play, set()).add(body.split("(")[0])
+    seen = set()
+    for number, (plays, lemmas, calls) in rows(lines, "Play", "Lemma", "Call"):
+        seen |= set(plays)
+        yield from (f"{page}:{number}: no lemma {lemma}" for lemma in lemmas if not re.search(rf"^ *pub {lemma} :", laws, re.M))
+        yield from (f"{page}:{number}: no call makes {play}" for play in plays if play not in makers)
+        made_here = set().union(*(makers.get(play, set()) for play in plays))
+        yield from (f"{page}:{number}: {call} doesn't make it" for call in calls if call.split("::")[-1] not in made_here)
+    for number, (plays, said) in rows(lines, "Play", "Tells"):
+        yield from (f"{page}:{number}: {play} doesn't tell {said}" for play in plays if [tells.get(play)] != said)
+    if seen:
+        yield from (f"{page}: no row for the step {play}" for play in sorted(set(tells) | set(makers)) if play not in seen)
+
+
+def words_of_sources():
+    """Each word of the sources, of the names of their files, and of the record of refusals with its versions."""
+    places = ("crates/*/*/**/*", "crates/*", "*", ".ci/*", "examples/**/*", "bench/*", "bindings/**/*", "packaging/*")
+    files = [path for place in places for path in tree.TOP.glob(place)]
+    files = [path for path in files if "out" not in path.relative_to(tree.TOP).parts]
+    text = "".join(path.read_text() for path in files if path.is_file() and path.suffix in SOURCES)
+    return set(re.findall(r"\w+", text + " ".join(str(path) for path in files)))
+
+
+def words_of(text):
+    """The words of a text: each name whole, and its parts in small letters."""
+    names = set(re.findall(r"[A-Za-z]\w*", text))
+    return names | {part.lower() for name in names for part in re.findall(r"[A-Z]?[a-z]+", name)}
+
+
+def retired_words():
+    """The retired words that a source or a page has where they may not stand, and the places that are listed in vain."""
+    files = [path for folder in ("src", "specs", "proofs") for path in tree.TOP.glob(f"crates/*/{folder}/**/*") if path.suffix in (".rt", ".antt")]
+    pages = [path for place in PLACES_OF_PAGES for path in tree.TOP.glob(place) if tree.relative(path) not in WITHOUT_RETIRED]
+    words = {tree.relative(path): words_of(path.stem + "\n" + path.read_text()) for path in sorted([*files, *pages])}
+    for retired, (name, *places) in RETIRED.items():
+        found = {file: its for file in words if (its := words[file].intersection(retired.split()))}
+        yield from (f"{file}: {', '.join(its)} is retired: {name}" for file, its in found.items() if not file.startswith(tuple(places)))
+        yield from (f"tools/gate/promises.py: {place} has none of {retired}" for place in places if not any(file.startswith(place) for file in found))
+
+
+def twice_defined(lines):
+    """The names that two files of specs/ define and the glossary doesn't list, and those that it lists in vain."""
+    files = {}
+    for path in tree.TOP.glob("crates/*/specs/*.antt"):
+        for name in set(re.findall(r"^" + tree.DEFINITION.pattern, path.read_text(), re.M)) - {"mod", "use"}:
+            files.setdefault(name, []).append(tree.relative(path))
+    twice = {name: sorted(its) for name, its in files.items() if len(its) > 1}
+    listed = {name for _, [names] in rows(lines, "Defined twice") for name in names}
+    yield from (f"{twice[name][1]}: {name} is also defined in {twice[name][0]}" for name in sorted(set(twice) - listed))
+    yield from (f"docs/GLOSSARY.md: {name} isn't defined twice" for name in sorted(listed - set(twice)))
+
+
+def wrong_versions(page, text, recorded):
+    """Which versions of the toolchain a page should name and doesn't, or names and shouldn't."""
+    named = set(VERSION.findall(text))
+    yield from (f"{page}: the record has {it}, which the page doesn't name" for it in sorted(recorded - named))
+    yield from (f"{page}: names {it}, for which the record has no entry of the present text" for it in sorted(named - recorded))
+
+
+def leads(page, link):
+    """Whether a link of a page leads to a file, and to a heading in it if it names one."""
+    file, _, heading = link.partition("#")
+    target = page.parent / file if file else page
+    if not heading or not target.is_file():
+        return target.exists() and not heading
+    titles = re.findall(r"^#+ (.*)", target.read_text(), re.M)
+    return heading in [re.sub(r"[^\w\- ]", "", title).strip().lower().replace(" ", "-") for title in titles]
+
+
+def differing_copies(page):
+    """The files that a page says to show whole, and shows otherwise."""
+    for link, shown in re.findall(r"\]\(([^)]+)\), whole:\n\n```\w*\n(.*?)```", page.read_text(), re.S):
+        if (page.parent / link).read_text() != shown:
+            yield f"{tree.relative(page)}: {link} is different in its file"
+    crates = tree.crate_lines().values()
+    for lines in re.findall(r"\n```\n(geometry:\n.*?)```", page.read_text(), re.S):
+        yield from (f"{tree.relative(page)}: crates.txt has no line `{line}`" for line in lines.splitlines() if line not in crates)
+
+
+def wrong_shape(page, text, prose):
+    """The headings that a page has twice, and its words if it has too many."""
+    titles = [line for line in prose if line.startswith("#")]
+    if not re.match(r"# .*\n\n(?:For |.* for )", text):
+        yield f"{page}: the first line doesn't name its reader"
+    yield from (f"{page}: there are two headings {title.lstrip('# ')}" for title in sorted(set(titles)) if titles.count(title) > 1)
+    if (words := len(text.split())) > MOST_WORDS.get(page, words):
+        yield f"{page}: {words} words, and at most {MOST_WORDS[page]} are wanted"
+
+
+def without_glossary(page, prose):
+    """The first line with a word of the glossary, if neither it nor an earlier line links the glossary."""
+    for number, line in enumerate(prose, 1):
+        if "GLOSSARY.md" in line:
+            return
+        if word := OF_GLOSSARY.search(line):
+            yield f"{page}:{number}: {word[0]} is a word of the glossary, which isn't linked yet"
+            return
+
+
+def missing_files(page, number, line):
+    """The files that a line names by their path in the repository, and that aren't there."""
+    for code in CODE.findall(line):
+        places = [tree.TOP / code, tree.TOP / "crates" / code, tree.TOP / f"crates/{code}.antt"]
+        is_path = re.fullmatch(r"[\w.]+(/[\w.-]+)+", code) and "NAME" not in code and "out" not in code.split("/")
+        if is_path and not any(place.exists() for place in places):
+            yield f"{page}:{number}: no file {code}"
+
+
+@cache
+def words_in(place):
+    """The words of the crate of this name, or of the modules of this name."""
+    files = tree.sources(place) if tree.folder(place).is_dir() else tree.TOP.glob(f"crates/*/src/**/{place}.rt")
+    return set(re.findall(r"\w+", "".join(path.read_text() for path in files)))
+
+
+def wrong_paths(page, number, line):
+    """The items that a line names by a crate or a module which has no such word."""
+    for code in CODE.findall(line):
+        for place, item in re.findall(r"(?<![\w:])([a-z]\w*)::(\w+)", code):
+            if words_in(place) and item not in words_in(place):
+                yield f"{page}:{number}: {place} has no {item}"
+
+
+def main(_):
+    versions = record.Record("refused", "must-fail").versions().values()
+    recorded = {word for its in versions for it in its for word in VERSION.findall(it)}
+    glossary = (tree.TOP / "docs/GLOSSARY.md").read_text().splitlines()
+    known, known_words, wrong = clauses(), words_of_sources(), [*retired_words(), *twice_defined(glossary)]
+    for path in (path for place in PLACES_OF_PAGES for path in tree.TOP.glob(place)):
+        page = tree.relative(path)
+        prose = re.sub(r"```.*?```", lambda block: "\n" * block[0].count("\n"), path.read_text(), flags=re.S).splitlines()
+        wrong += [*differing_copies(path), *wrong_shape(page, path.read_text(), prose)]
+        if path.name not in ("GLOSSARY.md", "CHANGELOG.md"):
+            wrong += without_glossary(page, prose)
+        for number, line in enumerate(prose, 1):
+            wrong += [*missing_files(page, number, line), *wrong_paths(page, number, line)]
+            wrong += [f"{page}:{number}: nothing at {link}" for link in re.findall(r"\]\(([^):]+)\)", line) if not leads(path, link)]
+            if page in PAGES:
+                missing = [word for code in CODE.findall(line) for word in re.findall(r"_*[A-Za-z]\w+", code) if word not in known_words]
+                wrong += [f"{page}:{number}: {word} doesn't occur in the sources" for word in missing]
+        if page in PAGES:
+            wrong += [*wrong_rows(page, prose, known), *wrong_steps(page, prose)]
+        if page in NAMING:
+            wrong += wrong_versions(page, path.read_text(), recorded)
+    well = "each link leads somewhere, and each call, clause, step and word of code on the pages exists in the sources"
+    return tree.verdict(wrong, well)

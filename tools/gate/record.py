@@ -1,0 +1,118 @@
+"""The records of what was tried on a crate's present text: .ci/refused, .ci/proved-twins and .ci/goals. Each has lines of a crate, a sum
+of the text that the result depends on, and the version of the toolchain that gave it."""
+
+import hashlib
+import re
+import subprocess
+import sys
+
+from gate import tree
+
+# The beginning of a line that holds only a comment, by the suffix of the file.
+COMMENTS = {".rt": "//", ".antt": "--"}
+# What no layout changes: a string, a character, and a comment behind code with its end of line.
+WHOLE = re.compile(r"""(b?r?"(?:[^"\\]|\\.)*"|b?'(?:[^'\\]|\\.)'|//[^\n]*\n)""", re.DOTALL)
+# What changes where `rt fmt` lays a line out as several, by the suffix: white space, what it puts at the ends of brackets, and imports.
+LAID_OUT = {".rt": re.compile(r"(?<=[(\[{])\s+|\s+(?=[)\]}])"), ".antt": re.compile(r"(?<=[(\[{])\s+(?:\|\s+)?|[,;]?\s+(?=[)\]}])")}
+IMPORTS = re.compile(r"(?<!pub )(?<!ghost )((?:pub |ghost )?use [^\s{}]+\.\{)([^{}]*)\};?\s+\1")
+
+
+def version():
+    """The line that `rt version` prints."""
+    return subprocess.run(["rt", "version"], check=True, capture_output=True, text=True).stdout.strip()
+
+
+def unbroken(text, laid_out):
+    """A text as if no line were broken: each run of white space as one space, and none at the inner ends of brackets."""
+    parts = WHOLE.split(text)
+    parts[::2] = (re.sub(r"\s+", " ", laid_out.sub("", it)) for it in parts[::2])
+    return "".join(parts).strip()
+
+
+def items(lines):
+    """The items of an .antt file, as their texts, and the number of blocks that are open around each."""
+    blocks, found, opens = [0], [], False
+    for line in lines:
+        deep = len(line) - len(line.lstrip())
+        if opens and deep > blocks[-1]:
+            blocks.append(deep)
+        while deep < blocks[-1]:
+            blocks.pop()
+        if found and (deep > blocks[-1] or line[deep] in ")]}"):
+            found[-1][0].append(line)
+        else:
+            found.append(([line], len(blocks)))
+        opens = line.split()[-1] == "where"
+    return [("\n".join(its), inside) for its, inside in found]
+
+
+def meaning(path):
+    """The text of a file without what no check reads: lines that hold only a comment, the breaks of lines, and how imports of one module
+    are divided."""
+    if path.suffix not in COMMENTS:
+        return path.read_bytes()
+    lines = [it for it in path.read_text().splitlines() if it.strip() and not it.lstrip().startswith(COMMENTS[path.suffix])]
+    parts = items(lines) if path.suffix == ".antt" else [("\n".join([*lines, ""]), 0)]
+    text = "".join(f"{' ' * inside}{unbroken(it, LAID_OUT[path.suffix])}\n" for it, inside in parts)
+    while text != (joined := IMPORTS.sub(r"\1\2, ", text)):
+        text = joined
+    return text.encode()
+
+
+def sum_of_files(folders, more=()):
+    """A sum of what the files of some folders and further files mean."""
+    total, files = hashlib.sha256(), [path for folder in folders for path in sorted((tree.TOP / folder).rglob("*")) if path.is_file()]
+    for path in dict.fromkeys([*files, *more]):
+        total.update(f"{tree.relative(path)}\n".encode() + hashlib.sha256(meaning(path)).digest())
+    return total.hexdigest()
+
+
+class Record:
+    """A file of .ci/ with the results for one kind of edits."""
+
+    def __init__(self, file, kind):
+        self.file, self.kind, self.used = tree.TOP / ".ci" / file, kind, tree.crates()
+
+    def having(self):
+        """The crates with edits of this kind."""
+        return [name for name in self.used if tree.edits(name, self.kind)]
+
+    def sum_of(self, name):
+        """A sum of the text that a result depends on: the crate with its edits, and the definitions of the crates below."""
+        folders = [f"crates/{name}/{part}" for part in ("src", "specs", "proofs", self.kind)]
+        return sum_of_files([*folders, *(f"crates/{it}/specs" for it in sorted(tree.below(name, self.used)))])
+
+    def entries(self):
+        """Each entry, as its crate, the sum of its text, and the version."""
+        return [tuple(line.split(" ", 2)) for line in self.file.read_text().splitlines()] if self.file.exists() else []
+
+    def versions(self):
+        """For each crate with edits the versions that have an entry for its present text."""
+        entries = self.entries()
+        sums = {name: self.sum_of(name) for name in self.having()}
+        return {name: sorted(its for crate, text, its in entries if (crate, text) == (name, mine)) for name, mine in sums.items()}
+
+    def lacking(self):
+        """The crates that have edits and no entry for their present text."""
+        return [name for name, its in self.versions().items() if not its]
+
+    def asked(self, words):
+        """The crates that words ask for: those named, all that have edits of this kind, or those without an entry."""
+        having = self.having()
+        names = {("--all",): having, ("--missing",): self.lacking()}.get(tuple(words), words)
+        if not words or set(names) - set(having):
+            print(f"name crates that have {self.kind}/, or --all: {', '.join(having)}", file=sys.stderr)
+            raise SystemExit(2)
+        return names
+
+    def note(self, tried, fault):
+        """Records this version's results: for each crate that it tried, the sum of the text and whether all was well. Returns 1 if it wasn't
+        of some, and names these in the text of the fault."""
+        here = version()
+        sums = {name: mine for name, mine, _ in tried}
+        kept = [it for it in self.entries() if it[0] not in sums or (it[1] == sums[it[0]] and it[2] != here)]
+        having = self.having()
+        found = {*kept, *((name, mine, here) for name, mine, well in tried if well)}
+        self.file.write_text("".join(f"{' '.join(it)}\n" for it in sorted((it for it in found if it[0] in having), key=lambda it: (having.index(it[0]), it))))
+        lost = [name for name, _, well in tried if not well]
+        return tree.verdict([fault.format(", ".join(lost))], "") if lost else 0

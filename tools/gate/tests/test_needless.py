@@ -1,0 +1,49 @@
+"""What `needless` removes, keeps and records: an answer goes if its goal is not open without it, and so do the lemmas that only it used."""
+
+from gate import needless
+from gate.tests import Small
+
+STAND_IN = """# Leaves open the goal of `first` that has an answer to keep.
+echo 'help: write ./proofs/lib/first/Answers.antt with these lines, and check again'
+echo '    pub returns-clause-hard : goal.returns-clause-hard'
+echo
+echo 'holes=1'
+"""
+HEAD = "use Rattle.std.proofs.Common.{refl}\nuse Rattle.low.proofs.lib.first.Goals as goal\n\n"
+LEMMA = "-- A lemma.\nhelps : (n : ℕ) → n ≡ n\nhelps n = refl\n\n"
+EASY = "pub returns-clause-easy : goal.returns-clause-easy\nreturns-clause-easy c = helps 1\n\n"
+HARD = "pub returns-clause-hard : goal.returns-clause-hard\nreturns-clause-hard c = refl\n"
+
+
+class Needless(Small):
+    def setUp(self):
+        super().setUp()
+        self.stand_in(STAND_IN)
+        self.write("crates.txt", "low:\n")
+        self.write("crates/low/src/lib.rt", "")
+        self.write("crates/low/proofs/lib/first/Answers.antt", HEAD + LEMMA + EASY + HARD)
+        self.write("crates/low/proofs/lib/second/Answers.antt", HEAD + EASY.replace("helps 1", "refl"))
+
+    def test_what_the_check_finds_alone_goes_with_its_lemmas(self):
+        self.assertIn("needless low: 2 of 3 answers go", self.run_main(needless, "low"))
+        self.assertEqual((self.top / "crates/low/proofs/lib/first/Answers.antt").read_text(), HEAD + HARD)
+        self.assertFalse((self.top / "crates/low/proofs/lib/second").exists())
+
+    def test_an_answer_stays_at_the_goal_that_refuses_a_wrong_body(self):
+        self.write("crates/low/src/lib.rt", "pub fn first() -> u8 {\n    1\n}\n")
+        self.edit("low", "must-fail/is_two.edit", ("    1", "    2"))
+        self.write("docs/GALLERY.md", "## `low`\n\n| Is two | `first` | `1` becomes `2` | **`returns-clause-easy`** | none |\n")
+        self.assertIn("needless low: 1 of 3 answers go", self.run_main(needless, "low"))
+        self.assertEqual((self.top / "crates/low/proofs/lib/first/Answers.antt").read_text(), HEAD + LEMMA + EASY + HARD)
+
+    def test_answers_are_recorded_and_others_are_named(self):
+        self.assertIn("never tried: low", self.run_main(needless, "--check"))
+        self.run_main(needless, "--missing")
+        self.assertIn("never tried: none", self.run_main(needless, "--check"))
+        self.write("crates/low/proofs/lib/third/Answers.antt", HEAD + HARD)
+        self.assertIn("answers of low were not tried", self.run_main(needless, "--check", status=1))
+
+    def test_a_check_that_ends_early_changes_nothing(self):
+        self.stand_in("echo 'error: cannot read'; exit 1\n")
+        self.run_main(needless, "low", status=1)
+        self.assertTrue((self.top / "crates/low/proofs/lib/second/Answers.antt").exists())

@@ -1,0 +1,78 @@
+"""What `waits-nowhere` refuses, tried on the crates themselves: two bodies of each kind that spin (with for, while, loop, a chain of iterators,
+recursion) and some of other kinds, each beside a twin of its place and shape that waits for nobody."""
+
+import shutil
+from pathlib import Path
+
+from gate import tree, waits_nowhere
+from gate.tests import Small
+
+TABLE, HOST = "flash_table/src/steps.rt", "host/src/writing.rt"
+# The place at which a body spins, by its file: the text behind it.
+PLACES = {
+    TABLE: "        let found = self\n            .table\n            .shared\n            .swap::<PlaceTrim>",
+    HOST: "    flash.place_trim(pass, sector)\n",
+    "host/src/searching.rt": "    let mut tries = 0;\n",
+    "host/src/lib.rt": "mod holding;\n",
+}
+EMPTY = "self.table.shared.load::<See>(&mut pass.seat, sector as usize) == UNMAPPED"
+FOUND = "flash.look(pass, sector).is_some()"
+LOOP, CALL = "a loop that isn't listed", "a call that isn't listed: "
+# Each body that spins: its file, its lines, what the check says of it, and the lines of its twin.
+SPINS = (
+    (TABLE, f"for _ in 0..4_000_000_000u64 {{ if {EMPTY} {{ break; }} }}", LOOP, f"if {EMPTY} {{ return Was::Empty; }}"),
+    (HOST, "for i in 0..words {}", LOOP, "let words = flash.geometry().words();"),
+    (TABLE, f"while !({EMPTY}) {{}}", LOOP, f"let while_empty = {EMPTY};"),
+    (HOST, "let mut left = u64::MAX; while left > 0 { left -= 1; }", LOOP, "let mut left = u64::MAX; if left > 0 { left -= 1; }"),
+    (TABLE, f"'spin: loop {{ if {EMPTY} {{ break 'spin; }} }}", LOOP, f"'once: {{ if {EMPTY} {{ break 'once; }} }}"),
+    ("host/src/searching.rt", f"loop {{ if {FOUND} {{ break; }} }}", LOOP, f"if {FOUND} {{ gate.at(Point::AfterLook); }} // loop {{"),
+    (TABLE, f"(0..4_000_000_000u64).find(|_| {EMPTY});", CALL + ".find", f"4_000_000_000u64.saturating_sub({EMPTY} as u64);"),
+    (HOST, f"std::iter::repeat(0).all(|_| {FOUND});", CALL + "std::iter::repeat", f'let text = "std::iter::repeat(0).all(|_| {FOUND})";'),
+    (HOST, f"(0..4_000_000_000u64).fold((), |_, _| {FOUND});", CALL + ".fold", f"let other: Volume = here; other.fold((), {FOUND});"),
+    (HOST, f"if {FOUND} {{ trim(flash, pass, sector); }}", "crates/host/writing.rt: trim calls itself", f"if {FOUND} {{ close_if_full(flash, pass); }}"),
+    (TABLE, f"if {EMPTY} {{ Self::place_trim(self, pass, sector); }}", "Flash::place_trim calls itself", f"if {EMPTY} {{ Self::take(self, pass, 0); }}"),
+    (TABLE, "self.table.shared.peek(sector as usize);", CALL + ".peek", "self.table.shared.load(sector as usize);"),
+    (HOST, 'let _ = std::fs::read("a pipe");', CALL + "std::fs::read", "let _ = std::mem::replace(&mut a, b);"),
+    (HOST, "let _turn = turn.lock(rt);", CALL + ".lock", "let _turn = turn.clone();"),
+    (HOST, f"for block in 0..flash.geometry().blocks() {{ loop {{ if {FOUND} {{ break; }} }} }}", LOOP, f"if {FOUND} {{ if {FOUND} {{ }} }}"),
+    (HOST, 'let text = r#"a " text"#; loop {} let other = "";', "can't read `r#", 'let text = "a \\" text, loop {}"; let other = "";'),
+    (HOST, 'let one = 1; /* " */ loop {} /* " */', "can't read `/*`", 'let one = 1; // " */ loop {} /x " x/'),
+    ("host/src/lib.rt", "macro_rules! spin { () => { loop {} } }", LOOP, "// macro_rules! spin { () => { loop {} } }"),
+)
+
+
+class Waits(Small):
+    def setUp(self):
+        super().setUp()
+        for name in waits_nowhere.CRATES:
+            shutil.copytree(Path(__file__).parents[3] / "crates" / name / "src", tree.folder(name) / "src")
+
+    def test_the_crates_pass(self):
+        self.run_main(waits_nowhere)
+
+    def test_a_body_that_spins_is_refused_and_its_twin_is_not(self):
+        for file, spins, said, twin in SPINS:
+            path = self.top / "crates" / file
+            before, place = path.read_text(), PLACES[file]
+            self.assertEqual(before.count(place), 1, file)
+            with self.subTest(spins):
+                path.write_text(before.replace(place, f"{spins}\n{place}"))
+                self.assertIn(said, self.run_main(waits_nowhere, status=1))
+                path.write_text(before.replace(place, f"{twin}\n{place}"))
+                self.run_main(waits_nowhere)
+            path.write_text(before)
+
+    def test_a_listed_loop_with_another_bound_is_refused(self):
+        path = self.top / "crates" / HOST
+        before, words = path.read_text(), "    let words = flash.geometry().words();\n"
+        path.write_text(before.replace(words, words + "    let words = 4_000_000_000;\n"))
+        self.assertIn("where words = 4_000_000_000", self.run_main(waits_nowhere, status=1))
+        path.write_text(before.replace(words, words + "    let words_too = 4_000_000_000;\n"))
+        self.run_main(waits_nowhere)
+
+    def test_a_listed_loop_that_is_gone_is_named(self):
+        path = tree.folder("host") / "src/searching.rt"
+        path.write_text(path.read_text().replace("    loop {", "    for _ in 0..9 {"))
+        said = self.run_main(waits_nowhere, status=1)
+        self.assertIn("a loop that isn't listed: host/searching.rt | search | for _ in 0..9", said)
+        self.assertIn("no loop host/searching.rt | search | loop", said)

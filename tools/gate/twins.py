@@ -1,0 +1,110 @@
+"""twins CRATE.. | --all | --missing: shows that this machine's toolchain proves the twins of the wrong bodies of these crates, of
+all crates, or of those without an entry. The twin of an edit is in crates/NAME/twins under the edit's name: it changes the same
+place in the same shape, and keeps the meaning of the code. So if the prover refuses the edit, it refuses its meaning. The twins of a
+crate that change different places are put into one copy of the crate, which has to be proved without further changes; those that
+change the same place are put into further copies. For each crate whose copies are all proved it records in .ci/proved-twins a sum of
+the text, and the version of the toolchain. The gate proves what is missing there. `twins --check` fails if a twin has no edit. It
+names the edits without a twin, and the crates whose twins have no entry for the present text."""
+
+import os
+import queue
+import re
+import tempfile
+from concurrent.futures import ThreadPoolExecutor
+from pathlib import Path
+
+from gate import record, tree
+
+# What a check prints for a goal that it doesn't prove, and for a text that it can't read.
+UNPROVED = re.compile(r": error|\berror\[|it is not proved|^logic=not")
+
+
+def proved_twins():
+    return record.Record("proved-twins", "twins")
+
+
+def together(crate, paths):
+    """As many of these edits as fit together, as texts of the crate's files, and the edits left over."""
+    texts, left = {}, []
+    for path in paths:
+        more = tree.edited(crate, texts, path)
+        if more is None and tree.edited(crate, {}, path) is None:
+            raise SystemExit(f"{tree.relative(path)} changes a text that doesn't stand there exactly once")
+        texts, left = (texts, [*left, path]) if more is None else (more, left)
+    return texts, left
+
+
+def checked(crate, texts):
+    """Whether a copy of a crate is proved with these texts in place of its own, which are put back afterwards, and what the check printed."""
+    before = {file: (crate / file).read_text() for file in texts}
+    for file, text in texts.items():
+        (crate / file).write_text(text)
+    status, said = tree.said_by(crate, "rt", "check", "--jobs", "1")
+    for file, text in before.items():
+        (crate / file).write_text(text)
+    return status == 0, said
+
+
+def are_proved(room, name):
+    """Whether all twins of a crate are proved in copies of it."""
+    left = tree.edits(name, "twins")
+    while left:
+        texts, behind = together(tree.folder(name), left)
+        names = [it.stem for it in left if it not in behind]
+        well, said = checked(room / "crates" / name, texts)
+        if not well:
+            print("\n".join(it for it in said.splitlines() if UNPROVED.search(it)))
+        print(f"twins {name}: {'proved' if well else 'NOT PROVED'}: {', '.join(names)}", flush=True)
+        if not well:
+            return False
+        left = behind
+    return True
+
+
+def in_copies(names, work):
+    """What `work` returns for each of these crates, given a folder with a copy of it: with as many crates at a time as there are pairs
+    of processors, each in a copy of its own, since a check locks the crates below."""
+    at_once = max(1, min(len(names), len(os.sched_getaffinity(0)) // 2))
+    with tempfile.TemporaryDirectory(prefix="gate-") as top, ThreadPoolExecutor(at_once) as pool:
+        rooms = queue.Queue()
+        for room in (Path(top) / str(number) for number in range(at_once)):
+            room.mkdir()
+            tree.copy_to(room, names, tree.crates())
+            rooms.put(room)
+
+        def worked(name):
+            room = rooms.get()
+            try:
+                return work(room, name)
+            finally:
+                rooms.put(room)
+
+        yield from pool.map(worked, names)
+
+
+def check():
+    """Whether each twin has its edit. Names the edits without a twin, and the crates without an entry, which the gate proves later."""
+    book = proved_twins()
+    names = {(name, kind): {it.name for it in tree.edits(name, kind)} for name in book.used for kind in ("twins", "must-fail")}
+    alone = [f"crates/{name}/twins/{it} is the twin of no edit" for name in book.used for it in sorted(names[name, "twins"] - names[name, "must-fail"])]
+    if alone:
+        return tree.verdict(alone, "")
+    for name in book.used:
+        for it in sorted(names[name, "must-fail"] - names[name, "twins"]):
+            print(f"crates/{name}/must-fail/{it} has no twin")
+    missing = book.lacking()
+    print(f"{sum(len(names[name, 'twins']) for name in book.having() if name not in missing)} wrong bodies have a twin that was proved on the present text")
+    if missing:
+        print(f"still to prove: the twins of {', '.join(missing)}")
+    return 0
+
+
+def main(words):
+    if words == ["--check"]:
+        return check()
+    book, status = proved_twins(), 0
+    names = book.asked(words)
+    texts = [(name, book.sum_of(name)) for name in names]
+    for (name, text), well in zip(texts, in_copies(names, are_proved) if names else ()):
+        status |= book.note([(name, text, well)], "twins of {} were not proved")
+    return status

@@ -1,0 +1,210 @@
+"""waits-nowhere: checks the text of the crates that a call of the shared device runs through: each loop is one of LOOPS, each call is of a
+function of these crates or one of CALLS, and no function calls itself, directly or through others of its crate. So a host's call has
+nothing by which it could wait for another thread that isn't listed here with a reason. A proof doesn't show this: a body that loads a
+word a few thousand million times, until another thread has changed it, meets every clause. This check is of the text alone. It takes
+each listed loop to run as its reason says, and doesn't see code that runs without a call, as the destructor of a value, or a function that
+calls itself through a trait of another crate."""
+
+import re
+from collections import Counter
+from functools import cache, partial
+
+from gate import laws, tree
+
+CRATES = ("geometry", "flash_rule", "flash_table", "host", "broom", "erase_queue", "volume", "exports")
+# Each loop, as its file, its function, its head with the values that its bound has there, and why it ends after a number of turns that no
+# other thread can raise.
+LOOPS = """
+geometry/victim.rt | greedy | for i in 0..counts.len() | the blocks
+flash_table/open.rt | Flash::open | for _ in 0..hosts where hosts = flash.geometry.hosts() as usize | the hosts
+flash_table/open.rt | Flash::open | for i in 0..count where count = flash.geometry.brooms() | the brooms
+host/searching.rt | search | loop | the looks of a search: it looks again only after the page's block was collected, at most 2·blocks·endurance times
+host/searching.rt | read_page | for i in 0..flash.geometry().words() | the words of a page
+host/writing.rt | take_lowest | for block in 0..flash.geometry().blocks() | the blocks of a take
+host/writing.rt | fill | for i in 0..words where words = flash.geometry().words() | the words of a page
+broom/dead.rt | inspect | for sector in 0..flash.geometry().sectors() | the sectors
+broom/erasing.rt | wipe_all | for i in 0..geometry.pages() * (geometry.words() + 1) | the words of a block
+broom/ranking.rt | Ranking::make | for block in 0..counts.len() | the blocks
+broom/ranking.rt | Ranking::first | while self.next < self.keys.len() | the blocks that are ranked, each once for all calls
+broom/relocation.rt | copy_page | for i in 0..words where words = flash.geometry().words() | the words of a page
+broom/relocation.rt | relocate | for page in 0..victim.written | the pages of a block
+broom/restocking.rt | take_lowest | for block in 0..flash.geometry().blocks() | the blocks of a take
+broom/state.rt | count_blocks | for block in 0..flash.geometry().blocks() | the blocks
+broom/survey.rt | load_states | for block in 0..flash.geometry().blocks() | the blocks
+broom/survey.rt | count_pages | for sector in 0..flash.geometry().sectors() | the sectors
+erase_queue/queue.rt | fix_limit | for _ in 0..limit | the numbers of a queue
+erase_queue/queue.rt | EraseQueue::new | for _ in 0..brooms | the brooms
+volume/closing.rt | meet_each | for other in others.iter_mut() | the hosts
+volume/closing.rt | read_all | for sector in 0..count where count = flash.geometry().sectors() | the sectors
+volume/closing.rt | retire_all | while let Some(pass) = passes.next() | the hosts
+volume/opening.rt | fold_seats | while let Some(seat) = seats.next() | the brooms
+volume/opening.rt | fold_all | while let Some(broom) = brooms.pop() | the brooms
+volume/opening.rt | make_brooms | while let Some(seat) = seats.next() | the brooms
+exports/opening.rt | close_all | for handle in handles.iter_mut() | the handles
+exports/opening.rt | retire_passes | while let Some(pass) = passes.pop() | the hosts
+exports/opening.rt | retire_brooms | while let Some(broom) = brooms.pop() | the brooms
+exports/opening.rt | seat_hosts | while let Some(pass) = passes.pop() | the hosts
+exports/opening.rt | seat_brooms | while let Some(broom) = brooms.pop() | the brooms
+exports/opening.rt | are_closed | for handle in handles.iter() | the handles
+"""
+# The calls of other crates and of closures, each line with why they end. None of them takes a function or an iterator, or looks at a word without a step.
+CALLS = """
+atomic_table: one step on a word | load store swap compare_exchange fetch_add fetch_sub fetch_or
+atomic_table: one step on what two seats know | join_seat split_seat
+atomic_table: makes a table of these words | of_words
+crossbeam_queue: makes a queue, or a pass of one | ruled another capacity
+crossbeam_queue: may wait, and so takes the handle for that | push_as pop_as
+ftl_one: the device for one thread, which no other thread has | counts erases live retired
+exports: the closure that an export passes on, called once; its code is read where it stands | call
+std: memory and values of the calling thread | with_capacity push_reserved resize destroy_empty clear from_raw into_raw null_mut cast clone replace
+std: bytes and numbers of the calling thread | copy_from_slice fill len sort_unstable split_first_mut to_le_bytes from_le_bytes from wrapping_add saturating_sub
+std: the next of a finite list | iter iter_mut into_iter next pop
+std: reports | is_none is_some is_ok write_str
+"""
+MACROS = {"unreachable", "vec", "write"}
+# Methods of std's iterators that take a function. On a value of unknown type, a call of one of these crates' methods may be one of them.
+ITERATORS = set("all any filter find fold for_each map position reduce scan skip_while take_while try_fold try_for_each".split())
+# No code that runs: comments, strings, characters and the imports of definitions.
+NO_CODE = re.compile(r"""//[^\n]*|b?"(?:[^"\\]|\\.)*"|b?'(?:[^'\\\n]|\\[^\n]+?)'|^[ \t]*(?:pub )?ghost use [^\n]*""", re.M | re.S)
+LOOP = re.compile(r"\b(?:for(?!<)|while|loop)\b[^\n{]*")
+# Texts in which a quote may begin or end something else than code_of takes it for.
+UNREADABLE = re.compile(r'/\*|\br#*"')
+IMPL = re.compile(r"^(?:unsafe )?impl\b[^{\n]* for\b", re.M)
+CALL = re.compile(r"(?<!fn )(?<![\w.:#])((?:\w+::)+|)(\w+)(!?)(?:::<[^>()]*>)?(?:\(|(?<=!)[\[{ ])|\.(\w+)(?:::<[^>()]*>)?\(")
+# Words before a parenthesis that call nothing: of the language, and of attributes.
+NO_CALLS = set("if while match for in return fn pub let else move".split())
+NO_CALLS |= set("tactic using unfolding derive repr unsafe error allow".split())
+
+
+@cache
+def code_of(text):
+    """The code of a file, with blanks in place of what doesn't run."""
+
+    def blank(found):
+        return re.sub(r"[^\n]", " ", found[0])
+
+    text = NO_CODE.sub(blank, text)
+    for clause in (it for it in laws.CLAUSE.finditer(text) if not re.search(r"\bfn\b", it[0])):
+        end = clause.end() + len(tree.inside(text, clause.end()))
+        text = text[: clause.start()] + re.sub(r"[^\n]", " ", text[clause.start() : end]) + text[end:]
+    return text
+
+
+@cache
+def calls(code):
+    """Each call, as the path before its name with "." for that of a method, the name, whether it is a macro, and its place."""
+    found = [(*it.groups(), it.start()) for it in CALL.finditer(code)]
+    named = [("." if method else path, name or method, bool(macro), place) for path, name, macro, method, place in found]
+    return [it for it in named if it[1] not in NO_CALLS and not it[1][0].isupper()]
+
+
+class Source:
+    """A file, with its code and its functions."""
+
+    def __init__(self, path):
+        self.path, text = path, path.read_text()
+        self.unreadable = UNREADABLE.search(text)
+        self.name, self.crate = re.sub(r"^crates/|src/", "", tree.relative(path)), path.relative_to(tree.TOP).parts[1]
+        self.code, self.functions = code_of(text), tree.functions(text)
+        self.owner = partial(tree.function_at, text)
+
+    def loops(self):
+        """Each loop, as a line of the list without its reason, and its place."""
+        for found in LOOP.finditer(IMPL.sub(lambda its: " " * len(its[0]), self.code)):
+            owner, head = self.owner(found.start()), found[0].rstrip()
+            bound = re.search(r"0\.\.(\w+)$", head)
+            values = re.findall(rf"(?<![\w.]){bound[1]}(?:: \w+)? [-+*/]?= ([^;=]+);", self.code[owner.start : owner.end]) if owner and bound else ()
+            head += "".join(f" where {bound[1]} = {' '.join(value.split())}" for value in values)
+            yield f"{self.name} | {owner.called if owner else 'outside'} | {head}", found.start()
+
+    def before(self, place):
+        """The end of the code before a place."""
+        return self.code[max(0, place - 80) : place]
+
+    def at(self, place):
+        return f"{tree.relative(self.path)}:{self.code.count(chr(10), 0, place) + 1}"
+
+
+def listed(text):
+    """The lines of a list, each without its last column, and the words of those columns."""
+    return [tuple(part.strip() for part in line.rsplit("|", 1)) for line in text.strip().splitlines()]
+
+
+def wrong_loops(files):
+    """The loops that aren't listed, and those that are and aren't there."""
+    wanted = Counter(line for line, _ in listed(LOOPS))
+    for file in files:
+        for line, place in file.loops():
+            if not wanted[line]:
+                yield f"{file.at(place)}: a loop that isn't listed: {line}"
+            wanted[line] -= 1
+    yield from (f"tools/gate/waits_nowhere.py: no loop {line}" for line, count in wanted.items() if count > 0)
+
+
+def wrong_calls(files):
+    """The calls of functions that are neither of these crates nor listed."""
+    others = {word for _, words in listed(CALLS) for word in words.split()}
+    known = {it.name for file in files for it in file.functions} | others
+    for file in files:
+        crate = [it for it in files if it.crate == file.crate]
+        for path, name, macro, place in calls(file.code):
+            types = types_of(file.before(place), file.owner(place), file, crate) if path == "." and name in ITERATORS else None
+            own = any(it.name == name and it.type in (types or ()) for other in files for it in other.functions)
+            of_iterator = path == "." and name in ITERATORS and not own
+            if of_iterator or name not in (MACROS if macro else others if path.startswith("std::") else known):
+                yield f"{file.at(place)}: a call that isn't listed: {path}{name}{'!' if macro else ''}"
+
+
+def types_of(before, owner, file, crate):
+    """The words of the types that a receiver may have, by the text before its dot, or None if that isn't known: those of the caller for
+    `self`, those that its crate declares for a field, and those of the function for a parameter or a local with a type."""
+    receiver = re.search(r"(\.?)(\w+)\s*\Z", before)
+    if not receiver or not owner:
+        return None
+    dot, name = receiver.groups()
+    if name == "self":
+        return {owner.type}
+    text = file.code[owner.start : owner.end]
+    # A pattern gives a local the name and the type of a field.
+    of_field = dot or (re.search(rf"\blet \w+ {{[^{{}}]*\b{name}\b[^{{}}]*}} =", text) and not re.search(rf"\blet (?:mut )?{name}\b", text))
+    texts = [it.code for it in crate] if of_field else [text]
+    declared = [its for text in texts for its in re.findall(rf"\b{name}: ([^,;={{}}]*)", text)]
+    bound = not of_field and re.search(rf"[\s(|]{name}\b(?!:)[^;.]*=[^=]", text)
+    return {word for its in declared for word in re.findall(r"\w+", its)} if declared and not bound else None
+
+
+def callees(file, place, path, name, files):
+    """The functions of its crate that a call may run, each as its file and itself. What isn't known of a receiver may be any type."""
+    named = [(other, it) for other in files if other.crate == file.crate for it in other.functions if it.name == name]
+    if not named:
+        return
+    owner, module = file.owner(place), path.rstrip(":").split("::")[-1]
+    kind = owner.type if owner and module == "Self" else module
+    imported = re.search(rf"\buse (?:crate|super)::[^;]*\b{name}\b", file.code)
+    types = types_of(file.before(place), owner, file, [it for it in files if it.crate == file.crate]) if path == "." else None
+    for other, it in named:
+        if path == ".":
+            fits = it.type and (not types or it.type in types)
+        elif path:
+            fits = it.type == kind if it.type else module in (other.path.stem, "crate", "super", "self")
+        else:
+            fits = not it.type and (other is file or imported)
+        if fits:
+            yield other, it
+
+
+def wrong_cycles(files):
+    """The functions that call themselves, directly or through others of their crate."""
+    steps = {}
+    for file in files:
+        for path, name, macro, place in calls(file.code):
+            if (owner := file.owner(place)) and not macro:
+                steps.setdefault((file.name, owner.called), set()).update((other.name, it.called) for other, it in callees(file, place, path, name, files))
+    yield from (f"crates/{start[0]}: {start[1]} calls itself" for start in steps if start in laws.reached(steps[start], steps))
+
+
+def main(_):
+    files = [Source(path) for crate in CRATES for path in tree.sources(crate)]
+    unreadable = (f"{tree.relative(it.path)}: this check can't read `{it.unreadable[0]}`" for it in files if it.unreadable)
+    wrong = [*unreadable, *wrong_loops(files), *wrong_calls(files), *wrong_cycles(files)]
+    return tree.verdict(wrong, f"no call of the shared device has a loop but the {len(listed(LOOPS))} listed ones, an unlisted call, or one of itself")

@@ -1,0 +1,104 @@
+"""wrong-bodies CRATE.. | --all: tries the wrong bodies in the must-fail/ of these crates, or of all, with this machine's
+toolchain: `rt ci` in a copy that has these crates and those below them. For each crate whose wrong bodies are all refused it records
+in .ci/refused a sum of the text that the refusals depend on, without comments, and the version of the toolchain. With --all it then
+proves all twins. The gate begins with `wrong-bodies --aside`: for each crate whose present text has an entry, of any version, it moves
+the wrong bodies out of must-fail/. `wrong-bodies --back` puts them back. With a LOG that `rt ci` wrote, it also records what was tried
+there and had no entry."""
+
+import re
+import shutil
+import subprocess
+import sys
+import tempfile
+from pathlib import Path
+
+from gate import record, tree, twins
+
+# Each run tries the edits of these crates, to show that it can still refuse.
+ALWAYS = ("uses",)
+REFUSED = re.compile(r"rt: must-fail (\w+)/([\w.-]+): refused, as it must be(?!.*says little of the contract)")
+
+
+def refused():
+    return record.Record("refused", "must-fail")
+
+
+def aside():
+    """The folder in which the gate keeps what it doesn't try, until its end."""
+    return tree.TOP / ".git/wrong-bodies"
+
+
+def note(names, those):
+    """Records the crates all of whose edits this version refused. Returns 1 if there are others."""
+    book = refused()
+    tried = [(name, book.sum_of(name), all((name, it.name) in those for it in tree.edits(name))) for name in names]
+    return book.note(tried, "wrong bodies of {} were not refused")
+
+
+def put_back():
+    """Puts back what was moved aside, and returns the crates of which it was."""
+    names = sorted(it.name for it in aside().iterdir()) if aside().is_dir() else []
+    for name in names:
+        folder = tree.folder(name) / "must-fail"
+        folder.mkdir(parents=True, exist_ok=True)
+        for edit in (it for it in (aside() / name).iterdir() if not (folder / it.name).exists()):
+            shutil.move(edit, folder)
+    shutil.rmtree(aside(), ignore_errors=True)
+    return names
+
+
+def put_aside():
+    """Takes the edits of the crates that have an entry for their text out of their must-fail/, and prints the versions
+    that refused them."""
+    put_back()
+    book = refused()
+    misfits = [it for name in book.used for it in tree.edits(name) if tree.edited(tree.folder(name), {}, it) is None]
+    if misfits:
+        return tree.verdict((f"{tree.relative(it)} changes a text that isn't there exactly once" for it in misfits), "")
+    if not (tree.TOP / ".git").is_dir():
+        return 0
+    # An empty folder also says that a run has begun.
+    aside().mkdir()
+    known = {name: its for name, its in book.versions().items() if its and name not in ALWAYS}
+    if not known:
+        return 0
+    here, count = record.version(), sum(len(tree.edits(it)) for it in known)
+    others = sorted({it for its in known.values() if here not in its for it in its})
+    by = f" with {' and '.join(others)}; this machine has {here}" if others else f" with {here}"
+    print(f"not tried again: {count} wrong bodies that were refused on the present text{by}")
+    for name in known:
+        shutil.move(tree.folder(name) / "must-fail", aside() / name)
+    return 0
+
+
+def refusals(names):
+    """The edits of these crates that a run refuses, each as its crate and its file."""
+    with tempfile.TemporaryDirectory(prefix="wrong-bodies-") as room:
+        tree.copy_to(Path(room), names, tree.crates())
+        with subprocess.Popen(["rt", "ci"], cwd=room, stdout=subprocess.PIPE, text=True, errors="replace") as run:
+            for line in run.stdout:
+                print(line, end="", flush=True)
+                yield from REFUSED.findall(line)
+
+
+def note_from(log):
+    """Records what a run of the gate tried. A crate that each run tries may have an entry already: then it only checks that the
+    run refused."""
+    if (tree.TOP / ".git").is_dir() and not aside().is_dir():
+        print("nothing was put aside, so this log doesn't say which wrong bodies were tried", file=sys.stderr)
+        return 2
+    untried, those = put_back(), set(REFUSED.findall(Path(log).read_text(errors="replace")))
+    tried = {name: its for name, its in refused().versions().items() if name not in untried}
+    return note([name for name, its in tried.items() if not its or any((name, it.name) not in those for it in tree.edits(name))], those)
+
+
+def main(words):
+    if words == ["--aside"]:
+        return put_aside()
+    if words == ["--back"]:
+        put_back()
+        return 0
+    if words[:1] == ["--back"] and len(words) == 2:
+        return note_from(words[1])
+    names = refused().asked(words)
+    return note(names, set(refusals(names))) | (twins.main(["--all"]) if words == ["--all"] else 0)

@@ -1,0 +1,234 @@
+"""wrong-definitions CRATE.. | --all | --missing | --check: shows that laws refuse the wrong definitions of these crates, of all, or
+of those without an entry. An edit crates/NAME/wrong-definitions/MISDEED.edit names a clause of a law and a definition of the crate,
+and changes a text of it to one that makes it wrong (`new:`) and to one that doesn't change its meaning (`twin:`). The prover reads the
+law again with a copy of the definition for each, all in one run for each crate of laws, in which the crates below are sources of which
+no body is proved. What stands between a law and a definition is copied too. The clause has to stay open with the wrong definition, and
+the whole law has to be proved with the twin: so what refuses the wrong one is not the text of a proof. For each crate whose wrong
+definitions are all refused it records in .ci/refused-definitions a sum of the text, and the version of the toolchain. --check names
+the crates without an entry, and fails if an edit doesn't fit its definition or names no law."""
+
+import importlib.machinery
+import importlib.util
+import re
+import shutil
+import sys
+import tempfile
+from pathlib import Path
+from types import SimpleNamespace
+
+from gate import laws, record, tree
+
+# How a text names a file of specs/ or proofs/: by its crate, its folder and its name.
+NAMED = re.compile(r"\bRattle\.(\w+)\.(specs|proofs)\.(\w+)")
+# The words of a text, and the names that a paragraph defines: of a definition or a lemma, and of the constructors of a type.
+WORD = re.compile(r"[^\s(){}\[\],;.]+")
+DEFINED = re.compile(r"^(?:(?:abbrev |unfoldable )?(?:pub )?(?:record |data )?|  )([^\s:(){}]+)(?= [:({])", re.M)
+
+
+def edit_of(path):
+    """A wrong definition: its crate and name, the law and the clause that refuse it, the law's crate, modules and function, and the definition
+    with its text, a wrong one and a right one."""
+    fields = dict(line.split(": ", 1) for line in path.read_text().splitlines())
+    law, clause = fields.pop("law").split()
+    home, *modules, function = law.split("::")
+    its = {"crate": path.parent.parent.name, "name": path.stem, "law": law, "clause": clause, "home": home, "modules": modules, "function": function}
+    return SimpleNamespace(**its, **fields)
+
+
+def edits(name):
+    """The wrong definitions of a crate."""
+    return [edit_of(path) for path in tree.edits(name, "wrong-definitions")]
+
+
+def sources(used):
+    """The files of specs/ and proofs/ that a text may name, each by its crate, its folder and its name, with its text."""
+    folders = [(name, folder) for name in used for folder in ("specs", "proofs")]
+    return {(*it, path.stem): path.read_text() for it in folders for path in tree.TOP.joinpath("crates", *it).glob("*.antt")}
+
+
+def place_of(edit, texts):
+    """The file of an edit's definition, and where its text begins and ends, or None if the old text isn't in it exactly once."""
+    head = re.compile(rf"^(?:abbrev |unfoldable )?pub (?:record |data )?{re.escape(edit.definition)} .*?(?=^\n|\Z)", re.M | re.S)
+    for it in (it for it in texts if it[:2] == (edit.crate, "specs")):
+        found = head.search(texts[it])
+        if found:
+            return (it, *found.span()) if found[0].count(edit.old) == 1 else None
+    return None
+
+
+def law_of(edit):
+    """The imports of a law's module, the law, and its answers; or None if there is no such law."""
+    source = tree.TOP.joinpath("crates", edit.home, "src", *edit.modules).with_suffix(".rt")
+    text = source.read_text() if source.exists() else ""
+    law = re.search(rf"^pub fn {edit.function}\(\)\n.*?^\{{\}}\n", text, re.M | re.S)
+    if law is None or f"    ensures {edit.clause} {{" not in law[0]:
+        return None
+    answers = tree.TOP.joinpath("crates", edit.home, "proofs", *edit.modules, edit.function, "Answers.antt")
+    return "".join(re.findall(r"^ghost use .*\n", text, re.M)), law[0], answers.read_text() if answers.exists() else ""
+
+
+def misfits(all_edits, texts):
+    """What is wrong with these edits."""
+    for it in all_edits:
+        path = f"crates/{it.crate}/wrong-definitions/{it.name}.edit"
+        if place_of(it, texts) is None:
+            yield f"{path} changes a text that isn't in {it.definition} of {it.crate} exactly once"
+        if law_of(it) is None:
+            yield f"{path} names {it.law} {it.clause}, which is no clause of a law"
+
+
+def between(text, target, texts):
+    """The files through which a text names a file, and that file."""
+    names = {it: set(NAMED.findall(other)) & texts.keys() for it, other in texts.items()}
+    users = {}
+    for it, others in names.items():
+        for other in others:
+            users.setdefault(other, set()).add(it)
+    return laws.reached(set(NAMED.findall(text)) & texts.keys(), names) & laws.reached([target], users)
+
+
+def part_of(text, wanted):
+    """The definitions of a file that these words name, directly or through others of the file, with the imports that they need."""
+    head, *rest = text.rstrip("\n").split("\n\n")
+    left, kept = dict(enumerate(rest)), {}
+    while more := [it for it, told in left.items() if wanted & set(DEFINED.findall(told))]:
+        kept |= {it: left.pop(it) for it in more}
+        wanted = wanted.union(*(WORD.findall(kept[it]) for it in more))
+    used = set(WORD.findall("\n".join(kept.values())))
+    lines = [it for it in head.splitlines() if not it.startswith("use ") or "◌" in it or used & set(WORD.findall(it.split(".")[-1] + " " + it.split("{")[-1]))]
+    return "\n\n".join(["\n".join(lines), *(kept[it] for it in sorted(kept))]) + "\n"
+
+
+def put_copy(room, edit, tag, new, texts):
+    """Adds a copy of an edit's law to the copy of its crate in a room, under a tag, as it reads with this text in place of the old one."""
+    crate = room / "crates" / edit.home
+    imports, law, answers = law_of(edit)
+    target, begin, end = place_of(edit, texts)
+    copied = between(imports + law + answers, target, texts)
+    wanted = set(WORD.findall("\n".join([imports, law, answers, *(texts[it] for it in copied if it != target)])))
+
+    def redirected(text):
+        return NAMED.sub(lambda it: f"Rattle.{edit.home}.{it[2]}.{tag}_{it[1]}_{it[3]}" if it.groups() in copied else it[0], text)
+
+    for it in copied:
+        text = texts[it]
+        if it == target:
+            text = part_of(text[:begin] + text[begin:end].replace(edit.old, new) + text[end:], wanted)
+        (crate / it[1] / f"{tag}_{it[0]}_{it[2]}.antt").write_text(redirected(text))
+        with (crate / it[1] / "Lib.antt").open("a") as lib:
+            lib.write(f"pub mod {tag}_{it[0]}_{it[2]}\n")
+    (crate / f"src/wrong/{tag}.rt").write_text(f"//! A law that names a copy.\n{redirected(imports)}\n{redirected(law)}")
+    with (crate / "src/wrong.rt").open("a") as parent:
+        parent.write(f"mod {tag};\n")
+    if answers:
+        folder = crate / "proofs/wrong" / tag / edit.function
+        folder.mkdir(parents=True)
+        own = answers.replace(".".join(["proofs", *edit.modules, edit.function, ""]), f"proofs.wrong.{tag}.{edit.function}.")
+        (folder / "Answers.antt").write_text(redirected(own))
+
+
+def prover():
+    """The module behind the rt command, which knows how the prover is called with the crates below as sources."""
+    loader = importlib.machinery.SourceFileLoader("rt_main", str(Path(shutil.which("rt") or "rt").resolve()))
+    rt = importlib.util.module_from_spec(importlib.util.spec_from_loader("rt_main", loader))
+    sys.modules["rt_main"] = rt
+    loader.exec_module(rt)
+    if not hasattr(getattr(rt, "rtlib", None), "crates_below"):
+        raise SystemExit("wrong-definitions needs the toolchain's rt on the path, with its module rtlib beside it")
+    return rt.rtlib
+
+
+def checked(room, name):
+    """What the prover prints of the copied laws of a crate."""
+    rtlib = prover()
+    crate = {it.name: it for it in rtlib.crates_below(str(room))}[name]
+    try:
+        words = [*crate.words(["--jobs", "1"], keeps=False, as_source=True), "--only", f"{name}::wrong"]
+    except TypeError as error:
+        raise SystemExit(f"wrong-definitions needs an rt that can give the prover the crates below as sources: {error}") from error
+    return tree.said_by(crate.folder, rtlib.RATTLE, "check", *words)[1]
+
+
+def copies(all_edits):
+    """For each edit its tags: that of the wrong definition, and that of the twin."""
+    return [(it, f"w{number}", f"t{number}") for number, it in enumerate(all_edits)]
+
+
+def said_by(all_edits, used):
+    """What the prover prints of these edits, whose laws are in one crate."""
+    home = all_edits[0].home
+    with tempfile.TemporaryDirectory(prefix="wrong-definitions-") as top:
+        room, texts = Path(top), sources(used)
+        tree.copy_to(room, [home], used)
+        (room / "crates" / home / "src/wrong").mkdir()
+        with (room / "crates" / home / "src/lib.rt").open("a") as lib:
+            lib.write("mod wrong;\n")
+        for it, wrong, twin in copies(all_edits):
+            put_copy(room, it, wrong, it.new, texts)
+            put_copy(room, it, twin, it.twin, texts)
+        return checked(room, home)
+
+
+def fault_of(edit, wrong, twin, said):
+    """What is wrong with an edit by what the prover printed, or nothing."""
+    lines = said.splitlines()
+    proved = re.compile(r"^fn \w+::wrong::(\w+)::\w+: proved$")
+    well = {found[1] for found in map(proved.match, lines) if found}
+    unread = [it for it in lines if re.search(rf"(?:specs/|src/wrong/)(?:{wrong}|{twin})[_.].*: error", it)]
+    refusals = [it for it in lines if f"proofs/wrong/{wrong}/" in it or f"::wrong::{wrong}::" in it]
+    if unread:
+        return f"can't be read: {unread[0]}"
+    if wrong in well:
+        return f"NOT REFUSED by {edit.law}"
+    if not any(re.search(rf"returns-clause-{edit.clause}\b", it) for it in refusals):
+        return f"is refused, but not by the clause {edit.clause} of {edit.law}"
+    if twin not in well:
+        return next((f"has a twin that is not proved: {it}" for it in lines if f"proofs/wrong/{twin}/" in it), "has a twin that is not proved")
+    return ""
+
+
+def faulty(names, used):
+    """The crates of these that have an edit that isn't refused as it has to be. Prints each edit."""
+    lost = set()
+    every = [it for name in names for it in edits(name)]
+    for home in sorted({it.home for it in every}):
+        mine = [it for it in every if it.home == home]
+        said = said_by(mine, used)
+        for it, wrong, twin in copies(mine):
+            fault = fault_of(it, wrong, twin, said)
+            print(f"wrong definition {it.crate}/{it.name}: {fault or 'refused, and its twin is proved'}", flush=True)
+            lost |= {it.crate} if fault else set()
+        if not re.search(r"^only=\d+ ", said, re.M):
+            print(said[-2000:])
+    return lost
+
+
+class Refused(record.Record):
+    """The record of the wrong definitions that laws refused."""
+
+    def sum_of(self, name):
+        """A sum of the text that the refusals of a crate depend on: its edits, the definitions that a law reads, and the laws."""
+        named = {it.law: it for it in edits(name)}
+        specs = sorted({name, *tree.below(name, self.used), *(it.home for it in named.values())})
+        folders = [f"crates/{name}/{self.kind}", *(f"crates/{it}/specs" for it in specs)]
+        files = []
+        for it in named.values():
+            crate = tree.folder(it.home)
+            files += [crate.joinpath("src", *it.modules).with_suffix(".rt"), *sorted(crate.glob("proofs/*.antt"))]
+            files += crate.joinpath("proofs", *it.modules, it.function).glob("*.antt")
+        return record.sum_of_files(folders, files)
+
+
+def main(words):
+    book, used = Refused("refused-definitions", "wrong-definitions"), tree.crates()
+    having, lacking = book.having(), book.lacking()
+    wrong = list(misfits([it for name in having for it in edits(name)], sources(used)))
+    print("\n".join(wrong), file=sys.stderr, end="\n" if wrong else "")
+    if wrong or words == ["--check"]:
+        print(f"{sum(len(edits(it)) for it in having if it not in lacking)} wrong definitions were refused on the present text")
+        print(f"still to try: those of {', '.join(lacking)}\n" if lacking else "", end="")
+        return 1 if wrong else 0
+    names = book.asked(words)
+    sums = {name: book.sum_of(name) for name in names}
+    lost = faulty(names, used)
+    return book.note([(name, mine, name not in lost) for name, mine in sums.items()], "wrong definitions of {} were not refused")
