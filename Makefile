@@ -1,6 +1,8 @@
 # make           proves every function and builds flashplay; needs the toolchain
-# make install   installs flashplay, its manual page, the tools, the libraries, a Python wheel and the documents below DESTDIR and PREFIX
-# make dist      packs them into out/dist, as mintlintel_VERSION_amd64.deb and mintlintel-VERSION-amd64.tar.gz
+# make check     proves, tests and tries everything; it names what it needs from Debian, and installs it if CI=true
+# make install   installs flashplay, the tools, their manual pages and completions, the libraries, a Python wheel and the documents below DESTDIR and PREFIX
+# make dist      packs them into out/dist: Debian packages (program and tools, library, headers, Python, nbdkit's plugin, documents) and a tar file
+# make release-check  says what is missing for a release
 # make clean     removes out/, with the programs that ./flashplay keeps there
 PREFIX ?= /usr/local
 DESTDIR ?=
@@ -8,26 +10,39 @@ VERSION := $(shell sed -n 's/^## \([0-9][0-9.]*\).*/\1/p' CHANGELOG.md | head -n
 LIB := $(DESTDIR)$(PREFIX)/lib/mintlintel
 BIN := $(DESTDIR)$(PREFIX)/bin
 MAN := $(DESTDIR)$(PREFIX)/share/man/man1
+BASH := $(DESTDIR)$(PREFIX)/share/bash-completion/completions
+ZSH := $(DESTDIR)$(PREFIX)/share/zsh/site-functions
+TOOLS := trace report sweep model simulate
 DOC := $(DESTDIR)$(PREFIX)/share/doc/mintlintel
+DRIVERS := flash.h mtd.c zone.c
 PROGRAM := crates/flashplay/out/flashplay
 
 all:
 	./flashplay --prove
 
+check:
+	@.ci/run
+
 install: all
-	install -d $(LIB)/tools/simulation $(BIN) $(MAN) $(DOC)/docs $(DOC)/bench $(DOC)/examples
+	install -d $(LIB)/tools/simulation $(BIN) $(MAN) $(BASH) $(ZSH) $(DOC)/docs $(DOC)/bench $(DOC)/examples
 	install -m 755 -s $(PROGRAM) $(LIB)/flashplay
-	install -m 755 tools/trace tools/report tools/sweep tools/model $(LIB)/tools
+	install -m 755 $(TOOLS:%=tools/%) $(LIB)/tools
 	install -m 644 tools/simulation/*.py tools/simulation/*.css $(LIB)/tools/simulation
 	install -m 755 tools/flashplay $(BIN)/flashplay
-	for tool in trace report sweep model; do ln -sf ../lib/mintlintel/tools/$$tool $(BIN)/flashplay-$$tool; done
-	.ci/manual $(PROGRAM) $(VERSION) > $(MAN)/flashplay.1
+	for tool in $(TOOLS); do ln -sf ../lib/mintlintel/tools/$$tool $(BIN)/flashplay-$$tool; done
+	packaging/manual $(PROGRAM) $(VERSION) > $(MAN)/flashplay.1
+	for tool in $(TOOLS); do packaging/tool-manual $$tool $(VERSION) > $(MAN)/flashplay-$$tool.1; done
+	packaging/completion bash $(PROGRAM) > $(BASH)/flashplay
+	for tool in $(TOOLS); do ln -sf flashplay $(BASH)/flashplay-$$tool; done
+	packaging/completion zsh $(PROGRAM) > $(ZSH)/_flashplay
 	install -m 644 README.md CHANGELOG.md CONTRIBUTING.md $(DOC)
 	install -m 644 docs/*.md docs/*.svg $(DOC)/docs
 	install -m 644 bench/*.md $(DOC)/bench
-	install -d $(DOC)/examples/parts
+	install -d $(DOC)/examples/parts $(DOC)/examples/mtd
 	install -m 644 examples/*.csv examples/*.args examples/*.out $(DOC)/examples
 	install -m 644 examples/parts/*.toml $(DOC)/examples/parts
+	install -m 644 $(DRIVERS:%=examples/mtd/%) $(DOC)/examples/mtd
+	packaging/installed-links $(DOC)
 	commit=$$(git describe --always --abbrev=40 --dirty --exclude='*') && version=$$(rt version) && \
 	  printf 'commit %s\nproved with %s\n' "$$commit" "$$version" > $(LIB)/BUILT_FROM
 	if [ -e bindings/Makefile ]; then $(MAKE) -C bindings install DESTDIR=$(abspath $(DESTDIR)) PREFIX=$(PREFIX); fi
@@ -35,9 +50,12 @@ install: all
 	  python3 -B -c 'import sys, packing; packing.build_wheel(sys.argv[1])' $(abspath $(DESTDIR))$(PREFIX)/lib/mintlintel/python; fi
 
 dist: all
-	.ci/package $(VERSION)
+	packaging/package $(VERSION)
+
+release-check:
+	@packaging/release
 
 clean:
 	rm -rf out
 
-.PHONY: all install dist clean
+.PHONY: all check install dist release-check clean
