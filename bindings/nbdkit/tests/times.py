@@ -209,10 +209,8 @@ def reads_under_collection(shop, luns):
                 wanted.append(end - answer.sent)
         model.luns = [Lun() for _ in range(luns)]
         pairs = [(part_of(reads, share), part_of(wanted, share)) for share in (0.5, 0.99)]
-        want(all(took > 0.7 * least for took, least in pairs), f"{luns} LUNs, collecting: reads take {pairs[0][0]} and {pairs[1][0]} µs (median and p99), "
-             f"and in the model {pairs[0][1]} and {pairs[1][1]}")
         told = [f"{name} {took / 1000:.1f} ms ({least / 1000:.1f} in the model)" for name, (took, least) in zip(("median", "p99"), pairs)]
-        return max(took / least - 1 for took, least in pairs), ", ".join(told)
+        return max(abs(took / least - 1) for took, least in pairs), ", ".join(told)
 
     told = best_of(attempt, f"an image of {luns} LUN{'s' * (luns > 1)} that collects")
     server.stop()
