@@ -28,7 +28,7 @@ CODE = re.compile(r"`([^`]+)`")
 OF_GLOSSARY = re.compile(r"\b(?:brooms?|a pass|passes|pins?|pinned|a hold|holds a page|drain(?:s|ed)?|fold(?:s|ed)?|meets?|stand)\b")
 # Retired words, each with the one name, and where they stay: in the types of a broom with its volume, and where they aren't renamed yet.
 RETIRED = {
-    "post posts": ("worker", "crates/exports/", "crates/durable_exports/"),
+    "post posts": ("worker", "crates/handles/", "crates/exports/"),
     "crew crews roll rolls enroll": ("team",),
     "sweeper sweepers": ("collector", "crates/exports/", "crates/uses/", "crates/two_threads/", "docs/LIBRARY.md"),
     "swept": ("collected, and of passes met", "crates/broom/", "crates/shared_acceptance/"),
