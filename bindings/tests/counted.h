@@ -9,11 +9,12 @@ void *__real_malloc(size_t size);
 void *__real_realloc(void *old, size_t size);
 void __real_free(void *block);
 
-/* how many blocks are live; how many allocations are granted before one is refused, or -1 for all */
-static long live, granted = -1;
+/* how many blocks are live; how many allocations are granted before one is refused, or -1 for all; how many were refused */
+static long live, granted = -1, refusals;
 
 static int is_refused(void)
 {
+    refusals += granted == 0;
     if (granted == 0)
         return 1;
     if (granted > 0)
