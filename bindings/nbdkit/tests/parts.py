@@ -196,7 +196,7 @@ def refusals_at_the_end(shop):
 def handles(shop):
     """Few handles for many requests, and many, with hardly a spare block: four connections of 16 requests each."""
     told = []
-    for hosts in (2, 4, 16, 64):
+    for hosts in (1, 4, 16, 64):
         server = Server(shop, "size=16M", "spare=3", f"hosts={hosts}", "brooms=1")
         fio(shop, server, "overlapping", rw="randwrite", bs="64k", size="256k", numjobs=4, iodepth=16, io_size="16m", norandommap=1)
         with copying(server, f"{hosts} handles"):
@@ -442,7 +442,7 @@ def chosen(options):
         "stock by itself": stock_by_itself,
         "refusals at the end": refusals_at_the_end,
         "parts and whole pages at once": overlaps,
-        "2, 4, 16 and 64 handles": handles,
+        "1, 4, 16 and 64 handles": handles,
         "pages of other sizes": other_pages,
         "trims round inwards": trims_inwards,
         "brooms that rest": resting_brooms,
