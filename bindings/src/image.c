@@ -25,7 +25,7 @@ struct mintlintel_image_file {
     struct mintlintel_durable_numbers numbers;
     struct image_layout layout;
     int is_mounting, is_dirty, is_erased; /* bytes were written since the last sync; a block was erased since then */
-    uint32_t cached;         /* the block whose spare bytes are in `spares`, while mounting */
+    uint32_t cached;         /* the block whose spare bytes are in `spares`; it isn't programmed before it is erased */
     uint8_t *spares, *zeros, *page;
     off_t data_from, data_to; /* while mounting: no data stands between these places */
 };
@@ -140,7 +140,7 @@ static int load_spares(struct mintlintel_image_file *file, uint32_t block)
     if (file->cached == block)
         return 0;
     file->cached = UINT32_MAX;
-    if (is_hole(file, at, at + (off_t)count))
+    if (file->is_mounting && is_hole(file, at, at + (off_t)count))
         memset(file->spares, 0, count);
     else if (get(file, file->spares, count, at) != 0)
         return 3;
@@ -180,17 +180,25 @@ static int image_program(void *chip, uint32_t block, uint32_t page, const void *
     return file->mode == MINTLINTEL_ALWAYS ? sync_file(file) : 0;
 }
 
+/* A block is collected page by page, so its spare bytes are read once. */
 static int image_copyback(void *chip, uint32_t from_block, uint32_t from_page, uint32_t block, uint32_t page)
 {
     struct mintlintel_image_file *file = chip;
-    uint8_t stamp[MINTLINTEL_STAMP_BYTES];
-    int reading = image_read(chip, from_block, from_page, file->page, stamp);
-    return reading == 0 ? image_program(chip, block, page, file->page, stamp) : failed(file, EIO);
+    if (load_spares(file, from_block) != 0)
+        return 3;
+    const uint8_t *spare = file->spares + (size_t)from_page * SPARE_BYTES;
+    if (reading_of(spare) != 0)
+        return failed(file, EIO);
+    if (get(file, file->page, file->numbers.page_bytes, page_at(file, from_block, from_page)) != 0)
+        return 3;
+    return image_program(chip, block, page, file->page, spare);
 }
 
 static int image_erase(void *chip, uint32_t block)
 {
     struct mintlintel_image_file *file = chip;
+    if (block == file->cached)
+        file->cached = UINT32_MAX;
     if (file->mode == MINTLINTEL_FLUSH && sync_file(file) != 0)
         return 3;
     if (set(file, file->zeros, (size_t)file->numbers.pages * SPARE_BYTES, spare_at(file, block, 0)) != 0)
@@ -471,8 +479,8 @@ uint32_t mintlintel_image_open(struct mintlintel_image *image, const char *path,
     struct mintlintel_nand nand = {file, image_read, image_program, image_copyback, image_erase, NULL, NULL, image_sync};
     file->fd = -1;
     file->mode = mode;
-    uint32_t code = open_image(file, path, &numbers);
     file->is_mounting = 1;
+    uint32_t code = open_image(file, path, &numbers);
     if (code == MINTLINTEL_DONE)
         code = mtl_durable_open(&image->device, &nand, &file->numbers, &file->reason);
     file->is_mounting = 0;
