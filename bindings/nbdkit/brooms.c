@@ -176,9 +176,6 @@ static uint32_t drain_next(struct broom *broom, uint32_t *block, uint32_t *moved
 }
 
 static uint32_t drain_by_survey(struct broom *broom, uint32_t *block, uint32_t *moved) {
-    broom->drains_of_survey = 1;
-    if (is_uneven(broom->all))
-        return drain_evenly(broom, block, moved);
     uint32_t code = mintlintel_broom_drain(announced(broom->seat), block, moved);
     note_drained(broom, code, *block);
     return code;
@@ -195,8 +192,10 @@ static uint32_t drain_one(struct broom *broom, uint32_t *block, uint32_t *moved)
         pthread_rwlock_unlock(&all->choosing);
         pthread_rwlock_wrlock(&all->choosing);
     }
-    if (code == MINTLINTEL_NOTHING_TO_GAIN)
-        code = drain_by_survey(broom, block, moved);
+    if (code == MINTLINTEL_NOTHING_TO_GAIN) {
+        broom->drains_of_survey = 1;
+        code = is_alone ? drain_evenly(broom, block, moved) : drain_by_survey(broom, block, moved);
+    }
     pthread_rwlock_unlock(&all->choosing);
     return code;
 }

@@ -12,7 +12,7 @@ import files
 import images
 import reports
 import times
-from running import HERE, Failure, Server, copying, failing, fio, kibibytes, loaded, want
+from running import HERE, Failure, Server, copying, failing, fio, kibibytes, loaded, slowness, want
 
 ZIPF = {"norandommap": 1, "random_distribution": "zipf:0.9"}
 UNALIGNED = {"bsrange": "512-20k", "bs_unaligned": 1, "blockalign": 512, "serialize_overlap": 1}
@@ -357,7 +357,7 @@ def worn_out(shop):
             server = Server(shop, "sectors=2400", "blocks=60", "hosts=4", f"brooms={brooms}", "endurance=20")
             printed = shop.run([shop.client("wear_out"), server.uri, pattern])
             most, longest = map(float, re.search(r"nine in ten refused within ([\d.]+) ms, all within ([\d.]+) ms", printed).groups())
-            want(most < 100 and longest < 1000, f"a refusal isn't at once: {printed}")
+            want(most < 100 * slowness() and longest < 1000 * slowness(), f"a refusal isn't at once: {printed}")
             told.append(f"{pattern}, {brooms} broom{'s' * (brooms > 1)}: {share(server.stop(), 93)}, nine in ten refused within {most} ms")
     for brooms in shop.scaled((1,), (1, 2)):
         for pattern, least in (("random", 90), ("zipf:1.2", 80)):
