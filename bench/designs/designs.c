@@ -9,7 +9,7 @@
 #include "plain.h"
 
 /* A host waits for a block so long; a device has so many erases that it lasts; a broom collects while fewer than FEW blocks are free, MANY at once. */
-enum { WAIT = 10000, ENDURANCE = 1000000, FEW = 12, MANY = 16, MOST_HOSTS = 16, MOST_BROOMS = 8, PARTS = 16 };
+enum { WAIT = 60000, ENDURANCE = 1000000, FEW = 12, MANY = 16, MOST_HOSTS = 16, MOST_BROOMS = 8, PARTS = 16 };
 
 struct luns luns;
 

@@ -14,7 +14,7 @@ struct design {
     int has_brooms;
     /* NULL if the library refuses the geometry. */
     void *(*open)(const struct geometry *geometry);
-    /* The library's codes. A write of a design with brooms waits for a block, up to ten seconds. */
+    /* The library's codes. A write of a design with brooms waits for a block, up to a minute. */
     uint32_t (*read)(void *device, uint32_t host, uint32_t sector, uint8_t *out);
     uint32_t (*write)(void *device, uint32_t host, uint32_t sector, const uint8_t *page);
     /* Collects if few blocks are free: whether there was nothing to do. */

@@ -3,9 +3,9 @@
  *
  * Threads read and write uniform random sectors of 512 blocks of 64 pages, of which USE percent are used and READS percent of the calls are reads.
  * Before that each page is overwritten twice. `rate` prints a line for each window and each number of hosts in turns: hosts, calls a second, and
- * nanoseconds of processor time for a call, with the brooms'. `response` prints the calls a second, and then of reads and of writes how many there
- * were and how many nanoseconds they took: the median, 90, 99, 99.9 and 99.99 percent, and the longest. With LUNS, commands take a part's times, in
- * nanoseconds. Each page that is read has to be one of its sector. */
+ * nanoseconds of processor time for a call, with the brooms'. `response` runs half as long before it begins. It prints the calls a second, and then
+ * of reads and of writes how many there were and how many nanoseconds they took: the median, 90, 99, 99.9 and 99.99 percent, and the longest. With
+ * LUNS, commands take a part's times, in nanoseconds. Each page that is read has to be one of its sector. */
 #define _GNU_SOURCE
 #include <pthread.h>
 #include <sched.h>
@@ -150,9 +150,10 @@ static void *run_host(void *argument)
     struct thread *thread = argument;
     uint8_t *page = calloc(1, geometry.words * 8);
     uint64_t began = begin_together();
-    while (atomic_load_explicit(&phase, memory_order_relaxed) == RUNNING)
+    do
         for (int i = 0; i < (thread->read ? 1 : BATCH); i++)
             call(thread, page);
+    while (atomic_load_explicit(&phase, memory_order_relaxed) == RUNNING);
     thread->processor = clock_of(CLOCK_THREAD_CPUTIME_ID) - began;
     atomic_fetch_sub(&hosts_left, 1);
     free(page);
@@ -247,6 +248,9 @@ static void print_response(uint32_t milliseconds, uint32_t count)
 {
     struct thread hosts[MOST_THREADS], brooms[MOST_THREADS];
     static struct times times[MOST_THREADS][2];
+    begin(hosts, count);
+    begin(brooms, geometry.brooms);
+    window(hosts, count, brooms, milliseconds / 2);
     begin(hosts, count);
     begin(brooms, geometry.brooms);
     for (uint32_t i = 0; i < count; i++) {
