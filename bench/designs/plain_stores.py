@@ -14,8 +14,8 @@ def sections_of(path):
     return {name: int(offset, 16) for name, offset in re.findall(r"\] +(\S+) +PROGBITS +\S+ +(\S+)", listed)}
 
 
-def with_plain_stores(library, copy):
-    """Links the library into one object, and turns the exchanges of page words into moves."""
+def with_plain_stores(library, copy, least):
+    """Links the library into one object, and turns the exchanges of page words into moves, of which so many have to be found."""
     subprocess.run(["ld", "-r", "--whole-archive", library, "-o", copy], check=True)
     data, sections, count = bytearray(copy.read_bytes()), sections_of(copy), 0
     section = function = ""
@@ -28,7 +28,7 @@ def with_plain_stores(library, copy):
             place = sections[section] + int(found[1], 16) + found[2].split().index(f"{EXCHANGE:02x}")
             data[place] = MOVE
             count += 1
-    if count < 3:
-        raise SystemExit(f"bench: {count} exchanges of page words were found, and three or more were expected")
+    if count < least:
+        raise SystemExit(f"bench: {count} exchanges of page words were found, and {least} or more were expected")
     copy.write_bytes(data)
     return copy
