@@ -1,5 +1,6 @@
-use Rattle.std.proofs.Common.{◌≡◌, refl}
+use Rattle.std.proofs.Common.{◌≡◌, [], ◌∷◌, inl, inr, refl}
 use Rattle.std.specs.Prelude.{true, false}
+use Rattle.workers.specs.declared.broom_answer.BroomAnswer.TheVariants as by
 use Rattle.laws.proofs.turns.calls_behind_a_drain.Goals as goal
 
 pub returns-clause-erased : goal.returns-clause-erased
@@ -11,9 +12,17 @@ returns-clause-erased c e =
     }
 
 pub returns-clause-restocked : goal.returns-clause-restocked
-returns-clause-restocked c e found =
+returns-clause-restocked c e =
     record {
       erased = e;
-      spareless = λ h. (found, refl);
+      spareless = λ h. (by.Restock true ∷ [], inl refl, refl);
+      other = λ h. let wrong : true ≡ false = h in absurd (cc);
+    }
+
+pub returns-clause-drained : goal.returns-clause-drained
+returns-clause-drained c e d =
+    record {
+      erased = e;
+      spareless = λ h. (by.Restock false ∷ by.DrainDead d ∷ [], inr (d, refl), refl);
       other = λ h. let wrong : true ≡ false = h in absurd (cc);
     }
