@@ -8,3 +8,4 @@ pub mod Scans
 pub mod Frees
 pub mod Promises
 pub mod Noting
+pub mod Reserves

@@ -31,7 +31,7 @@ use Rattle.durable.proofs.Scans.{finished}
 use Rattle.durable.proofs.Frees.{duplicated_freeable, spares}
 
 -- what success leaves is one of the things that a power cut may leave
-completes_cut : (f t : Flash) (m : Command) (s : ℕ) (x : Sector) → Completes m s x f t → CutLeaves m s x f t
+pub completes_cut : (f t : Flash) (m : Command) (s : ℕ) (x : Sector) → Completes m s x f t → CutLeaves m s x f t
 completes_cut f t (Program at n) s x does = inr (inr does)
 completes_cut f t (Copy k from to) s x does = inr (inr does)
 completes_cut f t (Erase b) s x does = erased_loses f t b does.0 does.1

@@ -1,11 +1,11 @@
 -- Whole runs: commands that succeed, commands that fail, and power cuts inside a command or between two. A mount follows each failure and each cut.
-use Rattle.std.specs.Prelude.{◌≡◌, List, [], ◌∷◌}
+use Rattle.std.specs.Prelude.{◌≡◌, ◌+◌, ℕ, List, [], ◌∷◌}
 use Rattle.durable.specs.Updates.{Update}
 use Rattle.durable.specs.Flash.{Flash, IsErased}
 use Rattle.durable.specs.Commands.{Completes, CutLeaves, updates_with}
 use Rattle.durable.specs.Device.{device_of, device_in}
-use Rattle.durable.specs.Failures.{IsRenumbered, IsSameFlashOf}
-use Rattle.durable.specs.Calls.{SurvivesCut, Acknowledges, HasNoted, Remounts}
+use Rattle.durable.specs.Failures.{Changes, IsRenumbered, IsSameFlashOf, IsSwapped}
+use Rattle.durable.specs.Calls.{IsSafe, SurvivesCut, Acknowledges, HasNoted, Remounts}
 use Rattle.durable.specs.declared.command.Command.{Command}
 use Rattle.durable.specs.declared.memory.Core.{Core}
 use Rattle.durable.specs.declared.mount.Mount.{Mount}
@@ -53,3 +53,26 @@ begun_in (Completed update command ∷ events) = updates_with command update (be
 begun_in (Failed update command ∷ events) = update ∷ begun_in events
 begun_in (CutInside update command ∷ events) = update ∷ begun_in events
 begun_in (CutBetween ∷ events) = begun_in events
+
+-- how many commands of a run have failed
+abbrev pub failures_in : List Event → ℕ
+failures_in [] = 0
+failures_in (Completed update command ∷ events) = failures_in events
+failures_in (Failed update command ∷ events) = failures_in events + 1
+failures_in (CutInside update command ∷ events) = failures_in events
+failures_in (CutBetween ∷ events) = failures_in events
+
+-- the same on a device whose blocks after those in use are a reserve, so many of them used up: a block whose command fails changes its number
+-- with the next one of the reserve, and as many blocks stay in use
+abbrev pub HappensOnReserve : ℕ → Event → Flash → Core → Flash → Core → Type 0
+HappensOnReserve spent (Completed update command) f old t new = IsSafe old command × Happens (Completed update command) f old t new
+HappensOnReserve spent (Failed update command) f old t new =
+    IsSafe old command × (left : Flash) × (b : ℕ) × SurvivesCut old update.sector command × CutLeaves command update.sector update.value f left
+    × Changes command b × IsSwapped left t b ((device_of old).blocks + spent) × IsMountedFrom t new × (device_of new ≡ device_of old)
+HappensOnReserve spent (CutInside update command) f old t new = IsSafe old command × Happens (CutInside update command) f old t new
+HappensOnReserve spent CutBetween f old t new = Happens CutBetween f old t new
+
+-- a run on such a device, from the first mount of an erased flash, its newest event first
+abbrev pub RunsOnReserve : List Event → Flash → Core → Type 0
+RunsOnReserve [] f core = Runs [] f core
+RunsOnReserve (event ∷ events) t new = (f : Flash) × (old : Core) × RunsOnReserve events f old × HappensOnReserve (failures_in events) event f old t new

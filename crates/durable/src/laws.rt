@@ -8,13 +8,14 @@ ghost use Rattle.durable.specs.Choice.{IsNext, Spends, StaysOpen, left, number_a
 ghost use Rattle.durable.specs.Collecting.{AreLiveCounts, CanCollect, HasCapacity, IsFree, IsPageOn, live_in};
 ghost use Rattle.durable.specs.Commands.{Completes, CutLeaves, IsAllowed, is_program, updates_with};
 ghost use Rattle.durable.specs.Device.{Device, IsReadOn, IsWrittenOn, NamesOn, device_in, device_of, next_number_of, next_page_of};
-ghost use Rattle.durable.specs.Failures.{HasVersionlessBlock, HoldsNoVersion, IsRenumbered, IsSameFlashOf};
+ghost use Rattle.durable.specs.Failures.{Changes, HasVersionlessBlock, HoldsNoVersion, IsRenumbered, IsSameFlashOf, IsSwapped, swapped};
 ghost use Rattle.durable.specs.Faults.{mount_fault_text};
 ghost use Rattle.durable.specs.Flash.{Erased, Flash, HoldsNewest, IsErased, RecoversSector, SetsPage, Torn, Version};
 ghost use Rattle.durable.specs.Memory.{IsMappedTo, map_entry};
 ghost use Rattle.durable.specs.Mounting.{IsStampOf, next_in, after_in};
 ghost use Rattle.durable.specs.Promise.{IsConsistent, IsReadable, IsRecoverable, KeepsAcknowledged};
-ghost use Rattle.durable.specs.Runs.{Completed, CutBetween, CutInside, Event, Failed, IsMountedFrom, Runs, acknowledged_in, begun_in};
+ghost use Rattle.durable.specs.Runs.{Completed, CutBetween, CutInside, Event, Failed, IsMountedFrom, Runs, RunsOnReserve};
+ghost use Rattle.durable.specs.Runs.{acknowledged_in, begun_in, failures_in};
 ghost use Rattle.durable.specs.Updates.{IsSubsequence, Update, array_after, changed};
 ghost use Rattle.durable.specs.declared.command.Command.TheVariants as command;
 ghost use Rattle.durable.specs.declared.fault.MountFault.TheVariants.{NoFreeBlock};
@@ -225,6 +226,11 @@ pub fn promises()
     ensures noted { (f : Flash) (mount : Reading) (v : Sector) → HasNoted f mount → f 0 0 ≡ Version 7 5 v → 0 < mount.block → 5 < mount.next_number }
     ensures remounts { (f : Flash) (mount : Reading) (core : Layer) (acked begun : List Update) → Remounts mount core → HasNoted f mount
         → IsReadable f (device_in mount) acked begun → IsConsistent f core acked begun }
+    ensures reads { (f : Flash) (device : Device) (acked begun : List Update) → IsReadable f device acked begun
+        → KeepsAcknowledged f device.sectors acked begun }
+    ensures read_written { (f : Flash) (device : Device) (acked begun : List Update) → IsReadable f device acked begun → IsWrittenOn device f }
+    ensures readable { (f : Flash) (device : Device) (acked begun : List Update) → KeepsAcknowledged f device.sectors acked begun
+        → IsWrittenOn device f → IsReadable f device acked begun }
 {}
 
 /// Blocks that are numbered anew, and blocks without versions.
@@ -245,6 +251,14 @@ pub fn failures()
         (record { blocks = 4; read_blocks = 5; pages = 4; sectors = 8 }) (record { blocks = 4; read_blocks = 5; pages = 3; sectors = 8 }) }
     ensures other_sectors { ¬ IsSameFlashOf
         (record { blocks = 4; read_blocks = 5; pages = 4; sectors = 8 }) (record { blocks = 4; read_blocks = 5; pages = 4; sectors = 7 }) }
+    ensures swapped_blocks { (f t : Flash) → IsSwapped f t 1 5 → (t 5 2 ≡ f 1 2) × (t 1 2 ≡ f 5 2) }
+    ensures other_block { (f t : Flash) → IsSwapped f t 1 5 → t 3 2 ≡ f 3 2 }
+    ensures numbers { (swapped 1 5 1 ≡ 5) × (swapped 1 5 5 ≡ 1) × (swapped 1 5 3 ≡ 3) }
+    ensures programmed { (b : ℕ) → Changes (command.Program (record { block = 1; page = 2 }) 5) b → b ≡ 1 }
+    ensures copied { (b : ℕ) → Changes (command.Copy 7 (record { block = 0; page = 4 }) (record { block = 1; page = 2 })) b → b ≡ 1 }
+    ensures wiped { (b : ℕ) → Changes (command.Erase 1) b → b ≡ 1 }
+    ensures changed { Changes (command.Program (record { block = 1; page = 2 }) 5) 1 × Changes (command.Erase 1) 1 }
+    ensures nothing { (b : ℕ) → ¬ Changes command.Refused b }
 {}
 
 /// Which updates of a run are acknowledged, and which were begun.
@@ -269,4 +283,34 @@ pub fn runs()
         → Completes (command.Erase 1) u.sector u.value f t → Acknowledges old u.sector (command.Erase 1) new → device_of new ≡ device_of old
         → Runs (Completed u (command.Erase 1) ∷ events) t new }
     ensures between { (t : Flash) (new : Layer) → Runs (CutBetween ∷ []) t new → (b p : ℕ) → t b p ≡ Erased }
+    ensures mounted { (f : Flash) (core : Layer) (acked begun : List Update) → IsMountedFrom f core → IsReadable f (device_of core) acked begun
+        → IsConsistent f core acked begun }
+    ensures failed_erase { (t : Flash) (new : Layer) (u : Update) → Runs (Failed u (command.Erase 1) ∷ []) t new
+        → (b p s m : ℕ) (v : Sector) → t b p ≢ Version s m v }
+    ensures failed_chosen { (events : List Event) (t : Flash) (new : Layer) (u : Update) → Runs (Failed u (command.Erase 1) ∷ events) t new
+        → (f : Flash) × (old : Layer) × Runs events f old × SurvivesCut old u.sector (command.Erase 1) }
+    ensures failed_mounted { (events : List Event) (t : Flash) (new : Layer) (u : Update) → Runs (Failed u (command.Erase 1) ∷ events) t new
+        → IsMountedFrom t new }
+    ensures failed_same { (events : List Event) (t : Flash) (new : Layer) (u : Update) → Runs (Failed u (command.Erase 1) ∷ events) t new
+        → (f : Flash) × (old : Layer) × Runs events f old × IsSameFlashOf (device_of old) (device_of new) }
+    ensures counted { (u : Update) → failures_in (Failed u (command.Erase 1) ∷ Completed u (command.Erase 1) ∷ Failed u (command.Erase 2) ∷ []) ≡ 2 }
+    ensures not_counted { (u : Update) → failures_in (CutInside u (command.Erase 1) ∷ CutBetween ∷ []) ≡ 0 }
+{}
+
+/// Runs on a device that keeps a reserve.
+pub fn reserves()
+    ensures first { (f : Flash) (core : Layer) → RunsOnReserve [] f core → IsErased f }
+    ensures replaced { (events : List Event) (t : Flash) (new : Layer) (u : Update) → RunsOnReserve (Failed u (command.Erase 1) ∷ events) t new
+        → (f left : Flash) × (old : Layer) × RunsOnReserve events f old × CutLeaves (command.Erase 1) u.sector u.value f left
+        × IsSwapped left t 1 (old.blocks + failures_in events) × IsMountedFrom t new × (device_of new ≡ device_of old) }
+    ensures replaces { (events : List Event) (f left t : Flash) (old new : Layer) (u : Update) → RunsOnReserve events f old → IsSafe old (command.Erase 1)
+        → SurvivesCut old u.sector (command.Erase 1) → CutLeaves (command.Erase 1) u.sector u.value f left
+        → IsSwapped left t 1 (old.blocks + failures_in events) → IsMountedFrom t new → device_of new ≡ device_of old
+        → RunsOnReserve (Failed u (command.Erase 1) ∷ events) t new }
+    ensures safe { (events : List Event) (t : Flash) (new : Layer) (u : Update) → RunsOnReserve (Completed u (command.Erase 1) ∷ events) t new
+        → (f : Flash) × (old : Layer) × IsSafe old (command.Erase 1) × Completes (command.Erase 1) u.sector u.value f t }
+    ensures safe_cut { (events : List Event) (t : Flash) (new : Layer) (u : Update) → RunsOnReserve (CutInside u (command.Erase 1) ∷ events) t new
+        → (f : Flash) × (old : Layer) × IsSafe old (command.Erase 1) × CutLeaves (command.Erase 1) u.sector u.value f t }
+    ensures idle { (events : List Event) (t : Flash) (new : Layer) → RunsOnReserve (CutBetween ∷ events) t new
+        → (f : Flash) × (old : Layer) × RunsOnReserve events f old × (t ≡ f) }
 {}

@@ -1,14 +1,15 @@
-ghost use Rattle.std.specs.Prelude.{◌≡◌, ◌<◌, ◌≤◌, ℕ, List, []};
+ghost use Rattle.std.specs.Prelude.{◌≡◌, ◌<◌, ◌≤◌, ◌+◌, ℕ, List, [], ◌∷◌};
 ghost use Rattle.durable.specs.Flash.{Flash, IsErased};
 ghost use Rattle.durable.specs.Device.{Device, device_of, NamesOn};
 ghost use Rattle.durable.specs.Commands.{CutLeaves};
-ghost use Rattle.durable.specs.Failures.{IsRenumbered, HasVersionlessBlock, IsSameFlashOf};
+ghost use Rattle.durable.specs.Calls.{IsSafe, SurvivesCut};
+ghost use Rattle.durable.specs.Failures.{Changes, HasVersionlessBlock, HoldsNoVersion, IsRenumbered, IsSameFlashOf, IsSwapped};
 ghost use Rattle.geometry.specs.Sectors.{Sector};
 ghost use Rattle.durable.specs.Updates.{Update};
 ghost use Rattle.durable.specs.declared.command.Command.{Command as Next};
 ghost use Rattle.durable.specs.declared.memory.Core.{Core as Layer};
 ghost use Rattle.durable.specs.Promise.{KeepsAcknowledged, IsReadable, IsRecoverable, IsConsistent};
-ghost use Rattle.durable.specs.Runs.{Event, Runs, acknowledged_in, begun_in};
+ghost use Rattle.durable.specs.Runs.{Event, Runs, RunsOnReserve, acknowledged_in, begun_in, failures_in};
 
 /// After any run of commands with any number of power cuts, each inside a command or between two, and with any number of commands that fail, a mount
 /// reads every acknowledged update.
@@ -30,4 +31,19 @@ pub fn survives_failures()
         → IsRenumbered f t old.read_blocks → IsSameFlashOf old new → IsReadable t new acked begun }
     ensures recoverable { (f : Flash) (device : Device) (acked begun : List Update) → IsReadable f device acked begun → HasVersionlessBlock f device
         → IsRecoverable f device acked begun }
+{}
+
+/// A device with a reserve of `spare` blocks survives as many failures: in any run with fewer, a mount can be made after one more, and reads every
+/// acknowledged update. The failed block changes its number with the next of the reserve. It computes nothing: its clauses are the theorem.
+pub fn survives_as_many_failures_as_spares()
+    ensures run { (spare : ℕ) (events : List Event) (f : Flash) (layer : Layer) → RunsOnReserve events f layer
+        → (device_of layer).read_blocks ≡ (device_of layer).blocks + spare → failures_in events ≤ spare → Runs events f layer }
+    ensures mounts { (spare : ℕ) (events : List Event) (f left t : Flash) (layer : Layer) (update : Update) (command : Next) (b : ℕ)
+        → RunsOnReserve events f layer → (device_of layer).read_blocks ≡ (device_of layer).blocks + spare → failures_in events < spare
+        → IsSafe layer command → SurvivesCut layer update.sector command → CutLeaves command update.sector update.value f left → Changes command b
+        → IsSwapped left t b ((device_of layer).blocks + failures_in events)
+        → IsRecoverable t (device_of layer) (acknowledged_in events) (update ∷ begun_in events) }
+    ensures untouched { (events : List Event) (f : Flash) (layer : Layer) (spare c : ℕ) → RunsOnReserve events f layer
+        → (device_of layer).read_blocks ≡ (device_of layer).blocks + spare → failures_in events ≤ spare
+        → (device_of layer).blocks + failures_in events ≤ c → HoldsNoVersion f c }
 {}
