@@ -1,9 +1,11 @@
--- `to` keeps the pointer that `into_raw` gives, and it owns what the box owned.
+-- `filled` keeps the pointer that `into_raw` gives, and it owns what the box owned.
 use Rattle.std.proofs.Common.{◌∙◌, ◌++◌, List, [], ◌∷◌, refl, ap}
+use Rattle.std.specs.Prelude.{Some}
 use Rattle.std.proofs.raw_atomic.Walks.{proved_at}
 use mir.MapTy.{inst_fn}
 use mir.Syntax.{a_type, dcons, dnil}
-use mir.Val.{Val, vptr}
+use mir.Val.{Val}
+use mir.Raw.{raw as bare}
 use base.Logic.{id⊢, emp, fst∗, never}
 use base.Fml.{ftrue, feq, fsep, flft}
 use base.Fraction.{full_share}
@@ -20,58 +22,48 @@ use contract.Running.{tables}
 use denote.Exit.{no}
 use denote.Laws.{Is, shows}
 use denote.Param.{param, layout, bounded}
+use denote.Param.Laws.{param_laws}
 use denote.Param.NoDrop.{glues}
 use denote.Param.Steps.{one_value}
-use denote.RattleType.{RattleType, owns}
+use denote.RattleType.{owns}
 use denote.RawPtr.{Ptr, block_ptr, null_ptr, ptr_val, in_a_block}
 use denote.Signature.{types_at, plain}
-use denote.Steps.{nothing, heard, owned, peeks, only}
+use denote.Steps.{nothing, heard, peeks, only}
 use denote.Triple.Call.{calls_at}
 use denote.Triple.Spec.{triple_of}
 use denote.Triple.Table.{framed}
 use denote.Triple.Walked.{Stays, walk_of, says, stay_dropped, Goes-dropped, ends_at}
-use mir.Raw.{raw as bare}
+use Rattle.std_alloc.specs.Box.Ownership.{box_owns}
 use Rattle.std_alloc.specs.contracts.boxed.Box.into_raw as raw_call
 use Rattle.std_alloc.proofs.boxed.Box.into_raw.Met.{met}
 use Rattle.std_heap.proofs.GlobalAllocator.TheImpl.Met.{passed}
 use Rattle.std_heap.specs.contracts.GlobalAllocator.TheImpl.{ghosts, dict}
-use Rattle.durable_exports.specs.Heaps.{the_heap}
-use Rattle.std_alloc.specs.Box.Ownership.{box_owns}
-use Rattle.durable_exports.specs.contracts.pointed.Pointed as pointings
-use Rattle.durable_exports.proofs.Rows.{Heap, Heap-arg, Heap-arg-laws, Heap-laws, word, heap_drop}
-use Rattle.std_alloc.specs.contracts.boxed.Box as boxes
-use Rattle.std_alloc.proofs.boxed.Box.TheLaws as box_laws
-use denote.Param.Laws.{Laws, param_laws}
-use denote.RawPtr.{rawptr_pure}
-use denote.Struct.Owning.{shape}
-use denote.Struct.Struct.{Struct, Struct-Makes}
-use Rattle.durable_exports.proofs.Destruct++none.drop.Code as nothing_dropped
-use Rattle.durable_exports.specs.contracts.pointed.Pointed.to as f
-use Rattle.durable_exports.proofs.pointed.Pointed.to.Statement.{statement}
-use Rattle.durable_exports.proofs.pointed.Pointed.to.Code as code
+use Rattle.handles.specs.Kept.{heap}
+use Rattle.handles.proofs.Rows.{Boxed, Boxed-laws, Heap, Heap-arg, Heap-arg-laws, word, word_typed, makes, heap_drop}
+use Rattle.handles.proofs.Destruct++none.drop.Code as nothing_dropped
+use Rattle.handles.specs.contracts.slot.Slot.filled as f
+use Rattle.handles.proofs.slot.Slot.filled.Statement.{statement}
+use Rattle.handles.proofs.slot.Slot.filled.Code as code
 
-pub to_spec : {M : Type 1} → statement M
+pub filled_spec : {M : Type 1} → statement M
 unfolding nothing_dropped.code
-to_spec {M = M} 𝓤 𝓛 𝓜 𝓡 wired T L drops glue =
+filled_spec {M = M} 𝓤 𝓛 𝓜 𝓡 wired T L drops glue =
     -- the types, and what is promised
     let form = f.ended T drops in let promised = f.clauses T drops 𝓛 𝓜.mem 𝓡.returns in
     let taken : Stays form.signature.params form.kept = (stay_dropped _ no, tt) in let walk = walk_of 𝓛 form taken promised in
     let types = bounded (a_type ∷ []) (T, tt) (dcons drops dnil) in let body = inst_fn types code.function in
-    let running = tables 𝓤 𝓛.H 𝓜 𝓡 𝓡.env in
-    let Value : RattleType = param 0 T in let Whole : RattleType = boxes.the_row Value Heap ghosts in let Pointing : RattleType = pointings.the_row Value in
-    let Whole-laws : Laws Whole = box_laws.the_row_laws Value Heap ghosts (param_laws 0 T L) Heap-laws in
-    let shape_of_pointing = shape (pointings.the_type Value) in let bare_pointing = Struct shape_of_pointing in
+    let running = tables 𝓤 𝓛.H 𝓜 𝓡 𝓡.env in let Value = param 0 T in let Whole = Boxed Value in
+    let lawful = (Boxed-laws Value (param_laws 0 T L)).lawful 𝓛 in
     -- the call of `into_raw`, which the heap's four functions and its drop meet
     let heap_calls = passed 𝓡.env (code.calls-std_heap::GlobalAllocator::allocate 𝓡.env wired)
     (code.calls-std_heap::GlobalAllocator::deallocate 𝓡.env wired) (code.calls-std_heap::GlobalAllocator::grow 𝓡.env wired)
     (code.calls-std_heap::GlobalAllocator::shrink 𝓡.env wired) M 𝓤 𝓛 𝓜 𝓡 in
-    let heap_goes = glues "durable_exports::Destruct++none::drop" 𝓡.env (code.calls-durable_exports::Destruct++none::drop 𝓡.env wired)
-    Heap-arg Heap-arg-laws M 𝓤 𝓛 𝓜 𝓡 in
+    let heap_goes = glues "handles::Destruct++none::drop" 𝓡.env (code.calls-handles::Destruct++none::drop 𝓡.env wired) Heap-arg Heap-arg-laws M 𝓤 𝓛 𝓜 𝓡 in
     let Raw = triple_of 𝓛 (raw_call.signature T Heap-arg ghosts dict heap_drop drops)
     (raw_call.spec T Heap-arg ghosts dict heap_drop drops 𝓛 𝓜.mem 𝓡.returns) in
     let raw_is_met = met 𝓤 𝓛 𝓜 𝓡 (code.calls-std_alloc::boxed::Box::into_raw 𝓡.env wired) T Heap-arg L Heap-arg-laws ghosts dict heap_drop drops
     heap_calls heap_goes glue in
-    let right = ghosts.dealloc_token the_heap in
+    let right = ghosts.dealloc_token heap in
     proved_at 𝓛 form taken promised 𝓜 𝓡 (Goes-dropped 𝓛 1 (plain (λ _. Whole)) no (λ κs x w. refl), tt)
     (f.Key.name types) body (code.unfolded 𝓤 𝓛.H 𝓜 𝓡 wired (T, tt) drops) (λ begun _.
     let life = begun.0.0.0 in let share = begun.0.1.0 in let box = begun.0.3.0 in
@@ -82,7 +74,7 @@ to_spec {M = M} 𝓤 𝓛 𝓜 𝓡 wired T L drops glue =
     peeks ! Whole (Is Whole) (shows 𝓛 Whole) box begun.0.4.0 (λ seen.
     one_value (layout Whole) (λ vs.
     Sq 𝓛 (‵ (Whole.own_val box vs) ∷ (‵ (flft life share) ⊛ ‵ ftrue) ∷ [])
-    (prop (WpFn 𝓤 𝓛.H running.C running.Λ body (vs ++ []) (walk.post begun)))) begun.0.4.0 ((Whole-laws.lawful 𝓛).typed box begun.0.4.0 seen)
+    (prop (WpFn 𝓤 𝓛.H running.C running.Λ body (vs ++ []) (walk.post begun)))) begun.0.4.0 (lawful.typed box begun.0.4.0 seen)
     (λ whole well_typed.
     -- what the call asks: the box, the tokens of the two lifetimes, and that both last
     let asked : Raw.Ghost = (((life, ([], tt)), (share, (full_share, tt)), tt, (box, tt), (whole ∷ [], tt)), tt) in
@@ -99,11 +91,9 @@ to_spec {M = M} 𝓤 𝓛 𝓜 𝓡 wired T L drops glue =
     ‵ (fsep (fsep ftrue (fsep ftrue ftrue)) ftrue) ⊛ ‵ (box_owns right Value place box.value))))) (id⊢ 𝓤 _) $
     await ! tt $ pick ! (λ place. split ! $ split ! $ split ! $ move ! (2 ∷ []) $ feq_l ! (λ is_place. move ! (2 ∷ []) $ pick ! (λ lasts. split ! $ drop ! $
     in_a_block ! place (λ p. box_owns right Value p box.value) (fst∗ 𝓤 (never 𝓤) (sem 𝓛 (right (bare (layout T)) null_ptr))) (λ block offset here.
-    -- [what the box owned; the value's token; the other tokens]: the struct is made of the pointer
-    let made : Pointing.Denot = record { place = block_ptr block offset; there = box.value } in
-    lands_as ! (ap only is_place ∙ ap ptr_val here) refl (tt, tt) $ sets ! (agg ! (and_then ! (get ! refl) (no_more !))) refl (tt, (tt, tt)) $
-    returns ! (look_at ! 0 refl) $ free_all ! refl $ keep ! (0 ∷ 1 ∷ []) $
-    owned ! bare_pointing (Is bare_pointing) (Struct-Makes 𝓛 shape_of_pointing (rawptr_pure, tt)) (block_ptr block offset, tt)
-    (word (block_ptr block offset) ∷ []) ((vptr block offset ∷ [], tt), (refl, (refl, tt))) $ fjoin ! $
-    suffices ! _ (ends_at 𝓛 form taken promised begun (word (block_ptr block offset)) made (tt, tt) (tt, tt)) $ says ! refl $
+    -- [what the box owned; the value's token; the other tokens]: the slot is made of the pointer
+    let at = block_ptr block offset in
+    lands_as ! (ap only is_place ∙ ap ptr_val here) refl (tt, tt) $ sets ! (agg ! (and_then ! (get ! refl) (no_more !))) refl (word_typed (param 0 T) at) $
+    returns ! (look_at ! 0 refl) $ free_all ! refl $ keep ! (0 ∷ 1 ∷ []) $ makes Value ! at (Some box.value) $
+    suffices ! _ (ends_at 𝓛 form taken promised begun (word at) (record { at = at; value = Some box.value }) (tt, tt) (tt, tt)) $ says ! refl $
     nothing ! $ nothing ! $ join ! $ nothing ! $ move ! (3 ∷ 0 ∷ []) $ join ! $ done !))))))))))
