@@ -19,8 +19,7 @@ WITHOUT = {
     "items_of of rounds": "a field",
     "answers_kept of workers": "a field",
     "state_of of exports": "another name",
-    "kept of exports": "a formula of what a value owns: what makes such a value refuses a stronger one, and what ends it a weaker one",
-    "seat_at of durable_exports": "the same",
+    "kept of handles": "a formula of what a value owns: what makes such a value refuses a stronger one, and what ends it a weaker one",
 }
 CLAUSE = re.compile(r"(?:^\s*(?:pub )?(requires|ensures|ghost)\b(?! use )[^{;]*|\bby )\{", re.M)
 

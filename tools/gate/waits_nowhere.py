@@ -11,7 +11,7 @@ from functools import cache, partial
 
 from gate import laws, tree
 
-CRATES = ("geometry", "flash_rule", "flash_table", "host", "broom", "erase_queue", "volume", "exports")
+CRATES = ("geometry", "flash_rule", "flash_table", "host", "broom", "erase_queue", "volume", "handles", "exports")
 # Each loop, as its file, its function, its head with the values that its bound has there, and why it ends after a number of turns that no
 # other thread can raise.
 LOOPS = """

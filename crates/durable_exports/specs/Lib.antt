@@ -2,5 +2,3 @@
 pub mod Calls
 pub mod Reports
 pub mod Handles
-pub mod Kept
-pub mod Heaps

@@ -1,8 +1,7 @@
 //! What C holds: two words, the first a slot, the second 1 if there is a seat in it.
 ghost use Rattle.std.specs.Prelude.{◌≡◌};
-ghost use Rattle.durable_exports.specs.Kept.{SaysIfOpen};
+ghost use Rattle.handles.specs.Kept.{SaysWhetherOpen};
 
-use crate::pointed::Pointed;
 use crate::seat::Seat;
 use crate::slot::Slot;
 use std::alloc::Global;
@@ -13,7 +12,7 @@ use std::mem;
 pub struct Handle {
     slot: Slot,
     is_open: u64,
-    ghost known: { SaysIfOpen is_open slot.seat },
+    ghost known: { SaysWhetherOpen is_open slot.seat },
 }
 
 // This may be called only of a type whose values may go to another thread: the call in `fill` shows it of a handle.
@@ -21,7 +20,7 @@ fn may_go<T: Send>(_value: &T) {}
 
 impl Handle {
     ghost use Rattle.std.specs.Prelude.{Option, Some, None, option_map, is_some, true, false};
-    ghost use Rattle.durable_exports.specs.Kept.{in_box};
+    ghost use Rattle.handles.specs.Kept.{boxed};
     ghost use Rattle.durable_exports.specs.Handles.{seat_of};
 
     /// Whether the handle is open.
@@ -33,21 +32,21 @@ impl Handle {
 
     /// Takes the seat out, and leaves the handle closed.
     pub(crate) fn take(&mut self, alloc: Global) -> Option<Box<Seat, Global>>
-        ensures seat { option_map in_box result ≡ seat_of self.old }
+        ensures seat { option_map boxed result ≡ seat_of self.old }
         ensures closed { seat_of self.new ≡ None }
     {
         let Handle { slot, is_open } = mem::replace(
             self,
             Handle {
-                slot: Slot::empty(),
+                slot: Slot::of(handles::Slot::empty()),
                 is_open: 0,
             },
         );
         if is_open == 0 {
-            slot.end();
+            slot.typed().end();
             return None;
         }
-        Some(slot.into_box(alloc))
+        Some(slot.typed().into_box(alloc))
     }
 
     /// Puts a seat into a closed handle.
@@ -58,11 +57,11 @@ impl Handle {
         let Handle { slot, is_open: _ } = mem::replace(
             self,
             Handle {
-                slot: Slot::filled(Pointed::to(seat)),
+                slot: Slot::of(handles::Slot::filled(seat)),
                 is_open: 1,
             },
         );
-        slot.end();
+        slot.typed().end();
     }
 
     /// Puts a seat into a closed handle. If there is no memory for it, the seat is dropped, and the handle stays closed.

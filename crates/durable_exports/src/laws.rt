@@ -1,7 +1,6 @@
 //! Laws of what C sees of a handle. Each function has no code: its clauses say where a definition holds and where it doesn't, and what a code or a report
 //! is on small values.
 ghost use Rattle.std.specs.Prelude.{◌≡◌, ◌-◌, ◌^◌, ℕ, List, Some, None, true, false};
-ghost use Rattle.std_heap.specs.declared.Global.{Global};
 ghost use Rattle.geometry.specs.declared.page_addr.PageAddr.{PageAddr as Addr};
 ghost use Rattle.durable.specs.Flash.{Flash};
 ghost use Rattle.durable.specs.Updates.{Update};
@@ -19,9 +18,7 @@ ghost use Rattle.durable_exports.specs.declared.reports.CommandReport.{CommandRe
 ghost use Rattle.durable_exports.specs.declared.reports.PlaceReport.{PlaceReport};
 ghost use Rattle.durable_exports.specs.declared.seat.Seat.{Seat};
 ghost use Rattle.durable_exports.specs.declared.seat.Seat.TheVariants.{Mounting, Mounted};
-ghost use Rattle.durable_exports.specs.Heaps.{the_heap};
 ghost use Rattle.durable_exports.specs.Handles.{seat_of};
-ghost use Rattle.durable_exports.specs.Kept.{SaysIfOpen};
 ghost use Rattle.durable_exports.specs.Reports.{found_page, place_of, page_at, report_of, one_more, no_totals, totals_with};
 ghost use Rattle.durable_exports.specs.Calls.{layer_device, code_of_mount, code_of_layer, OfMount, OfLayer, HasMount, HasLayer};
 ghost use Rattle.durable_exports.specs.Calls.{begin_code, note_code, finish_code, sector_code, stamp_of};
@@ -62,9 +59,6 @@ pub fn handles()
     ensures no_layer { (m : Mount) → ¬ HasLayer (Some (Mounting m)) (λ l. l ≡ l) }
     ensures has_mount { (m : Mount) → HasMount (Some (Mounting m)) (λ n. n ≡ m) }
     ensures has_layer { (l : Layer) → HasLayer (Some (Mounted l)) (λ k. k ≡ l) }
-    ensures one_heap { (h : Global) → h ≡ the_heap }
-    ensures said { (x : Seat) → SaysIfOpen 1 (Some x) × SaysIfOpen 0 None }
-    ensures unsaid { (x : Seat) → (¬ SaysIfOpen 1 None) × (¬ SaysIfOpen 0 (Some x)) }
     ensures seat { (h : Handle) (x y : Seat) → seat_of h ≡ Some x → seat_of h ≡ Some y → x ≡ y }
 {}
 

@@ -8,7 +8,6 @@ mod handle;
 mod laws;
 mod layer;
 mod mounts;
-mod pointed;
 mod reports;
 mod seat;
 mod slot;

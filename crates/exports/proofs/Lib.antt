@@ -1,4 +1,3 @@
-pub mod Crossing
 pub mod Dealing
-pub mod Rows
+mod Rows
 pub mod Told

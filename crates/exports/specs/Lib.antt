@@ -1,6 +1,4 @@
-pub mod Heaps
 pub mod Holds
-pub mod Kept
 pub mod Codes
 pub mod Handles
 pub mod One

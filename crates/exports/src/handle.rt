@@ -1,9 +1,8 @@
 //! What C holds: two words, the first a slot, the second 1 if there is a seat in it.
 ghost use Rattle.std.specs.Prelude.{◌≡◌};
-ghost use Rattle.exports.specs.Kept.{SaysWhetherOpen};
+ghost use Rattle.handles.specs.Kept.{SaysWhetherOpen};
 
 use crate::codes::CLOSED;
-use crate::pointed::Pointed;
 use crate::seat::Seat;
 use crate::slot::Slot;
 use std::alloc::Global;
@@ -22,7 +21,7 @@ fn may_go<T: Send>(_value: &T) {}
 
 impl Handle {
     ghost use Rattle.std.specs.Prelude.{Option, Some, None, option_map, is_some, true, false};
-    ghost use Rattle.exports.specs.Kept.{boxed};
+    ghost use Rattle.handles.specs.Kept.{boxed};
     ghost use Rattle.exports.specs.Handles.{seat_of, Calls, CallsWith, ReturnsAtBoth};
     ghost use Rattle.std.specs.Fn.{FnOnceReturnsAtMut};
 
@@ -41,15 +40,15 @@ impl Handle {
         let Handle { slot, is_open } = mem::replace(
             self,
             Handle {
-                slot: Slot::empty(),
+                slot: Slot::of(handles::Slot::empty()),
                 is_open: 0,
             },
         );
         if is_open == 0 {
-            slot.end();
+            slot.typed().end();
             return None;
         }
-        Some(slot.into_box(alloc))
+        Some(slot.typed().into_box(alloc))
     }
 
     /// A call on the seat. A closed handle has no call, and stays closed.
@@ -109,11 +108,11 @@ impl Handle {
         let Handle { slot, is_open: _ } = mem::replace(
             self,
             Handle {
-                slot: Slot::filled(Pointed::to(seat)),
+                slot: Slot::of(handles::Slot::filled(seat)),
                 is_open: 1,
             },
         );
-        slot.end();
+        slot.typed().end();
     }
 
     /// Puts a seat into a closed handle. If there is no memory for it, the seat is dropped, and the handle stays closed.

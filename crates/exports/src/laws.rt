@@ -1,7 +1,6 @@
 //! Laws of what C sees of a device. Each function has no code: its clauses say where a definition holds and where it doesn't, and what a code or a
 //! report is on small values.
 ghost use Rattle.std.specs.Prelude.{◌≡◌, ℕ, List, [], ◌∷◌, ◌++◌, Option, Some, None, true, false, length, slice_get};
-ghost use Rattle.std_heap.specs.declared.Global.{Global};
 ghost use Rattle.ftl_one.specs.declared.one_ftl.OneFtl.{OneFtl};
 ghost use Rattle.ftl_one.specs.Stock.{opening, next};
 ghost use Rattle.ftl_one.specs.Laws.{block_at};
@@ -58,8 +57,6 @@ ghost use Rattle.exports.specs.Handles.{seat_of, Calls, CallsWith};
 ghost use Rattle.exports.specs.Holding.{HoldCalled, HolderCalled, ReleaseCalled, by_holder, holder_code, hold_code, copy_code, copied, word_code, word_read};
 ghost use Rattle.exports.specs.Holding.{page_report};
 ghost use Rattle.exports.specs.Holds.{held_value};
-ghost use Rattle.exports.specs.Heaps.{heap};
-ghost use Rattle.exports.specs.Kept.{SaysWhetherOpen};
 ghost use Rattle.exports.specs.One.{Closed, Open, Other, Machine, machine_of, state_by, on_state, code_on, filled_on, refused, taken, was_at};
 ghost use Rattle.exports.specs.One.{write_on, write_new_on, trim_on, read_on, buffer_on, totals_on, reported, block_on, report_on, open_code, IsFreshIn};
 ghost use Rattle.exports.specs.Opening.{AreFresh, IsClosed, capped, shared_open_code};
@@ -69,8 +66,7 @@ ghost use Rattle.exports.specs.Shared.{numbers_code, numbers_report, IsStep, Has
 ghost use Rattle.exports.specs.Small.{IsSmall, worn_block, worn, zeros};
 ghost use Rattle.exports.specs.declared.codes.TheConstants.{DONE, CLOSED, WRONG_KIND};
 
-/// What a call leaves of a handle: a closed one is closed, and an open one is open, with a seat of which the call says something. There is one heap
-/// in which seats are.
+/// What a call leaves of a handle: a closed one is closed, and an open one is open, with a seat of which the call says something.
 pub fn calls_of_handles()
     ensures closed { Calls None CLOSED None (λ x c y. ⊥) }
     ensures closed_code { ¬ Calls None WRONG_KIND None (λ x c y. x ≡ x) }
@@ -81,9 +77,6 @@ pub fn calls_of_handles()
     ensures closed_with { CallsWith {O = ℕ} None 4 CLOSED None 4 (λ x o c y p. ⊥) }
     ensures closed_fills { ¬ CallsWith {O = ℕ} None 4 CLOSED None 5 (λ x o c y p. x ≡ x) }
     ensures says_with { CallsWith {O = ℕ} (Some seat.Away) 4 7 (Some seat.Away) 5 (λ x o c y p. (o ≡ 4) × (c ≡ 7) × (p ≡ 5)) }
-    ensures one_heap { (h : Global) → h ≡ heap }
-    ensures said { SaysWhetherOpen 1 (Some seat.Away) × SaysWhetherOpen 0 None }
-    ensures unsaid { (¬ SaysWhetherOpen 1 None) × (¬ SaysWhetherOpen 0 (Some seat.Away)) }
     ensures is_closed { (h : Handle) → seat_of h ≡ None → IsClosed h }
     ensures is_open { (h : Handle) (x : Seat) → seat_of h ≡ Some x → ¬ IsClosed h }
     ensures seen_none { (seen_of None ≡ []) × (seen_of (Some seat.Away) ≡ []) }

@@ -11,7 +11,6 @@ mod layer;
 mod one;
 mod opening;
 mod phases;
-mod pointed;
 mod reports;
 mod seat;
 mod shared;

@@ -1,7 +1,7 @@
 use Rattle.std.proofs.Common.{◌≡◌, ◌∙◌, Option, Some, Err, option_map, sym, ap, subst}
 use Rattle.durable_exports.specs.Calls.{OfMount, FreesBlock}
 use Rattle.durable_exports.specs.Handles.{seat_of}
-use Rattle.durable_exports.specs.Kept.{in_box}
+use Rattle.handles.specs.Kept.{boxed}
 use Rattle.durable_exports.specs.declared.seat.Seat.{Seat}
 use Rattle.durable_exports.specs.declared.seat.Seat.TheVariants.{Mounting}
 use Rattle.durable_exports.proofs.calls.mintlintel_core_finish.Goals as goal
@@ -11,6 +11,6 @@ returns-in-Err-NoFreeBlock-clause-frees c =
     let held : Some c.in-Some.seat.value ≡ Some (Mounting c.in-Mounting-into_inner.mount) =
     ap (λ (x : Seat). Some x) (sym c.into_inner.ensures ∙ c.in-Mounting-into_inner.is) in
     let has : seat_of c.args.handle.now ≡ Some (Mounting c.in-Mounting-into_inner.mount) =
-    sym c.take.ensures.seat ∙ ap (option_map in_box) c.in-Some.is ∙ held in
+    sym c.take.ensures.seat ∙ ap (option_map boxed) c.in-Some.is ∙ held in
     subst (λ (x : Option Seat). OfMount x (FreesBlock 7)) (sym has) (λ f acked begun noted is _.
     absurd (c.finish.ensures.frees f acked begun noted is (c.in-Err-NoFreeBlock.is ∙ ap Err c.in-Err-NoFreeBlock.field-0-is)))
