@@ -48,7 +48,7 @@ install: all
 	packaging/installed-links $(DOC)
 	commit=$$(git describe --always --abbrev=40 --dirty --exclude='*') && version=$$(rt version) && \
 	  printf 'commit %s\nproved with %s\n' "$$commit" "$$version" > $(LIB)/BUILT_FROM
-	if [ -e bindings/Makefile ]; then $(MAKE) -C bindings install DESTDIR=$(abspath $(DESTDIR)) PREFIX=$(PREFIX); fi
+	$(MAKE) -C bindings install DESTDIR=$(abspath $(DESTDIR)) PREFIX=$(PREFIX)
 	if [ -e bindings/python/packing.py ]; then install -d $(LIB)/python && cd bindings/python && MINTLINTEL_LIB=$(abspath $(DESTDIR))$(PREFIX)/lib \
 	  python3 -B -c 'import sys, packing; packing.build_wheel(sys.argv[1])' $(abspath $(DESTDIR))$(PREFIX)/lib/mintlintel/python; fi
 

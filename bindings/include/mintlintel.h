@@ -263,8 +263,8 @@ uint32_t mintlintel_broom_drain(struct mintlintel_seat *handle, uint32_t *block,
 uint32_t mintlintel_broom_drain_next(struct mintlintel_seat *handle, uint32_t *block, uint32_t *moved);
 
 /* Drains the closed block with the fewest live pages, by a new survey, if it has none: no page moves, so no spare is needed, and after a trim a
- * broom without one can go on. 0 with its number in `block` and 0 in `moved`; 2, 9, 20 as a drain, 21 if the block has a live page, or 22, with
- * both as they were. */
+ * broom without one can go on. 0 with its number in `block` and 0 in `moved`; 2, 9, 20 as a drain, 21 if the block has a live page or isn't closed
+ * any more, or 22, with both as they were. */
 uint32_t mintlintel_broom_drain_dead(struct mintlintel_seat *handle, uint32_t *block, uint32_t *moved);
 
 /* Erases a drained block: 0 if it is free, 26 if the broom keeps it as its spare, 23 if it was the block's last erase; 2, 9, 10, 24 or 25. */

@@ -22,7 +22,7 @@ extern "C" {
 struct mintlintel_locked { void *at; };
 
 /* Opens so many parts, or one for 0, and each is a device for one thread with these numbers: 0; 6, 8, or the first fault of the numbers, 101 to
- * 109, in the order of mintlintel_one_open. With any code but 0 the handle is as it was. Sixteen parts suit four threads. */
+ * 109, in the order of mintlintel_one_open. With any code but 0 the handle is as it was. With several parts for each thread two seldom meet in one. */
 uint32_t mintlintel_locked_open(struct mintlintel_locked *handle, uint32_t parts, uint32_t luns, uint32_t blocks, uint32_t pages, uint32_t words,
                                 uint32_t sectors, uint32_t endurance);
 

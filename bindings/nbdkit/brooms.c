@@ -13,20 +13,22 @@
 
 enum {
     DRAINS_OF_A_SURVEY = 64,
+    EVEN_PART = 16, // on a device that is more than half full no block has many more erases than others: this part of all that a block has
     POOR_PART = 8, // a drain that wins back less than this part of a block is made when a write waits, and not ahead of it
     HEAD_START = 10, // how many nice values a broom's thread is below those of the requests
 };
 
 int brooms_begin(struct brooms *brooms, const struct options *options, struct stock *stock, struct luns *luns,
                  struct mintlintel_seat *seats) {
-    uint64_t most = options->blocks * (uint64_t) options->endurance;
+    uint64_t most = options->blocks * (uint64_t) (options->endurance - 1), pages = options->blocks * (uint64_t) options->pages;
     *brooms = (struct brooms){.stock = stock, .luns = luns, .count = options->brooms, .blocks = options->blocks, .pages = options->pages};
     brooms->endurance = options->endurance;
+    brooms->unevenness = 2 * (uint64_t) options->sectors > pages ? options->endurance / EVEN_PART : options->endurance;
     brooms->warn_at = (most * options->warn + 99) / 100;
+    pthread_rwlock_init(&brooms->choosing, NULL);
     brooms->brooms = aligned_alloc(_Alignof(struct broom), (options->brooms + 1) * sizeof *brooms->brooms);
     brooms->erases = calloc(options->blocks, sizeof *brooms->erases);
-    brooms->is_retired = calloc(options->blocks, sizeof *brooms->is_retired);
-    int is_short = !brooms->brooms || !brooms->erases || !brooms->is_retired;
+    int is_short = !brooms->brooms || !brooms->erases;
     for (uint32_t i = 0; i < options->brooms && brooms->brooms; i++) {
         struct broom *broom = &brooms->brooms[i];
         *broom = (struct broom){.seat = &seats[i], .all = brooms, .number = i, .destination = NO_BLOCK};
@@ -46,7 +48,11 @@ void brooms_end(struct brooms *brooms) {
         free(brooms->brooms[i].drained);
     free(brooms->brooms);
     free((void *) brooms->erases);
-    free((void *) brooms->is_retired);
+    pthread_rwlock_destroy(&brooms->choosing);
+}
+
+int brooms_retire(const struct brooms *brooms, uint32_t erases) {
+    return erases + 1 >= brooms->endurance;
 }
 
 // A code that no call of a broom should return. It is reported once.
@@ -56,22 +62,17 @@ static void fail(struct broom *broom, const char *call, uint32_t code) {
     broom->has_failed = 1;
 }
 
-static void set_spareless(struct broom *broom, int is_spareless) {
-    if (broom->is_spareless == is_spareless)
-        return;
-    broom->is_spareless = is_spareless;
-    stock_count_spare(broom->all->stock, is_spareless);
-}
-
 static void count_erase(struct broom *broom, uint32_t block) {
     struct brooms *all = broom->all;
-    uint32_t erases = atomic_fetch_add_explicit(&all->erases[block], 1, memory_order_relaxed) + 1;
-    if (erases + 1 == all->endurance)
-        stock_near_end(all->stock);
+    uint32_t erases = atomic_fetch_add(&all->erases[block], 1) + 1, most = atomic_load(&all->most_erases);
+    while (most < erases && !atomic_compare_exchange_weak(&all->most_erases, &most, erases))
+        ;
+    if (brooms_retire(all, erases))
+        stock_count_retired(all->stock);
     uint64_t done = atomic_fetch_add_explicit(&all->all_erases, 1, memory_order_relaxed) + 1;
     if (done == all->warn_at)
         nbdkit_error("warning: %" PRIu64 " erases are done, and all %" PRIu32 " blocks together have %" PRIu64 ": the device is near its end", done,
-                     all->blocks, all->blocks * (uint64_t) all->endurance);
+                     all->blocks, all->blocks * (uint64_t) (all->endurance - 1));
 }
 
 // ---- The time that commands take.
@@ -84,7 +85,8 @@ static void sleep_until(struct broom *broom, uint64_t until) {
 // The block of the next copy.
 static uint32_t next_destination(struct broom *broom) {
     if (broom->destination == NO_BLOCK || broom->filled == broom->all->pages) {
-        broom->destination = atomic_exchange(&broom->spare, NO_BLOCK);
+        broom->destination = broom->spare;
+        broom->spare = NO_BLOCK;
         broom->filled = 0;
     }
     broom->filled++;
@@ -109,51 +111,132 @@ static void take_copies(struct broom *broom, uint32_t victim, uint32_t count) {
     count_filled(broom);
 }
 
-static int is_spare(const struct brooms *all, uint32_t block) {
+// ---- Which block is drained.
+
+// Notes a block that the broom has drained. The code is that of the drain.
+static void note_drained(struct broom *broom, uint32_t code, uint32_t block) {
+    if (code == MINTLINTEL_DONE)
+        broom->drained[broom->drained_count++] = block;
+}
+
+static int is_drained(const struct brooms *all, uint32_t block) {
     for (uint32_t i = 0; i < all->count; i++)
-        if (atomic_load(&all->brooms[i].spare) == block)
-            return 1;
+        for (uint32_t at = 0; at < all->brooms[i].drained_count; at++)
+            if (all->brooms[i].drained[at] == block)
+                return 1;
     return 0;
 }
 
-// The spare that a broom has just taken: an open block without a page.
-static uint32_t find_spare(struct broom *broom) {
-    struct mintlintel_state state;
-    for (uint32_t block = 0; block < broom->all->blocks; block++)
-        if (mintlintel_broom_block(announced(broom->seat), block, &state) == MINTLINTEL_DONE && state.phase == MINTLINTEL_PHASE_OPEN &&
-            state.written == 0 && !is_spare(broom->all, block))
-            return block;
-    return NO_BLOCK;
+// Takes the marks of a survey away from blocks that are retired, or have more erases than this. The erase of a block that isn't drained does
+// nothing else.
+static void pass_over(struct broom *broom, uint64_t most) {
+    struct brooms *all = broom->all;
+    for (uint32_t block = 0; block < all->blocks; block++) {
+        uint32_t erases = atomic_load(&all->erases[block]);
+        if ((brooms_retire(all, erases) || erases > most) && !is_drained(all, block))
+            mintlintel_broom_erase(announced(broom->seat), block);
+    }
+}
+
+// The most erases of a block that may be drained while others have something to gain.
+static uint64_t even_erases(const struct brooms *all) {
+    return atomic_load(&all->all_erases) / all->blocks + all->unevenness;
+}
+
+// Whether blocks have to be passed over.
+static int is_uneven(const struct brooms *all) {
+    uint32_t most = atomic_load(&all->most_erases);
+    return brooms_retire(all, most) || most > even_erases(all);
+}
+
+// Drains a block by a new survey: one that isn't passed over, or if these gain nothing one with more erases that isn't retired. A drain of a dead
+// block makes a survey, also where each block is live; a dead block is drained whatever its erases are.
+static uint32_t drain_evenly(struct broom *broom, uint32_t *block, uint32_t *moved) {
+    for (uint64_t most = even_erases(broom->all);; most = UINT64_MAX) {
+        uint32_t code = mintlintel_broom_drain_dead(announced(broom->seat), block, moved);
+        note_drained(broom, code, *block);
+        pass_over(broom, most);
+        if (code == MINTLINTEL_NO_SPARE) {
+            code = mintlintel_broom_drain_next(announced(broom->seat), block, moved);
+            note_drained(broom, code, *block);
+        }
+        if (code != MINTLINTEL_NOTHING_TO_GAIN || most == UINT64_MAX)
+            return code;
+    }
+}
+
+// Drains the best block of the survey that the broom keeps.
+static uint32_t drain_next(struct broom *broom, uint32_t *block, uint32_t *moved) {
+    if (broom->drains_of_survey == 0 || broom->drains_of_survey >= DRAINS_OF_A_SURVEY)
+        return MINTLINTEL_NOTHING_TO_GAIN;
+    broom->drains_of_survey++;
+    uint32_t code = mintlintel_broom_drain_next(announced(broom->seat), block, moved);
+    note_drained(broom, code, *block);
+    return code;
+}
+
+static uint32_t drain_by_survey(struct broom *broom, uint32_t *block, uint32_t *moved) {
+    uint32_t code = mintlintel_broom_drain(announced(broom->seat), block, moved);
+    note_drained(broom, code, *block);
+    return code;
+}
+
+// Drains the best block of the survey that the broom keeps, or of a new one if that has none. Nobody else drains or erases a block while some are
+// passed over.
+static uint32_t drain_one(struct broom *broom, uint32_t *block, uint32_t *moved) {
+    struct brooms *all = broom->all;
+    pthread_rwlock_rdlock(&all->choosing);
+    uint32_t code = drain_next(broom, block, moved);
+    int is_alone = code == MINTLINTEL_NOTHING_TO_GAIN && is_uneven(all);
+    if (is_alone) {
+        pthread_rwlock_unlock(&all->choosing);
+        pthread_rwlock_wrlock(&all->choosing);
+    }
+    if (code == MINTLINTEL_NOTHING_TO_GAIN) {
+        broom->drains_of_survey = 1;
+        code = is_alone ? drain_evenly(broom, block, moved) : drain_by_survey(broom, block, moved);
+    }
+    pthread_rwlock_unlock(&all->choosing);
+    return code;
 }
 
 // ---- What a broom does.
 
-// Erases a drained block. 0 if a host reads it, so that it has to wait.
-static int erase(struct broom *broom, uint32_t block) {
+// Erases a drained block, the one with this number of those that wait. While a block is retired nobody drains or erases another one, so that
+// whoever chooses a block afterwards passes over it.
+static uint32_t erase_waiting(struct broom *broom, uint32_t at) {
+    struct brooms *all = broom->all;
+    uint32_t block = broom->drained[at];
+    if (brooms_retire(all, atomic_load(&all->erases[block]) + 1))
+        pthread_rwlock_wrlock(&all->choosing);
+    else
+        pthread_rwlock_rdlock(&all->choosing);
     uint32_t code = mintlintel_broom_erase(announced(broom->seat), block);
-    if (code == MINTLINTEL_DONE || code == MINTLINTEL_KEPT || code == MINTLINTEL_RETIRED)
-        sleep_until(broom, luns_erase(broom->all->luns, block, 0));
-    switch (code) {
-    case MINTLINTEL_DONE:
+    if (code == MINTLINTEL_DONE || code == MINTLINTEL_KEPT)
         count_erase(broom, block);
-        stock_add_free(broom->all->stock);
-        break;
-    case MINTLINTEL_KEPT:
-        count_erase(broom, block);
-        tally_add(&broom->kept, 1);
-        atomic_store(&broom->spare, block);
-        set_spareless(broom, 0);
-        break;
-    case MINTLINTEL_RETIRED:
-        count_erase(broom, block);
-        atomic_store_explicit(&broom->all->is_retired[block], 1, memory_order_relaxed);
-        stock_count_retired(broom->all->stock);
-        break;
-    case MINTLINTEL_PINNED:
+    if (code != MINTLINTEL_PINNED)
+        broom->drained[at] = broom->drained[--broom->drained_count];
+    pthread_rwlock_unlock(&all->choosing);
+    return code;
+}
+
+// Erases a drained block, and says what came of it. 0 if a host reads it, so that it has to wait.
+static int erase(struct broom *broom, uint32_t at) {
+    uint32_t block = broom->drained[at], code = erase_waiting(broom, at);
+    if (code == MINTLINTEL_PINNED) {
         tally_add(&broom->pinned, 1);
         return 0;
-    default:
+    }
+    if (code != MINTLINTEL_DONE && code != MINTLINTEL_KEPT && code != MINTLINTEL_RETIRED) {
         fail(broom, "erase", code);
+        return 1;
+    }
+    sleep_until(broom, luns_erase(broom->all->luns, block, 0));
+    if (code == MINTLINTEL_DONE)
+        stock_add_free(broom->all->stock);
+    if (code == MINTLINTEL_KEPT) {
+        tally_add(&broom->kept, 1);
+        broom->spare = block;
     }
     return 1;
 }
@@ -161,49 +244,14 @@ static int erase(struct broom *broom, uint32_t block) {
 // Erases the blocks that wait. 1 if there were any, even if a host still reads one: then a later round will erase it.
 static int erase_drained(struct broom *broom) {
     int was_there = broom->drained_count > 0;
-    for (uint32_t i = 0; i < broom->drained_count;) {
-        if (erase(broom, broom->drained[i]))
-            broom->drained[i] = broom->drained[--broom->drained_count];
-        else
-            i++;
-    }
+    for (uint32_t at = 0; at < broom->drained_count;)
+        at += !erase(broom, at);
     if (broom->drained_count > 0)
         sched_yield();
     return was_there;
 }
 
-// Drains the best block of the survey that the broom keeps, or of a new one if that has none.
-static uint32_t drain_one(struct broom *broom, uint32_t *block, uint32_t *moved) {
-    if (broom->drains_of_survey > 0 && broom->drains_of_survey < DRAINS_OF_A_SURVEY) {
-        uint32_t code = mintlintel_broom_drain_next(announced(broom->seat), block, moved);
-        if (code != MINTLINTEL_NOTHING_TO_GAIN) {
-            broom->drains_of_survey++;
-            return code;
-        }
-    }
-    broom->drains_of_survey = 1;
-    return mintlintel_broom_drain(announced(broom->seat), block, moved);
-}
-
-// A broom without a spare can't drain. It takes a free block as its spare, if there is one.
-static int restock(struct broom *broom) {
-    set_spareless(broom, 1);
-    if (!stock_reserve(broom->all->stock))
-        return 0;
-    uint32_t code = mintlintel_broom_restock(announced(broom->seat));
-    if (code == MINTLINTEL_DONE) {
-        tally_add(&broom->restocks, 1);
-        atomic_store(&broom->spare, find_spare(broom));
-        set_spareless(broom, 0);
-        return 1;
-    }
-    stock_unreserve(broom->all->stock);
-    if (code != MINTLINTEL_NO_SPARE)
-        fail(broom, "restock", code);
-    return 0;
-}
-
-// Drains a block. 0 if there is nothing to gain, or no place to copy to.
+// Drains a block. 0 if there is nothing to gain, or the broom's next spare still waits to be erased.
 static int drain(struct broom *broom) {
     uint32_t block = 0, moved = 0, code = drain_one(broom, &block, &moved);
     broom->was_poor = 0;
@@ -213,17 +261,15 @@ static int drain(struct broom *broom) {
         tally_add(&broom->drains, 1);
         tally_add(&broom->copies, moved);
         take_copies(broom, block, moved);
-        broom->drained[broom->drained_count++] = block;
         return 1;
     case MINTLINTEL_LOST:
         tally_add(&broom->lost, 1);
         return 1;
-    case MINTLINTEL_NO_SPARE:
-        return restock(broom);
     case MINTLINTEL_NOTHING_TO_GAIN:
         return 0;
     default:
-        fail(broom, "drain", code);
+        if (code != MINTLINTEL_NO_SPARE || broom->drained_count == 0)
+            fail(broom, "drain", code);
         return 0;
     }
 }

@@ -1,4 +1,8 @@
 // Brooms: threads that collect garbage. Each drains a block and erases it, and rests while there are blocks enough.
+//
+// The last erase of a block would fail. So a block that has only this one left is retired: it is filled once more, and then no broom drains it
+// while it has a live page. That way no broom loses the block that it copies to. On a device that is more than half full brooms wear the blocks
+// evenly, too: a block with more erases than others is drained when these have nothing to gain.
 #ifndef NBDKIT_BROOMS_H
 #define NBDKIT_BROOMS_H
 
@@ -15,14 +19,14 @@ struct broom {
     struct brooms *all;
     uint32_t number;
     pthread_t thread;
-    uint32_t *drained; // blocks that wait to be erased
+    uint32_t *drained; // blocks that wait to be erased, under the lock of `choosing`
     uint32_t drained_count;
     uint32_t drains_of_survey; // drains by the survey that it keeps
-    int is_spareless, has_failed;
+    int has_failed;
     int was_poor; // its last drain moved nearly a whole block
     uint32_t destination, filled; // the block that it copies to, and how many of its pages are copies; or NO_BLOCK
-    _Atomic uint32_t spare;       // the block after that, or NO_BLOCK
-    tally drains, copies, kept, restocks, pinned, lost, fruitless;
+    uint32_t spare;               // the block after that, or NO_BLOCK
+    tally drains, copies, kept, pinned, lost, fruitless;
 };
 
 struct brooms {
@@ -31,16 +35,21 @@ struct brooms {
     struct broom *brooms;
     uint32_t count, started;
     uint32_t blocks, pages, endurance;
-    uint64_t warn_at;            // at this many erases of all blocks a warning is given, or 0
+    uint64_t warn_at;         // at this many erases of all blocks a warning is given, or 0
+    uint32_t unevenness;      // erases that a block may have more than the blocks have on average
+    pthread_rwlock_t choosing; // shared for a drain and for an erase; alone to pass over blocks, and to retire one
     _Atomic uint64_t all_erases;
-    _Atomic uint32_t *erases;    // of each block
-    _Atomic uint8_t *is_retired; // of each block
+    _Atomic uint32_t most_erases; // of a block
+    _Atomic uint32_t *erases;     // of each block
 };
 
 // 0, or -1 with an error reported if there is no memory.
 int brooms_begin(struct brooms *brooms, const struct options *options, struct stock *stock, struct luns *luns,
                  struct mintlintel_seat *seats);
 void brooms_end(struct brooms *brooms);
+
+// Whether a block that was erased so often is retired.
+int brooms_retire(const struct brooms *brooms, uint32_t erases);
 
 // Starts the threads: 0, or -1 with an error reported. They end after stock_stop, and brooms_join waits for them.
 int brooms_start(struct brooms *brooms);

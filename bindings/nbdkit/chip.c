@@ -15,8 +15,11 @@
 
 enum { DONE = 0, FAILED = 1 }; // what the chip answers
 
-// A block: it works; its programs and erases fail from now on; it must not be used; it is kept in reserve.
+// A block: it works; its programs and erases fail from now on; it must not be used; it works, and is hidden from the layer.
 enum block { GOOD, FAILING, BAD, RESERVED };
+
+// The line of the file of bad blocks that says that too few are good.
+static const char WORN[] = "worn";
 
 static struct {
     const struct options *options;
@@ -28,8 +31,8 @@ static struct {
     uint64_t random;
     uint64_t end; // of the last command
     int is_untimed; // reads take no time
-    int is_shown; // all blocks are shown to the layer, which only reads from now on
-    char *file;                // with the numbers of the blocks that have become bad
+    int is_worn;
+    char *file; // with the numbers of the blocks that have become bad
     struct chip_counts counts;
 } chip;
 
@@ -42,7 +45,8 @@ static int may_fail(void) {
     return chip.options->fail_programs > 0 || chip.options->fail_erases > 0;
 }
 
-// ---- The commands.
+// ---- The commands. The layer mounts after one that failed, and after it has marked blocks, and then only reads up to its next command: that takes no
+// time, as all mounts.
 
 // Whether a command fails: by the rate, or since its block fails.
 static int fails(uint32_t block, double rate) {
@@ -56,6 +60,7 @@ static int fail_program(uint32_t block, uint32_t page, const void *main) {
     uint8_t stamp[MINTLINTEL_STAMP_BYTES];
     memset(stamp, 0xff, sizeof stamp);
     chip.counts.failed_programs++;
+    chip.is_untimed = 1;
     int answer = chip.nand.program(chip.nand.chip, block, page, main, stamp);
     return answer == DONE ? FAILED : answer;
 }
@@ -67,27 +72,31 @@ static int chip_read(void *at, uint32_t block, uint32_t page, void *main, void *
 }
 
 static int chip_program(void *at, uint32_t block, uint32_t page, const void *main, const void *stamp) {
+    chip.is_untimed = 0;
     chip.end = luns_program(&chip.luns, block, chip.end);
     return fails(block, chip.options->fail_programs) ? fail_program(block, page, main) : chip.nand.program(at, block, page, main, stamp);
 }
 
 static int chip_copyback(void *at, uint32_t from_block, uint32_t from_page, uint32_t block, uint32_t page) {
     static const uint8_t nothing[MAX_PAGE_BYTES];
+    chip.is_untimed = 0;
     chip.end = luns_copy(&chip.luns, from_block, block, chip.end);
     return fails(block, chip.options->fail_programs) ? fail_program(block, page, nothing) : chip.nand.copyback(at, from_block, from_page, block, page);
 }
 
 static int chip_erase(void *at, uint32_t block) {
+    chip.is_untimed = 0;
     chip.end = luns_erase(&chip.luns, block, chip.end);
     if (!fails(block, chip.options->fail_erases))
         return chip.nand.erase(at, block);
     chip.counts.failed_erases++;
+    chip.is_untimed = 1;
     return FAILED;
 }
 
 static int chip_is_bad(void *at, uint32_t block) {
     (void) at;
-    return !chip.is_shown && (chip.blocks[block] == BAD || chip.blocks[block] == RESERVED);
+    return !chip.is_worn && (chip.blocks[block] == BAD || chip.blocks[block] == RESERVED);
 }
 
 // ---- Bad blocks.
@@ -97,31 +106,45 @@ static void set_bad(uint32_t block) {
     chip.blocks[block] = BAD;
 }
 
-// If its number can't be kept, the block is used again after the server's next start: it then fails again, or not.
-static int chip_mark_bad(void *at, uint32_t block) {
-    (void) at;
-    set_bad(block);
+// Adds a line to the file. If that fails, its `what` isn't known after the server's next start.
+static void keep_line(const char *line, const char *what) {
     FILE *file = fopen(chip.file, "ae");
-    int has_failed = !file || fprintf(file, "%" PRIu32 "\n", block) < 0;
+    int has_failed = !file || fprintf(file, "%s\n", line) < 0;
     if (file)
         has_failed |= fclose(file) != 0;
     if (has_failed)
-        nbdkit_error("%s: %s: block %" PRIu32 " is bad, and will be forgotten", chip.file, strerror(errno), block);
+        nbdkit_error("%s: %s: %s %s, which will be forgotten", chip.file, strerror(errno), what, line);
+}
+
+static int chip_mark_bad(void *at, uint32_t block) {
+    char number[sizeof "4294967295"];
+    (void) at;
+    set_bad(block);
+    chip.is_untimed = 1;
+    snprintf(number, sizeof number, "%" PRIu32, block);
+    keep_line(number, "a bad block:");
     return DONE;
 }
 
-// The blocks that became bad under earlier servers.
-static int read_bad_blocks(void) {
-    uint32_t block;
+// What earlier servers have kept.
+static int read_lines(void) {
+    char line[64];
     FILE *file = fopen(chip.file, "re");
+    int is_list = 1;
     if (!file)
         return 0;
-    while (fscanf(file, "%" SCNu32, &block) == 1)
-        if (block < chip.numbers.blocks)
-            set_bad(block);
-    int is_whole = feof(file);
+    while (is_list && fscanf(file, "%63s", line) == 1) {
+        char *end;
+        unsigned long block = strtoul(line, &end, 10);
+        if (strcmp(line, WORN) == 0)
+            chip.is_worn = 1;
+        else if (*end == 0 && block < chip.numbers.blocks)
+            set_bad((uint32_t) block);
+        else
+            is_list = 0;
+    }
     fclose(file);
-    if (is_whole)
+    if (is_list)
         return 0;
     nbdkit_error("%s: it isn't a list of blocks, one a line", chip.file);
     return -1;
@@ -154,7 +177,7 @@ static int take_bad_blocks(void) {
     return 0;
 }
 
-// Keeps half of the blocks in reserve that the sectors don't need, of those that are erased.
+// Hides half of the blocks that the sectors don't need, of those that are erased.
 static void keep_reserve(void) {
     uint32_t good = chip.numbers.blocks - chip.counts.bad_blocks, needed = chip.numbers.sectors / chip.numbers.pages + 2;
     uint32_t wanted = may_fail() && good > needed ? (good - needed) / 2 : 0;
@@ -166,7 +189,7 @@ static void keep_reserve(void) {
     }
 }
 
-// Lets the layer have a block of the reserve. 0 if there is none.
+// Lets the layer have a hidden block. 0 if there is none.
 static int take_from_reserve(void) {
     for (uint32_t block = 0; block < chip.numbers.blocks; block++) {
         if (chip.blocks[block] != RESERVED)
@@ -187,14 +210,12 @@ static uint32_t mount(struct mintlintel_durable *device) {
     nand.copyback = chip_copyback;
     nand.erase = chip_erase;
     nand.is_bad = chip_is_bad;
-    nand.mark_bad = chip_mark_bad;
+    nand.mark_bad = may_fail() && !chip.is_worn ? chip_mark_bad : NULL; // with it the layer keeps blocks in reserve
     chip.is_untimed = 1;
-    uint32_t code = __real_mtl_durable_open(device, &nand, &chip.numbers, chip.reason);
-    chip.is_untimed = 0;
-    return code;
+    return __real_mtl_durable_open(device, &nand, &chip.numbers, chip.reason);
 }
 
-// Mounts with a block of the reserve more each time that there are too few, and in the end with all blocks, to read only.
+// Mounts with a hidden block more each time that there are too few, and in the end with all blocks, to read only.
 static uint32_t mount_somehow(struct mintlintel_durable *device) {
     uint32_t code;
     do
@@ -202,7 +223,7 @@ static uint32_t mount_somehow(struct mintlintel_durable *device) {
     while (code == MINTLINTEL_NO_ROOM && take_from_reserve());
     if (code != MINTLINTEL_NO_ROOM)
         return code;
-    chip.is_shown = 1;
+    chip.is_worn = 1;
     return mount(device);
 }
 
@@ -215,42 +236,32 @@ uint32_t __wrap_mtl_durable_open(struct mintlintel_durable *device, const struct
     if (!chip.blocks)
         return MINTLINTEL_NO_MEMORY;
     luns_begin(&chip.luns, &chip.options->part, numbers->luns, numbers->blocks);
-    if (read_bad_blocks() == -1 || take_bad_blocks() == -1)
+    if (read_lines() == -1 || take_bad_blocks() == -1)
         return MINTLINTEL_NO_SUCH_BLOCK;
     keep_reserve();
     return mount_somehow(device);
 }
 
-// The disk can only be read from now on. The blocks that have failed are known as bad at the next start, so that it is the same there.
-static void show_all(void) {
-    chip.is_shown = 1;
-    for (uint32_t block = 0; block < chip.numbers.blocks; block++)
-        if (chip.blocks[block] == FAILING)
-            chip_mark_bad(&chip, block);
-}
-
-// The layer counts from each mount on.
-static void keep_counts(struct mintlintel_durable *device) {
+int chip_mount_again(struct mintlintel_durable *device) {
     struct mintlintel_totals totals = {0}, *before = &chip.counts.before;
-    mintlintel_durable_counts(device, &totals);
+    if (chip.is_worn || !take_from_reserve())
+        return 0;
+    mintlintel_durable_counts(device, &totals); // which begin with each open
     before->programs += totals.programs;
     before->copies += totals.copies;
     before->erases += totals.erases;
+    mintlintel_durable_close(device);
+    return mount_somehow(device) == MINTLINTEL_DONE && !chip.is_worn;
 }
 
-int chip_mount_again(struct mintlintel_durable *device, uint32_t code) {
-    int has_no_block = code == MINTLINTEL_NO_ROOM || code == MINTLINTEL_EXHAUSTED;
-    if (chip.is_shown || (code != MINTLINTEL_FAILED && !has_no_block))
-        return 0;
-    if (has_no_block && !take_from_reserve())
-        show_all();
-    keep_counts(device);
-    mintlintel_durable_close(device);
-    return mount_somehow(device) == MINTLINTEL_DONE && !chip.is_shown;
+void chip_wear_out(void) {
+    if (!chip.is_worn)
+        keep_line(WORN, "the disk is");
+    chip.is_worn = 1;
 }
 
 int chip_is_worn(void) {
-    return chip.is_shown;
+    return chip.is_worn;
 }
 
 // ---- Beginning and end.

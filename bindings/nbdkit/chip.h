@@ -1,10 +1,11 @@
 // The chip of an image's disk, between the layer's commands and the image's file. Its commands take a part's time, and fail by a rate.
 //
-// A program that fails leaves a page that can't be read; from then on each program and erase of its block fails. The layer marks a block bad that
-// fails and holds nothing that is needed. Its number is then kept in a file beside the image, and the block isn't used any more.
+// A program that fails leaves a page that can't be read; from then on each program and erase of its block fails. The layer goes on without the block,
+// and marks it bad when nothing in it is needed any more. Its number is then kept in a file beside the image, and the block isn't used again. So is a
+// word that too few blocks are good: then the layer is shown all blocks, of which it only reads.
 //
-// Of the blocks beyond those that the sectors need, half are kept in reserve, if commands may fail: the layer doesn't know of them until it has no
-// block left.
+// The layer keeps few blocks in reserve, which a high rate of failures may use up at once. So if commands may fail, half of the blocks that the
+// sectors don't need are hidden from it; it gets one, and is mounted again, whenever it has no block left.
 //
 // The library mounts an image by a call that is linked to the one here. There is one image, and all of this is used under its lock.
 #ifndef NBDKIT_CHIP_H
@@ -17,7 +18,7 @@
 
 // What has happened to the chip's blocks.
 struct chip_counts {
-    struct mintlintel_totals before; // what the layer did before its last mount
+    struct mintlintel_totals before; // what the layer did before its last mount here
     uint64_t failed_programs, failed_erases;
     uint32_t bad_blocks, reserve_blocks;
 };
@@ -36,10 +37,11 @@ uint64_t chip_done(void);
 // What comes next takes no time, up to the next request.
 void chip_look(void);
 
-// Mounts again after a call has returned this code, if that helps: 1 if the call can be made once more.
-int chip_mount_again(struct mintlintel_durable *device, uint32_t code);
+// Mounts with a hidden block more, if there is one, after the layer has had no block left: 1 if the call can be made once more.
+int chip_mount_again(struct mintlintel_durable *device);
 
-// Whether too few blocks are good: then the disk can be read, and not be changed any more.
+// Too few blocks are good: the disk can be read, and not be changed any more. This is so after the next start too.
+void chip_wear_out(void);
 int chip_is_worn(void);
 
 struct chip_counts chip_count(void);

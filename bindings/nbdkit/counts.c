@@ -15,13 +15,13 @@ struct host_counts {
     uint64_t reads, writes, trims, refusals, handles_that_wrote;
 };
 struct broom_counts {
-    uint64_t drains, copies, kept, restocks, pinned, lost, fruitless;
+    uint64_t drains, copies, kept, pinned, lost, fruitless;
 };
 struct block_counts {
     uint32_t erases, is_retired;
 };
 struct stock_counts {
-    uint64_t free, open, spareless, waits, waited_ns, gave_up, miscounts, lost_wake_ups;
+    uint64_t free, open, waits, waited_ns, gave_up, miscounts, lost_wake_ups;
 };
 
 static struct host_counts counts_of_hosts(const struct stock *stock) {
@@ -44,7 +44,6 @@ static struct broom_counts counts_of_brooms(const struct brooms *brooms) {
         counts.drains += tally_of(&broom->drains);
         counts.copies += tally_of(&broom->copies);
         counts.kept += tally_of(&broom->kept);
-        counts.restocks += tally_of(&broom->restocks);
         counts.pinned += tally_of(&broom->pinned);
         counts.lost += tally_of(&broom->lost);
         counts.fruitless += tally_of(&broom->fruitless);
@@ -57,7 +56,6 @@ static struct stock_counts counts_of_stock(struct stock *stock) {
     struct stock_counts counts = {
         .free = stock->free_count > 0 ? (uint64_t) stock->free_count : 0,
         .open = stock->open_count,
-        .spareless = (uint64_t) stock->spareless,
         .waits = stock->waits,
         .waited_ns = stock->waited_ns,
         .gave_up = stock->gave_up,
@@ -107,8 +105,6 @@ static void print_counts(FILE *file, struct device *device, uint64_t erases, uin
         {"lost_wake_ups", stock.lost_wake_ups},
         {"drains", brooms.drains},
         {"kept_as_spare", brooms.kept},
-        {"restocks", brooms.restocks},
-        {"brooms_without_spare", stock.spareless},
         {"pinned", brooms.pinned},
         {"lost", brooms.lost},
         {"fruitless_rounds", brooms.fruitless},
@@ -123,7 +119,7 @@ static struct block_counts *counts_of_blocks(const struct brooms *brooms, uint64
     *erases = *retired = 0;
     for (uint32_t i = 0; blocks && i < brooms->blocks; i++) {
         blocks[i].erases = atomic_load_explicit(&brooms->erases[i], memory_order_relaxed);
-        blocks[i].is_retired = atomic_load_explicit(&brooms->is_retired[i], memory_order_relaxed);
+        blocks[i].is_retired = (uint32_t) brooms_retire(brooms, blocks[i].erases);
         *erases += blocks[i].erases;
         *retired += blocks[i].is_retired;
     }

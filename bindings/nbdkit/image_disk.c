@@ -117,18 +117,21 @@ static int fail_worn(struct image_disk *disk) {
     if (!disk->is_worn)
         tell_worn();
     disk->is_worn = 1;
+    chip_wear_out();
     nbdkit_set_error(options_worn_error(disk->options));
     return -1;
 }
 
-// After a command that failed the layer is mounted again, and goes on elsewhere: whether a call with this code can be made once more.
+// Whether a call that has returned this code can be made once more.
 static int goes_on(struct image_disk *disk, uint32_t code) {
-    return code > MINTLINTEL_WRITTEN && chip_mount_again(&disk->image.device, code);
+    return code == MINTLINTEL_EXHAUSTED && chip_mount_again(&disk->image.device);
 }
 
 // The result of a change that has returned this code.
 static int changed(struct image_disk *disk, const char *call, uint32_t code) {
-    return code <= MINTLINTEL_WRITTEN ? 0 : chip_is_worn() ? fail_worn(disk) : fail(disk, call, code);
+    if (code <= MINTLINTEL_WRITTEN)
+        return 0;
+    return code == MINTLINTEL_EXHAUSTED || chip_is_worn() ? fail_worn(disk) : fail(disk, call, code);
 }
 
 // A request, or a page of one, begins with its first command; its commands are done by `until`, so far.
@@ -149,9 +152,9 @@ static int load(struct image_disk *disk, uint32_t sector, uint8_t *page, int *is
 }
 
 static int store(struct image_disk *disk, uint32_t sector, const uint8_t *page) {
-    uint32_t code;
     if (disk->is_worn)
         return fail_worn(disk);
+    uint32_t code;
     do
         code = mintlintel_durable_write(&disk->image.device, sector, page, disk->options->page);
     while (goes_on(disk, code));
@@ -184,9 +187,9 @@ static int store_piece(struct image_disk *disk, const struct piece *piece, const
 }
 
 static int trim_sectors(struct image_disk *disk, uint32_t first, uint32_t count) {
-    uint32_t code;
     if (disk->is_worn)
         return fail_worn(disk);
+    uint32_t code;
     do
         code = mintlintel_durable_trim(&disk->image.device, first, count);
     while (goes_on(disk, code));

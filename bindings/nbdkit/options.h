@@ -19,7 +19,7 @@ struct options {
     uint32_t hosts, brooms; // handles of the pool, and threads that collect
     uint32_t spare_blocks;  // beyond those that every sector written, the handles and the brooms need
     uint32_t low, high;     // brooms start below `low` free blocks, and go on to `high`
-    uint32_t wait;          // milliseconds that a write waits while no block becomes free
+    uint32_t wait;          // milliseconds that a write waits while brooms gain nothing
     int64_t size;           // bytes, or -1
     uint32_t spare;         // percent of the sectors
     int has_spare;

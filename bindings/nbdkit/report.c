@@ -18,7 +18,7 @@ struct work {
 
 // What the stock knows, at one moment.
 struct supply {
-    uint64_t free, open, spareless, refused, waited_ns, waiting;
+    uint64_t free, open, refused, waited_ns, waiting;
     uint64_t waits_by_time[WAIT_STEPS];
 };
 
@@ -44,7 +44,6 @@ static struct supply supply_of(struct stock *stock) {
     struct supply supply = {
         .free = stock->free_count > 0 ? (uint64_t) stock->free_count : 0,
         .open = stock->open_count,
-        .spareless = (uint64_t) stock->spareless,
         .refused = stock->gave_up,
         .waited_ns = stock->waited_ns,
         .waiting = stock->starving,
@@ -59,8 +58,8 @@ static struct supply supply_of(struct stock *stock) {
 static uint32_t *erases_of_blocks(const struct brooms *brooms, struct work *work) {
     uint32_t *erases = calloc(brooms->blocks, sizeof *erases);
     for (uint32_t i = 0; erases && i < brooms->blocks; i++) {
-        work->retired += atomic_load_explicit(&brooms->is_retired[i], memory_order_relaxed);
         work->erases += erases[i] = atomic_load_explicit(&brooms->erases[i], memory_order_relaxed);
+        work->retired += (uint64_t) brooms_retire(brooms, erases[i]);
     }
     return erases;
 }
@@ -116,7 +115,7 @@ static void tell_work(FILE *file, const struct options *options, const struct wo
         {"used_bytes", work->used * options->page}, {"endurance", options->endurance}, {"handles", options->hosts}, {"brooms", options->brooms},
         {"host_reads", work->reads}, {"host_programs", work->programs}, {"host_trims", work->trims}, {"trims_that_freed", work->emptied},
         {"copies", work->copies}, {"erases", work->erases}, {"refused_writes", supply->refused}, {"free_blocks", supply->free},
-        {"open_blocks", supply->open}, {"retired_blocks", work->retired}, {"brooms_without_spare", supply->spareless},
+        {"open_blocks", supply->open}, {"retired_blocks", work->retired},
     };
     tell_lines(file, lines, sizeof lines / sizeof *lines);
 }
@@ -130,7 +129,7 @@ static int tell(FILE *file, struct device *device) {
         return -1;
     tell_numbers(file, options);
     uint64_t left = options->spare_blocks > work.retired ? options->spare_blocks - work.retired : 0;
-    tell_ratio(file, "percentage_used", 100 * work.erases, options->blocks * (uint64_t) options->endurance);
+    tell_ratio(file, "percentage_used", 100 * work.erases, options->blocks * (uint64_t) (options->endurance - 1));
     tell_ratio(file, "available_spare", 100 * left, options->spare_blocks);
     tell_ratio(file, "write_amplification", work.programs + work.copies, work.programs);
     fprintf(file, "  \"is_readonly\": %s,\n", atomic_load(&device->is_readonly) ? "true" : "false");

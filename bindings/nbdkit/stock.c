@@ -54,7 +54,6 @@ int stock_begin(struct stock *stock, const struct options *options, struct mintl
         .batch = options->low < MAX_BATCH ? options->low : MAX_BATCH,
         .wait_ns = options->wait * (uint64_t) 1000000,
         .changes = 1,
-        .is_near_end = options->endurance == 1,
         .free_count = (int32_t) (options->blocks - options->brooms), // each broom begins with a spare
     };
     stock->is_collecting = stock->free_count < (int32_t) stock->low;
@@ -129,18 +128,11 @@ static int is_fruitless(struct stock *stock) {
     return 1;
 }
 
-// Free blocks for hosts: they leave one to each broom without a spare, since with its spare a broom wins back many. When blocks are about to be
-// retired they leave one to each broom, which may lose its spare at any time; unless no broom finds anything to gain.
-static int32_t blocks_for_hosts(struct stock *stock) {
-    int is_kept = stock->is_near_end && !is_fruitless(stock);
-    return stock->free_count - (is_kept ? (int32_t) stock->broom_count : stock->spareless);
+static int lacks_block(const struct stock *stock) {
+    return stock->free_count <= 0;
 }
 
-static int lacks_block(struct stock *stock) {
-    return blocks_for_hosts(stock) <= 0;
-}
-
-static int may_open(struct stock *stock) {
+static int may_open(const struct stock *stock) {
     return !lacks_block(stock) && !stock->is_gathering;
 }
 
@@ -160,17 +152,16 @@ static void wake_writes(struct stock *stock) {
     pthread_cond_broadcast(&stock->for_write);
 }
 
-// The free blocks, or the brooms without a spare, have changed in number.
+// The free blocks, or the marks, have changed.
 static void mind_marks(struct stock *stock) {
-    int32_t blocks = blocks_for_hosts(stock);
     int was_collecting = stock->is_collecting;
-    if (blocks < (int32_t) stock->low)
+    if (stock->free_count < (int32_t) stock->low)
         stock->is_collecting = 1;
-    if (blocks >= (int32_t) stock->high)
+    if (stock->free_count >= (int32_t) stock->high)
         stock->is_collecting = 0;
     if (stock->is_collecting != was_collecting)
         pthread_cond_broadcast(&stock->for_broom);
-    if (blocks >= (int32_t) stock->batch)
+    if (stock->free_count >= (int32_t) stock->batch)
         stock->is_gathering = 0;
     if (stock->waiting_to_write > 0 && may_open(stock))
         wake_writes(stock);
@@ -241,7 +232,7 @@ static void count_change(struct stock *stock) {
     atomic_fetch_add(&stock->changes, 1);
 }
 
-// Whether a write has waited as long as a write may, even if blocks became free in between.
+// Whether a write has waited as long as a write may, even if brooms gained something in between.
 static int is_over(const struct stock *stock, const struct attempt *attempt) {
     return attempt->began != 0 && now() - attempt->began >= MAX_WAITS * stock->wait_ns;
 }
@@ -251,7 +242,7 @@ static int has_waited_in_vain(struct stock *stock, const struct attempt *attempt
         return 1;
     if (attempt->began == 0 || !lacks_block(stock))
         return 0;
-    uint64_t since = attempt->began > stock->freed_at ? attempt->began : stock->freed_at;
+    uint64_t since = attempt->began > stock->gained_at ? attempt->began : stock->gained_at;
     return now() - since >= stock->wait_ns;
 }
 
@@ -423,8 +414,7 @@ void stock_give_refused(struct stock *stock, struct host *host, struct attempt *
         stock->miscounts++;
         mind_marks(stock);
     }
-    // With nothing open, and nothing to gain for any broom, none can be there, whatever the count says.
-    attempt->is_last |= is_over(stock, attempt) || (stock->open_count == 0 && is_fruitless(stock));
+    attempt->is_last |= is_over(stock, attempt) || is_hopeless(stock);
     give(stock, host);
     if (attempt->is_last) {
         end_attempt(stock, attempt);
@@ -487,6 +477,7 @@ void stock_end_round(struct stock *stock, uint32_t broom, uint64_t known, int wa
     stock->working--;
     stock->poor_at[broom] = was_poor ? stock->opened + 1 : 0;
     stock->fruitless_at[broom] = was_fruitless ? known : 0;
+    stock->gained_at = was_fruitless ? stock->gained_at : now();
     if (was_fruitless && (stock->is_gathering || is_hopeless(stock)))
         stop_gathering(stock);
     pthread_mutex_unlock(&stock->mutex);
@@ -495,11 +486,6 @@ void stock_end_round(struct stock *stock, uint32_t broom, uint64_t known, int wa
 void stock_add_free(struct stock *stock) {
     pthread_mutex_lock(&stock->mutex);
     stock->free_count++;
-    stock->freed_at = now();
-    if (stock->spareless > 0) { // a broom may take it as its spare
-        count_change(stock);
-        pthread_cond_broadcast(&stock->for_broom);
-    }
     mind_marks(stock);
     pthread_mutex_unlock(&stock->mutex);
 }
@@ -515,35 +501,6 @@ void stock_count_retired(struct stock *stock) {
         stock->high = stock->high > stock->low ? stock->high : stock->low;
         stock->batch = stock->batch < stock->low ? stock->batch : stock->low;
     }
-    mind_marks(stock);
-    pthread_mutex_unlock(&stock->mutex);
-}
-
-void stock_near_end(struct stock *stock) {
-    pthread_mutex_lock(&stock->mutex);
-    stock->is_near_end = 1;
-    mind_marks(stock);
-    pthread_mutex_unlock(&stock->mutex);
-}
-
-void stock_count_spare(struct stock *stock, int was_lost) {
-    pthread_mutex_lock(&stock->mutex);
-    stock->spareless += was_lost ? 1 : -1;
-    mind_marks(stock);
-    pthread_mutex_unlock(&stock->mutex);
-}
-
-int stock_reserve(struct stock *stock) {
-    pthread_mutex_lock(&stock->mutex);
-    int has_one = stock->free_count > 0;
-    stock->free_count -= has_one;
-    pthread_mutex_unlock(&stock->mutex);
-    return has_one;
-}
-
-void stock_unreserve(struct stock *stock) {
-    pthread_mutex_lock(&stock->mutex);
-    stock->free_count++;
     mind_marks(stock);
     pthread_mutex_unlock(&stock->mutex);
 }

@@ -63,7 +63,6 @@ struct stock {
     uint64_t wait_ns;
     uint32_t open_count; // handles with room, idle or not
     int32_t free_count;  // free blocks that no handle is about to take; below 0 while a block was taken that isn't counted yet
-    int32_t spareless;   // brooms that have lost their spare
     uint32_t waiting_for_any, waiting_to_write;
     uint32_t starving;      // writes that wait while no block is free
     uint32_t pausing;       // brooms that looked in vain a moment ago
@@ -71,11 +70,10 @@ struct stock {
     uint32_t *poor_at;      // of each broom, one more than the blocks that were opened as it last gained little, or 0
     uint32_t resting;       // brooms that rest since they gained little
     uint64_t *fruitless_at; // of each broom, the changes that it knew as it last found nothing to do, or 0
-    uint64_t freed_at;      // when a block last came free
+    uint64_t gained_at;     // when a broom last gained something
     int is_collecting, is_stopping;
     int is_held;             // brooms work only for a write that waits
     uint32_t working;        // brooms in a round
-    int is_near_end; // the next erase of some block is its last
     int is_gathering; // writes wait until some blocks are free, since one at a time wakes a thread for each page
     uint64_t waits, waited_ns, gave_up, miscounts;
     uint64_t waits_by_time[WAIT_STEPS]; // of writes that have ended
@@ -117,19 +115,11 @@ struct host *stock_keep_changed(struct stock *stock, struct host *host);
 int stock_begin_round(struct stock *stock, uint32_t broom, uint64_t *known);
 void stock_end_round(struct stock *stock, uint32_t broom, uint64_t known, int was_fruitless, int was_poor);
 
-// A block was erased and is free; a broom has lost its spare, or has one again.
+// A block was erased and is free.
 void stock_add_free(struct stock *stock);
-void stock_count_spare(struct stock *stock, int was_lost);
 
-// A block was retired.
+// A block was retired: it isn't erased any more.
 void stock_count_retired(struct stock *stock);
-
-// The next erase of some block is its last, so that brooms may lose their spares from now on.
-void stock_near_end(struct stock *stock);
-
-// A free block is set aside for a broom, if there is one; the library had none for it, so none was taken.
-int stock_reserve(struct stock *stock);
-void stock_unreserve(struct stock *stock);
 
 // From now on brooms work only for a write that waits; a turn lets them do all that they find to do, and waits for its end.
 void stock_hold_brooms(struct stock *stock, int is_held);

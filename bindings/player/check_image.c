@@ -156,25 +156,26 @@ static int look_at(struct look *look, const char *path, uint32_t endurance)
     struct mintlintel_image_head head;
     struct stat about;
     if (look->fd < 0)
-        return image_refused(MINTLINTEL_NO_FILE, 0);
+        return image_refused(MINTLINTEL_NO_FILE);
     if (flock(look->fd, LOCK_SH | LOCK_NB) != 0)
-        return image_refused(MINTLINTEL_IN_USE, 0);
+        return image_refused(MINTLINTEL_IN_USE);
     uint32_t code = mintlintel_image_look(path, &head);
-    if (code != MINTLINTEL_DONE || head.version != VERSION)
-        return image_refused(code, head.version);
+    int status = head_refused(code, &head);
+    if (status >= 0)
+        return status;
     look->numbers = head.numbers;
     look->layout = mtl_image_layout(&head.numbers);
     if (fstat(look->fd, &about) != 0 || (uint64_t)about.st_size < HEAD_BYTES + head.numbers.blocks * look->layout.block_bytes)
-        return image_refused(MINTLINTEL_CUT_SHORT, 0);
+        return image_refused(MINTLINTEL_CUT_SHORT);
     look->spares = malloc((size_t)head.numbers.pages * SPARE_BYTES);
     look->page = malloc(head.numbers.page_bytes);
     look->erases = calloc(head.numbers.blocks, sizeof *look->erases);
     look->sectors = calloc(head.numbers.sectors, sizeof *look->sectors);
     if (!look->spares || !look->page || !look->erases || !look->sectors)
-        return image_refused(MINTLINTEL_NO_MEMORY, 0);
+        return image_refused(MINTLINTEL_NO_MEMORY);
     for (uint32_t block = 0; block < head.numbers.blocks; block++)
         if (!check_block(look, block))
-            return image_refused(MINTLINTEL_FILE_FAILED, 0);
+            return image_refused(MINTLINTEL_FILE_FAILED);
     show_device(look, path, head.version);
     return show(look, endurance);
 }

@@ -77,7 +77,7 @@ static int play(struct player *player)
         uint32_t code = perform(player, command);
         if (code > MINTLINTEL_WRITTEN) {
             fflush(stdout);
-            return image_refused(code, 0);
+            return image_refused(code);
         }
         answer(player, i + 1, command, code);
         if (ferror(stdout))
@@ -144,8 +144,9 @@ static int find_numbers(struct player *player)
         player->numbers = options_numbers(&player->options);
         return DONE;
     }
-    if (code != MINTLINTEL_DONE || head.version != 1)
-        return image_refused(code, head.version);
+    int status = head_refused(code, &head);
+    if (status >= 0)
+        return status;
     player->numbers = head.numbers;
     return options_fit(&player->options, &head.numbers) ? DONE : REFUSED;
 }
@@ -168,12 +169,12 @@ static int run_on_image(struct player *player)
     uint32_t code = mintlintel_image_open(&player->image, player->options.image, player->options.mode, n->luns, n->blocks, n->pages, n->page_bytes,
                                           n->sectors);
     if (code != MINTLINTEL_DONE)
-        return image_refused(code, 0);
+        return image_refused(code);
     int status = play(player);
     if (status == DONE)
         status = write_wear(player);
     code = mintlintel_image_close(&player->image);
-    return status == DONE && code != MINTLINTEL_DONE ? image_refused(code, 0) : status;
+    return status == DONE && code != MINTLINTEL_DONE ? image_refused(code) : status;
 }
 
 int main(int count, char **words)

@@ -14,7 +14,7 @@ static const char help[] =
     "\n"
     "Options:\n"
     "      --image FILE       The file of the device\n"
-    "      --sync WHEN        When writes reach the disk: always, flush or never [default: flush]\n"
+    "      --sync {always,flush,never}  When writes reach the disk [default: flush]\n"
     "      --luns N           LUNs, from 1 to 8 [default of a new image: 1]\n"
     "      --blocks N         Blocks, from 3 to 1048576, a multiple of the LUNs [64]\n"
     "      --pages N          Pages of a block, from 1 to 16384 [64]\n"
@@ -159,7 +159,7 @@ int options_fit(const struct options *o, const struct mintlintel_durable_numbers
     return 1;
 }
 
-int image_refused(uint32_t code, uint32_t version)
+int image_refused(uint32_t code)
 {
     const struct { uint32_t code; enum status status; const char *told; } all[] = {
         {MINTLINTEL_NO_MEMORY, NO_MEMORY, "memory: refused"}, {MINTLINTEL_NO_FILE, STREAM_FAILED, "image: not opened"},
@@ -169,10 +169,6 @@ int image_refused(uint32_t code, uint32_t version)
         {MINTLINTEL_BAD_LUNS, REFUSED, "geometry: Luns"}, {MINTLINTEL_BAD_BLOCKS, REFUSED, "geometry: Blocks"},
         {MINTLINTEL_BAD_PAGES, REFUSED, "geometry: Pages"}, {MINTLINTEL_BAD_WORDS, REFUSED, "geometry: Words"},
         {MINTLINTEL_BAD_SECTORS, REFUSED, "geometry: Sectors"}, {MINTLINTEL_TOO_FEW_BLOCKS, REFUSED, "geometry: TooFewBlocks"}};
-    if (version != FORMAT && version != 0) {
-        fprintf(stderr, "image: version %u, not %u\n", version, FORMAT);
-        return BROKEN;
-    }
     for (size_t i = 0; i < sizeof all / sizeof *all; i++)
         if (all[i].code == code) {
             fprintf(stderr, "%s\n", all[i].told);
@@ -180,4 +176,14 @@ int image_refused(uint32_t code, uint32_t version)
         }
     fprintf(stderr, "image: failed\n");
     return STREAM_FAILED;
+}
+
+int head_refused(uint32_t code, const struct mintlintel_image_head *head)
+{
+    if (code != MINTLINTEL_DONE)
+        return image_refused(code);
+    if (head->version == FORMAT)
+        return -1;
+    fprintf(stderr, "image: version %u, not %u\n", head->version, FORMAT);
+    return BROKEN;
 }

@@ -24,7 +24,10 @@ struct mintlintel_durable_numbers options_numbers(const struct options *options)
 /* Whether the options name no number that contradicts the image. If one does, says both. */
 int options_fit(const struct options *options, const struct mintlintel_durable_numbers *numbers);
 
-/* Says in one line why an image wasn't opened, and returns the status. */
-int image_refused(uint32_t code, uint32_t version);
+/* Says in one line why an image wasn't opened, or failed, and returns the status. */
+int image_refused(uint32_t code);
+
+/* The same of what mintlintel_image_look has told: -1 if the image has the format that is known. */
+int head_refused(uint32_t code, const struct mintlintel_image_head *head);
 
 #endif

@@ -187,7 +187,7 @@ static int image_copyback(void *chip, uint32_t from_block, uint32_t from_page, u
     if (load_spares(file, from_block) != 0)
         return 3;
     const uint8_t *spare = file->spares + (size_t)from_page * SPARE_BYTES;
-    if (reading_of(spare) != 0)
+    if (mtl_image_reading(spare) != IS_VERSION)
         return failed(file, EIO);
     if (get(file, file->page, file->numbers.page_bytes, page_at(file, from_block, from_page)) != 0)
         return 3;

@@ -23,7 +23,7 @@ TABLES = {
 # Scripts that were written before this check, each with the number of its lines that are too long.
 STILL_LONG = {
     "bench/linking": 4, "bench/nbdkit": 4, "bench/run": 1, "bindings/nbdkit/tests/faults.py": 2,
-    "bindings/nbdkit/tests/files.py": 1, "bindings/nbdkit/tests/parts.py": 7, "bindings/nbdkit/tests/running.py": 2,
+    "bindings/nbdkit/tests/files.py": 1, "bindings/nbdkit/tests/parts.py": 6, "bindings/nbdkit/tests/running.py": 2,
     "bindings/python/tests/test_mintlintel.py": 3, "examples/hostile": 1, "examples/launcher": 3, "examples/sessions": 3,
 }  # fmt: skip
 SIGNATURE = re.compile(r"( *)(?:pub |abbrev |unfoldable )*([^\s(){}\[\].,;:=]+) :(?: |$)")

@@ -29,7 +29,7 @@ Faults, on standard error:
 IMAGE_PROGRAM = """#!/bin/sh
 echo 'Options:
       --image FILE  The file
-      --sync WHEN   When'
+      --sync {always,never}  When'
 """
 
 
@@ -100,6 +100,8 @@ class Names(unittest.TestCase):
             for words, wanted in (
                 (("flashplay", "--b"), "--blocks"),
                 (("flashplay", "--i"), "--image"),
+                (("flashplay", "im"), "image"),
+                (("flashplay", "--sync", "n"), "never"),
                 (("/usr/bin/flashplay-trace", ""), "make convert join --help --version"),
                 (("flashplay-trace", "make", "z"), "zipf"),
                 (("flashplay-trace", "convert", "--action", ""), "Q D C"),

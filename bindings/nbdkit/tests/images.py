@@ -97,6 +97,8 @@ def power_cuts(shop):
     """Cuts at a write, and by SIGUSR2. What was flushed is there, with a beginning of what came after it; by sync=always all that was answered."""
     told = []
     cut_by_seed(shop)
+    cut_behind(shop, "h.pwrite(page * 1024, 0, nbd.CMD_FLAG_FUA)")
+    cut_behind(shop, "h.pwrite(page * 1024, 0)\nh.flush()\nfor i in range(400): h.pwrite(page, 4096 * (389 * i % 1024))")
     for sync in ("flush", "always"):
         for numbers in (SMALL, ROOMY):
             told.append(cut_over_and_over(shop, sync, numbers))
@@ -115,6 +117,19 @@ def cut_by_seed(shop):
         gone(shop, server, STATUS_OF_A_CUT)
         left.append(image.read_bytes())
     want(left[0] == left[1] and left[0] != left[2], f"by seeds 5, 5 and 6 the images are {'equal' if left[0] == left[2] else 'all different'}")
+
+
+def cut_behind(shop, requests):
+    """Behind these requests of `h`, which write the same to each page, and write all of them with FUA or flush them, each page has that."""
+    for seed in (1, 2):
+        image = new_image(shop)
+        server = Server(shop, *SMALL, "cut=0", f"seed={seed}", image=image)
+        shop.run(["/usr/bin/python3", "-c", f"import nbd\nh = nbd.NBD()\nh.connect_uri({server.uri!r})\npage = b'\\x11' * 4096\n{requests}"])
+        server.process.send_signal(signal.SIGUSR2)
+        gone(shop, server, STATUS_OF_A_CUT)
+        server = Server(shop, image=image)
+        shop.run(["qemu-io", "-f", "raw", "-r", "-c", "read -P 0x11 0 4M", server.uri])
+        server.stop()
 
 
 def cut_over_and_over(shop, sync, numbers):

@@ -64,7 +64,7 @@ class Timed:
     """The layer over LUNs that take a part's times, in microseconds."""
 
     def __init__(self, layer, luns, times):
-        self.layer, self.luns, self.times = layer, [Lun() for _ in range(luns)], times
+        self.layer, self.luns, self.times, self.known = layer, [Lun() for _ in range(luns)], times, set()
         self.of_one = len(layer.blocks_of) // luns
 
     def _take(self, block, begin, *names):
@@ -74,8 +74,9 @@ class Timed:
         return self._take(self.layer.place[sector], begin, "read", "transfer") if sector in self.layer.place else begin
 
     def write(self, sector, begin):
-        """The stamp of the sector's page before is read first."""
-        end = self.read(sector, begin)
+        """Before the first write of a sector the stamp of its page is read."""
+        end = begin if sector in self.known else self.read(sector, begin)
+        self.known.add(sector)
         for kind, source, block in self.layer.write(sector):
             if kind == "erase":
                 end = self._take(block, end, "erase")

@@ -12,7 +12,7 @@ import files
 import images
 import reports
 import times
-from running import HERE, Failure, Server, copying, failing, fio, kibibytes, loaded, want
+from running import HERE, Failure, Server, copying, failing, fio, kibibytes, loaded, slowness, want
 
 ZIPF = {"norandommap": 1, "random_distribution": "zipf:0.9"}
 UNALIGNED = {"bsrange": "512-20k", "bs_unaligned": 1, "blockalign": 512, "serialize_overlap": 1}
@@ -169,22 +169,34 @@ def overlaps(shop):
 
 
 def stock_by_itself(shop):
-    """The counts of free blocks, and which thread waits for which, with a library that returns what each test needs. In the second program no write
-    looks again by itself, so a lost wake-up is seen."""
-    source, include = shop.source(), f"-I{os.environ.get('INCLUDE', HERE.parent / 'include')}"
-    programs = {"stock": [source / name for name in ("stock.c", "brooms.c", "luns.c")], "waits": [source / "stock.c", "-DLOOK_AGAIN_MS=3600000"]}
+    """The counts of free blocks, and which thread waits for which, without a library. In the second program no write looks again by itself, so a lost
+    wake-up is seen."""
     for kind in ("address", "thread"):
-        for name, words in programs.items():
-            program = shop.folder / f"{name}_{kind}"
-            shop.run(["gcc", "-std=gnu11", "-O2", "-g", "-Wall", "-Wextra", "-Werror", f"-fsanitize={kind}", include, HERE / f"tests/{name}.c", *words, "-o", program, "-pthread"])
-            shop.run([*(("setarch", "-R") if kind == "thread" else ()), program], 80)
+        by_itself(shop, "stock", kind, ["stock.c"])
+        by_itself(shop, "waits", kind, ["stock.c"], "-DLOOK_AGAIN_MS=3600000")
     return "under both sanitizers"
+
+
+def by_itself(shop, name, kind, sources, *more):
+    """Runs a test that is linked to these sources of the plugin, under a sanitizer."""
+    program, include = shop.folder / f"{name}_{kind}", os.environ.get("INCLUDE", HERE.parent / "include")
+    paths = [HERE / f"tests/{name}.c", *(shop.source() / source for source in sources)]
+    strict = ["-std=gnu11", "-D_FILE_OFFSET_BITS=64", "-O2", "-g", "-Wall", "-Wextra", "-Werror", f"-fsanitize={kind}", f"-I{include}"]
+    shop.run(["gcc", *strict, *paths, *more, "-o", program, "-pthread"])
+    return shop.run([*(("setarch", "-R") if kind == "thread" else ()), program], 80).strip()
+
+
+def refusals_at_the_end(shop):
+    """Small devices of random numbers: a write is refused only if no broom could have won back a block."""
+    library = os.environ.get("LIBRARY", HERE.parent / "out/libmintlintel.a")
+    sources = [f"{name}.c" for name in ("device", "requests", "age", "stock", "brooms", "sector_locks", "counts", "luns", "faults")]
+    return ", ".join(f"{by_itself(shop, 'to_the_end', kind, sources, library)} under {kind.capitalize()}Sanitizer" for kind in ("address", "thread"))
 
 
 def handles(shop):
     """Few handles for many requests, and many, with hardly a spare block: four connections of 16 requests each."""
     told = []
-    for hosts in (2, 4, 16, 64):
+    for hosts in (1, 4, 16, 64):
         server = Server(shop, "size=16M", "spare=3", f"hosts={hosts}", "brooms=1")
         fio(shop, server, "overlapping", rw="randwrite", bs="64k", size="256k", numjobs=4, iodepth=16, io_size="16m", norandommap=1)
         with copying(server, f"{hosts} handles"):
@@ -294,7 +306,7 @@ def worn_choices(shop):
     server = Server(shop, "sectors=2400", "blocks=60", "hosts=4", "endurance=10", "warn=50")
     shop.run([shop.client("wear_out"), server.uri, "uniform"])
     told = server.log.read_text()
-    want(told.count("warning: 300 erases are done, and all 60 blocks together have 600") == 1, told)
+    want(told.count("warning: 270 erases are done, and all 60 blocks together have 540") == 1, told)
     server.stop()
     return told_again(shop)
 
@@ -337,21 +349,22 @@ def marks_out_of_reach(shop):
     return ", ".join(told)
 
 
+# Devices that are 62 % full: blocks, endurance, brooms, how they are written, and the least share of all programs. The last one has this by even wear.
+WORN_OUT = [(60, 20, 1, "uniform", 93), (60, 20, 2, "uniform", 93), (60, 20, 2, "zipf", 93), (288, 10, 1, "zipf", 95)]
+
+
 def worn_out(shop):
     """Until the device is worn out: refusals are ENOSPC and come at once, and each page whose write was answered is there."""
     told = []
-    for brooms in (1, 2):
-        for pattern in ("uniform", "zipf"):
-            server = Server(shop, "sectors=2400", "blocks=60", "hosts=4", f"brooms={brooms}", "endurance=20")
-            printed = shop.run([shop.client("wear_out"), server.uri, pattern])
-            most, longest = map(float, re.search(r"nine in ten refused within ([\d.]+) ms, all within ([\d.]+) ms", printed).groups())
-            want(most < 100 and longest < 1000, f"a refusal isn't at once: {printed}")
-            counts = server.stop()
-            want(counts.copies > 0, "nothing was copied under it")
-            told.append(f"{pattern}, {brooms} broom{'s' * (brooms > 1)}: {share(counts)}, nine in ten refused within {most} ms")
+    for blocks, endurance, brooms, pattern, least in WORN_OUT:
+        server = Server(shop, f"sectors={40 * blocks}", f"blocks={blocks}", "hosts=4", f"brooms={brooms}", f"endurance={endurance}")
+        printed = shop.run([shop.client("wear_out"), server.uri, pattern])
+        most, longest = map(float, re.search(r"nine in ten refused within ([\d.]+) ms, all within ([\d.]+) ms", printed).groups())
+        want(most < 100 * slowness() and longest < 1000 * slowness(), f"a refusal isn't at once: {printed}")
+        told.append(f"{pattern}, {brooms} broom{'s' * (brooms > 1)}: {share(server.stop(), least)}, nine in ten refused within {most} ms")
     for brooms in shop.scaled((1,), (1, 2)):
-        for pattern in ("random", "zipf:1.2"):
-            told.append(f"fio's {pattern}, {brooms} broom{'s' * (brooms > 1)}: {share(worn_out_by_fio(shop, brooms, pattern))}")
+        for pattern, least in (("random", 90), ("zipf:1.2", 80)):
+            told.append(f"fio's {pattern}, {brooms} broom{'s' * (brooms > 1)}: {share(worn_out_by_fio(shop, brooms, pattern), least)}")
     return "; ".join(told)
 
 
@@ -364,13 +377,15 @@ def worn_out_by_fio(shop, brooms, pattern):
     want("No space left on device" in printed, printed[-2000:])
     fio(shop, server, "read", rw="read", bs="4k", size="9600k", iodepth=4, verify="crc32c")
     counts = server.stop()
-    want(counts.no_space > 0 and counts.copies > 0, f"it isn't worn out: {counts.numbers}")
+    want(counts.no_space > 0, f"it isn't worn out: {counts.numbers}")
     return counts
 
 
-def share(counts):
-    most = counts.blocks * counts.pages * counts.endurance
-    return f"{100 * (counts.programs + counts.copies) / most:.0f} % of all programs"
+def share(counts, least):
+    """The share of all programs that a device has done at its end: at least so many percent."""
+    share = 100 * (counts.programs + counts.copies) / (counts.blocks * counts.pages * counts.endurance)
+    want(counts.copies > 0 and share > least, f"{share:.1f} % of all programs were done: {counts.numbers}, {counts.erases_of}")
+    return f"{share:.1f} % of all programs"
 
 
 def sanitized(shop, kind):
@@ -398,8 +413,8 @@ def sanitized(shop, kind):
 
 # The parts that have to refuse wrong plugins.
 REFUSING = {part.__name__: part for part in (
-    overlaps, handles, resting_brooms, worn_out, by_qemu_io, a_map_of_holes, mixed_sizes, there_and_back, stock_by_itself, trims_inwards,
-    worn_choices, marks_out_of_reach, faults.refused_resources, reports.statistics, reports.aged_at_start, images.image_file, images.killed,
+    overlaps, handles, resting_brooms, worn_out, by_qemu_io, a_map_of_holes, mixed_sizes, there_and_back, stock_by_itself, refusals_at_the_end,
+    trims_inwards, worn_choices, marks_out_of_reach, faults.refused_resources, reports.statistics, reports.aged_at_start, images.image_file, images.killed,
     images.power_cuts, failures.failing_image, times.of_commands, times.under_collection)}
 REFUSING |= {f"{kind}_sanitizer": functools.partial(sanitized, kind=kind) for kind in ("address", "thread")}
 REFUSING["image_thread_sanitizer"] = functools.partial(images.image_sanitized, kind="thread")
@@ -428,8 +443,9 @@ def chosen(options):
         "help and page": faults.help_and_page,
         "the page's lines": files.the_page,
         "stock by itself": stock_by_itself,
+        "refusals at the end": refusals_at_the_end,
         "parts and whole pages at once": overlaps,
-        "2, 4, 16 and 64 handles": handles,
+        "1, 4, 16 and 64 handles": handles,
         "pages of other sizes": other_pages,
         "trims round inwards": trims_inwards,
         "brooms that rest": resting_brooms,

@@ -9,7 +9,7 @@ LAWS = """(.erases_by_block | length) == .blocks and (.erases_by_block | add) ==
 and (.waits.by_time | map(.writes) | add) == .waits.writes
 and ([.waits.by_time[] | .writes * (.up_to_microseconds // 1e12)] | add) >= .waits.microseconds
 and ([.waits.by_time[] | .writes * ((.up_to_microseconds // 33554432) / 2 - 8)] | add) <= .waits.microseconds
-and (.percentage_used * 1000 | round) == (100000 * .erases / (.blocks * .endurance) | floor)
+and (.percentage_used * 1000 | round) == (100000 * .erases / (.blocks * (.endurance - 1)) | floor)
 and (.host_programs == 0 or (.write_amplification * 1000 | round) == (1000 * (.host_programs + .copies) / .host_programs | floor))"""
 
 

@@ -1,47 +1,8 @@
-// The stock and the brooms with a library that returns what each test needs: counts that come late, spares that aren't available, and
-// handles that are all in use. It prints what failed, and ends with the number of failures.
+// The stock without a library: counts that come late, a search that comes too late, and handles that are all in use. It prints what failed, and
+// ends with the number of failures.
 #include "over_stock.h"
 
-static struct mintlintel_seat broom_seats[2];
-static struct luns luns;
-
-// ---- A library of which each broom has lost its spare, and which has a free block for it or not.
-
-static _Atomic int drains, restocks, has_block, has_spare;
-
-uint32_t mintlintel_broom_drain(struct mintlintel_seat *seat, uint32_t *block, uint32_t *moved) {
-    (void) seat;
-    drains++;
-    *block = *moved = 0;
-    return has_spare ? MINTLINTEL_NOTHING_TO_GAIN : MINTLINTEL_NO_SPARE;
-}
-
-uint32_t mintlintel_broom_drain_next(struct mintlintel_seat *seat, uint32_t *block, uint32_t *moved) {
-    return mintlintel_broom_drain(seat, block, moved);
-}
-
-uint32_t mintlintel_broom_block(struct mintlintel_seat *seat, uint32_t block, struct mintlintel_state *state) {
-    (void) seat;
-    (void) block;
-    *state = (struct mintlintel_state){.phase = MINTLINTEL_PHASE_CLOSED};
-    return MINTLINTEL_DONE;
-}
-
-uint32_t mintlintel_broom_restock(struct mintlintel_seat *seat) {
-    (void) seat;
-    restocks++;
-    if (has_block)
-        has_spare = 1;
-    return has_spare ? MINTLINTEL_DONE : MINTLINTEL_NO_SPARE;
-}
-
-uint32_t mintlintel_broom_erase(struct mintlintel_seat *seat, uint32_t block) {
-    (void) seat;
-    (void) block;
-    return MINTLINTEL_STALE;
-}
-
-// ---- The tests.
+enum { PATIENCE_S = 10 };
 
 // A last try takes a block that the library has freed, and that is counted only later: it may not be counted twice.
 static void a_block_that_is_counted_late(void) {
@@ -51,82 +12,38 @@ static void a_block_that_is_counted_late(void) {
     stock_add_free(&stock);
     want(stock.free_count == 0, "a block that was taken before it was counted is free for good");
     fill();
+    stock.wait_ns = 2 * PATIENCE_S * (uint64_t) 1000000000;
     struct attempt attempt = {0};
     double began = seconds();
     struct host *host = stock_take_to_write(&stock, &attempt);
     stock_give_refused(&stock, host, &attempt);
     want(attempt.is_last, "a full device: a write tries again though nothing is free");
-    want(seconds() - began < 0.5, "a full device: a write isn't refused at once");
+    want(seconds() - began < PATIENCE_S, "a full device: a write isn't refused at once");
     stock_end(&stock);
 }
 
-// Whatever the count says: if no block is there, none is open, and no broom finds anything, a write is refused.
-static void a_count_that_is_too_high(void) {
+// The library had no block for a write, since its search came by each one too late: while the count says that one is free, it tries again.
+static void a_search_that_comes_too_late(void) {
     begin(2, 1, 4, 1);
     fill();
-    stock.free_count = 1;
-    struct attempt attempt = {0};
-    struct host *host = stock_take_to_write(&stock, &attempt);
-    stock_give_refused(&stock, host, &attempt);
-    want(attempt.is_last, "a count that is too high: a write tries over and over");
-    stock_end(&stock);
-}
-
-// A broom can't have the free block that is counted: it looks once after each change, and a write is refused at once.
-static void a_spare_that_cannot_be_had(void) {
-    begin(2, 1, 4, 1);
-    fill();
-    struct options options = numbers(2, 1, 4, 1);
-    struct brooms brooms;
-    stock.free_count = 1;
-    stock_count_spare(&stock, 1);
-    drains = restocks = has_block = has_spare = 0;
-    luns_begin(&luns, &options.part, 1, options.blocks);
-    if (brooms_begin(&brooms, &options, &stock, &luns, broom_seats) == -1 || brooms_start(&brooms) == -1)
-        abort();
-    brooms.brooms[0].is_spareless = 1;
-    stock_give_changed(&stock, stock_take(&stock));
-    usleep(200000);
-    want(restocks > 0, "a broom without a spare doesn't ask for one");
-    want(drains < 20, "a broom without a spare looks over and over");
-    struct attempt attempt = {0};
-    double began = seconds();
-    struct host *host = stock_take_to_write(&stock, &attempt);
-    want(attempt.is_last && seconds() - began < 0.5, "a broom without a spare: a write isn't refused at once");
-    stock_give_refused(&stock, host, &attempt);
-    want(stock.free_count == 1, "a spare that couldn't be had has changed the count");
-    stock_stop(&stock);
-    brooms_join(&brooms);
-    brooms_end(&brooms);
-    stock_end(&stock);
-}
-
-// One broom has lost its spare, and the only free block is kept for it. That may not let all brooms rest while a write waits.
-static void a_free_block_that_is_kept_for_a_broom(void) {
-    begin(2, 2, 5, 1);
-    fill();
-    stock_count_spare(&stock, 1);
     stock_add_free(&stock);
-    want(stock.is_collecting, "brooms rest though hosts have no free block");
-    want(stock_reserve(&stock), "the block that is kept can't be had");
-    stock_count_spare(&stock, 0);
-    want(stock.free_count == 0 && stock.spareless == 0, "a spare that was had is counted wrong");
+    find_nothing(0);
+    struct attempt attempt = {0};
+    stock_give_refused(&stock, stock_take_to_write(&stock, &attempt), &attempt);
+    want(!attempt.is_last && stock.free_count == 1 && stock.open_count == 0, "a write is refused though a block is free");
+    stock_give_written(&stock, stock_take_to_write(&stock, &attempt), &attempt);
+    want(stock.free_count == 0 && stock.open_count == 1, "a write that tries again is counted wrong");
     stock_end(&stock);
 }
 
-// Near the end a broom may lose its spare at any time, so a free block is kept for it: until it finds nothing to gain.
-static void a_block_that_is_kept_near_the_end(void) {
-    begin(2, 1, 5, 1);
-    stock_near_end(&stock);
-    for (uint32_t i = 0; i < 3 * stock.pages; i++)
-        write_page();
-    struct attempt attempt = {0};
-    struct host *host = stock_take_to_write(&stock, &attempt);
-    want(attempt.is_last && stock.free_count == 1 && stock.open_count == 0, "a block that is kept near the end was taken");
-    stock_give_refused(&stock, host, &attempt);
+// A write waits as long as brooms gain something, also while no block comes free.
+static void a_block_that_comes_late(void) {
+    begin(2, 1, 4, 1);
+    stock_end_round(&stock, 0, atomic_load(&stock.changes), 0, 0);
+    uint64_t gained_at = stock.gained_at;
+    want(gained_at > 0, "a broom has gained something, and the time isn't noted");
     stock_end_round(&stock, 0, atomic_load(&stock.changes), 1, 0);
-    write_page();
-    want(stock.free_count == 0 && stock.open_count == 1, "a block that no broom has use for wasn't taken");
+    want(stock.gained_at == gained_at, "a broom that found nothing has gained something");
     stock_end(&stock);
 }
 
@@ -155,10 +72,12 @@ static void a_broom_that_gains_little(void) {
     stock_end(&stock);
 }
 
-static void *take_and_give(void *took) {
-    double began = seconds();
+static _Atomic int served;
+
+static void *take_and_give(void *unused) {
+    (void) unused;
     struct host *host = stock_take(&stock);
-    *(double *) took = seconds() - began;
+    served++;
     stock_give(&stock, host);
     return NULL;
 }
@@ -167,18 +86,17 @@ static void *take_and_give(void *took) {
 static void a_long_request(void) {
     begin(1, 1, 4, 1);
     pthread_t others[4];
-    double took[4], began = seconds();
+    double began = seconds();
     struct host *host = stock_take(&stock);
     for (int i = 0; i < 4; i++)
-        if (pthread_create(&others[i], NULL, take_and_give, &took[i]))
+        if (pthread_create(&others[i], NULL, take_and_give, NULL))
             abort();
-    while (seconds() - began < 1)
+    while (served < 4 && seconds() - began < PATIENCE_S)
         host = stock_yield(&stock, host);
+    want(served == 4, "a request waits for a long one's end");
     stock_give(&stock, host);
-    for (int i = 0; i < 4; i++) {
+    for (int i = 0; i < 4; i++)
         pthread_join(others[i], NULL);
-        want(took[i] < 0.8, "a request waits for a long one's end");
-    }
     stock_end(&stock);
 }
 
@@ -243,12 +161,10 @@ static void many_requests(void) {
 }
 
 int main(void) {
-    alarm(30);
+    alarm(10 * PATIENCE_S);
     a_block_that_is_counted_late();
-    a_count_that_is_too_high();
-    a_spare_that_cannot_be_had();
-    a_free_block_that_is_kept_for_a_broom();
-    a_block_that_is_kept_near_the_end();
+    a_search_that_comes_too_late();
+    a_block_that_comes_late();
     marks_of_a_device_that_wears_out();
     a_broom_that_gains_little();
     a_long_request();

@@ -20,7 +20,7 @@ SLACK = 500  # clocks are read before a request is sent, and after its answer
 # In microseconds. They are so long that the machine's own delays are a small part of them.
 TIMES = {"read": 10_000, "program": 20_000, "erase": 60_000, "transfer": 2_000}
 READ, PROGRAM, ERASE = TIMES["read"] + TIMES["transfer"], TIMES["transfer"] + TIMES["program"], TIMES["erase"]
-STAMP = READ  # an image reads the stamp of the page that a sector has before it gives it another
+STAMP = READ  # an image reads the stamp of a sector's page before the first change of the sector, and behind a trim
 COPYBACK, COPY = TIMES["read"] + TIMES["program"], READ + PROGRAM  # within a LUN, and to another one
 
 
@@ -140,13 +140,13 @@ def lun_of(sector, luns):
 def single_requests(shop, server, kind, luns, least):
     """Requests one after the other take the time of their commands; `least` has how far each was off in the best try so far."""
     stamp, far = (STAMP if kind == "image" else 0), (luns == 4)
-    rows = [("read", 100, 1, READ), ("read", 252, 8, 4 * READ if far else 8 * READ), ("write", 100, 1, stamp + PROGRAM), ("read", 100, 1, READ),
-            ("part", 100, 1, READ + stamp + PROGRAM), ("trim", 100, 1, stamp + PROGRAM if stamp else 0), ("read", 100, 1, READ if stamp else 0)]
-    played(shop, server, [(0, 0, "write", 0, 1)])  # an image erases a block before it writes to it
+    rows = [("read", 100, 1, READ), ("read", 252, 8, 4 * READ if far else 8 * READ), ("write", 100, 1, PROGRAM), ("read", 100, 1, READ),
+            ("part", 100, 1, READ + PROGRAM), ("trim", 100, 1, PROGRAM if stamp else 0), ("read", 100, 1, READ if stamp else 0),
+            ("write", 100, 1, stamp + PROGRAM)]
+    played(shop, server, [(0, 0, "write", 100, 1)])  # an image erases a block before it writes to it
     answers = played(shop, server, [(0, 0, op, sector, pages) for op, sector, pages, _ in rows])
     for answer, (op, sector, pages, wanted) in zip(answers, rows):
         want(answer.took >= wanted - SLACK, f"{luns} LUNs: a {op} of {pages} pages took {answer.took} µs, and its commands take {wanted}")
-    played(shop, server, [(0, 0, "write", 100, 1)])
     least[:] = [min(pair) for pair in zip([answer.took - row[3] for answer, row in zip(answers, rows)], least or [ERASE] * len(rows))]
     return max(least) / READ, f"{len(rows)} requests alone"
 

@@ -94,18 +94,6 @@ static void no_block_of_four(void) {
     full(4);
 }
 
-static void a_reserved_block(void) {
-    full(1);
-    stock_add_free(&stock);
-    want(stock_reserve(&stock), "a free block can't be had for a broom");
-}
-
-static void a_block_for_a_broom(void) {
-    full(1);
-    stock_count_spare(&stock, 1);
-    stock_add_free(&stock);
-}
-
 // Blocks enough, so that brooms rest.
 static void many_blocks(void) {
     begin(2, 1, 4, 1);
@@ -122,11 +110,6 @@ static void nothing_is_found_beside_a_write(void) {
     its_attempt = (struct attempt){0};
     in_use = stock_take_to_write(&stock, &its_attempt);
     find_nothing(0);
-}
-
-static void nothing_was_found_without_a_spare(void) {
-    nothing_was_found();
-    stock_count_spare(&stock, 1);
 }
 
 // ---- What ends a wait.
@@ -175,14 +158,6 @@ static void no_broom_finds_any(void) {
     find_nothing(0);
 }
 
-static void unreserve(void) {
-    stock_unreserve(&stock);
-}
-
-static void the_broom_has_its_spare(void) {
-    stock_count_spare(&stock, 0);
-}
-
 static void write_until_none_is_free(void) {
     while (stock.free_count > 0)
         write_page();
@@ -216,13 +191,10 @@ static const struct way ways[] = {
     {"as many blocks come free as writes wait for", no_block_of_four, write_one, four_come_free},
     {"fewer blocks come free, and the broom finds no more", no_block_of_four, write_one, one_comes_free_and_no_more},
     {"no block is free, and no broom finds any", no_block, write_one, no_broom_finds_any},
-    {"a block that a broom couldn't have is free again", a_reserved_block, write_one, unreserve},
-    {"the block that was kept for a broom isn't needed", a_block_for_a_broom, write_one, the_broom_has_its_spare},
     {"the server stops, and a write waits", no_block, write_one, stop},
     {"few blocks are free, and a broom rests", many_blocks, begin_a_round, write_until_none_is_free},
     {"a trim, behind a broom that found nothing", nothing_was_found, begin_a_round, trim_one},
     {"a write, behind a broom that found nothing", nothing_is_found_beside_a_write, begin_a_round, give_written},
-    {"a block comes free, and a broom has no spare", nothing_was_found_without_a_spare, begin_a_round, one_comes_free},
     {"the server stops, and a broom rests", many_blocks, begin_a_round, stop},
 };
 

@@ -320,7 +320,8 @@ class Broom(_Seat):
 
     def drain_dead(self) -> Union[Drained, Drain]:
         """Drains the closed block with the fewest live pages, by a new survey, if it has none. No page moves, so no spare is needed: after a trim a
-        broom without one can go on. `Drain.NO_SPARE` says that the block has a live page."""
+        broom without one can go on. `Drain.NO_SPARE` says that the block has a live page, or isn't closed any
+        more."""
         return self._drain(LIBRARY.mintlintel_broom_drain_dead)
 
     def _drain(self, call: Callable[..., int]) -> Union[Drained, Drain]:

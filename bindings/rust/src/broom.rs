@@ -26,7 +26,8 @@ pub enum Drain {
     Drained { block: u32, moved: u32 },
     /// No block is closed, or the best one is all live: let hosts write first.
     NothingToGain,
-    /// The broom has no block to copy to: erase something, or restock. Of `drain_dead`: the block has a live page.
+    /// The broom has no block to copy to: erase something, or restock. Of `drain_dead`: the block has a live page, or isn't
+    /// closed any more.
     NoSpare,
     /// The state of the block changed in between: try again.
     Lost,
@@ -276,7 +277,7 @@ impl Broom {
     }
 
     /// Drains the closed block with the fewest live pages, by a new survey, if it has none. No page moves, so no spare is needed: after a trim
-    /// a broom without one can go on. `NoSpare` says that the block has a live page.
+    /// a broom without one can go on. `NoSpare` says that the block has a live page, or isn't closed any more.
     ///
     /// ```
     /// # use mintlintel::{Drain, Geometry, SharedDevice};

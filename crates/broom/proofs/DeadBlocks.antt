@@ -22,7 +22,7 @@ use Rattle.broom.specs.declared.broom.Broom.{Broom}
 use Rattle.broom.specs.declared.answer.Drain.{Drain}
 use Rattle.broom.specs.declared.answer.Drain.TheVariants as drain
 use Rattle.broom.specs.Ready.{IsRested}
-use Rattle.broom.specs.Told.{counts_kept}
+use Rattle.broom.specs.Told.{Unmarks, counts_kept}
 use Rattle.broom.specs.Dead.{ChoseVictim, DeadTold, DidDrainDead, PassedAll, InspectedTold, loaded_closed}
 use Rattle.broom.proofs.Choosing.{rest_of, rested_again}
 use Rattle.broom.proofs.Renewing.{loaded_stale}
@@ -107,9 +107,9 @@ rested_drained f s c t o owns h seat blocks claimed drained =
 
 -- what follows a survey is what a drain of a block without live pages records
 pub dead_told : (before r after : Broom) (b : ℕ) (result : Drain) → ChoseVictim before b r → slice_index (counts_kept r) b ≡ 0 → InspectedTold r b result after
-    → DeadTold before result after
-dead_told before r after b (drain.Drained block copied) chose none told = (b, r, chose, none, told)
-dead_told before r after b drain.NothingToGain chose none told = absurd told
-dead_told before r after b drain.NoSpare chose none told = inr (b, r, chose, none, told)
-dead_told before r after b drain.Lost chose none told = (b, r, chose, none, told)
-dead_told before r after b drain.QueueFull chose none told = absurd told
+    → Unmarks r b after → DeadTold before result after
+dead_told before r after b (drain.Drained block copied) chose none told marks = (b, r, chose, none, told, marks)
+dead_told before r after b drain.NothingToGain chose none told marks = absurd told
+dead_told before r after b drain.NoSpare chose none told marks = inr (b, r, chose, none, told, marks)
+dead_told before r after b drain.Lost chose none told marks = (b, r, chose, none, told, marks)
+dead_told before r after b drain.QueueFull chose none told marks = absurd told

@@ -11,8 +11,8 @@ use Rattle.broom.specs.declared.broom.Broom.{Broom}
 use Rattle.broom.specs.declared.answer.Drain.{Drain}
 use Rattle.broom.specs.declared.answer.Drain.TheVariants as drain
 use Rattle.broom.specs.Ready.{view_of_broom, blocks_of_broom}
-use Rattle.broom.specs.Surveying.{Chosen}
-use Rattle.broom.specs.Told.{GainedNothing, counts_kept}
+use Rattle.broom.specs.Surveying.{Chosen, ChoseNone}
+use Rattle.broom.specs.Told.{Unmarks, counts_kept}
 
 -- The state that was loaded last is this block's, and it was closed
 pub record HasLoadedClosed (v : View) (b : ℕ) (p : PinWord) : Type 0 where
@@ -86,10 +86,10 @@ abbrev pub InspectedTold : Broom → ℕ → Drain → Broom → Type 0
 InspectedTold before b (drain.Drained block copied) after =
     (block ≡ b) × (copied ≡ 0) × DidDrainDead (view_of_broom before) b (view_of_broom after) × (blocks_of_broom after ≡ blocks_of_broom before)
 InspectedTold before b drain.NothingToGain after = ⊥
-InspectedTold before b drain.NoSpare after = FoundInUse (view_of_broom before) b (view_of_broom after) × (blocks_of_broom after ≡ blocks_of_broom before)
-InspectedTold before b drain.Lost after =
-    (FoundOther (view_of_broom before) b (view_of_broom after) ⊎ LostInspected (view_of_broom before) b (view_of_broom after))
+InspectedTold before b drain.NoSpare after =
+    (FoundOther (view_of_broom before) b (view_of_broom after) ⊎ FoundInUse (view_of_broom before) b (view_of_broom after))
     × (blocks_of_broom after ≡ blocks_of_broom before)
+InspectedTold before b drain.Lost after = LostInspected (view_of_broom before) b (view_of_broom after) × (blocks_of_broom after ≡ blocks_of_broom before)
 InspectedTold before b drain.QueueFull after = ⊥
 
 -- A survey was made, this block is its victim, and the broom keeps its own blocks
@@ -97,9 +97,10 @@ pub record ChoseVictim (before : Broom) (b : ℕ) (after : Broom) : Type 0 where
   pub chosen : Chosen (view_of_broom before) b after
   pub blocks : blocks_of_broom after ≡ blocks_of_broom before
 
--- what each result of a drain of the victim of a survey means, if the victim has no live page by the survey
+-- what each result of a drain of the victim of a survey means, if the victim has no live page by the survey. It isn't marked any more
 abbrev pub DeadBySurvey : Broom → Drain → Broom → Type 0
-DeadBySurvey before result after = (b : ℕ) × (r : Broom) × ChoseVictim before b r × (slice_index (counts_kept r) b ≡ 0) × InspectedTold r b result after
+DeadBySurvey before result after =
+    (b : ℕ) × (r : Broom) × ChoseVictim before b r × (slice_index (counts_kept r) b ≡ 0) × InspectedTold r b result after × Unmarks r b after
 
 -- a survey was made, and its victim has a live page
 abbrev pub LiveBySurvey : Broom → Broom → Type 0
@@ -108,7 +109,7 @@ LiveBySurvey before after = (b : ℕ) × ChoseVictim before b after × (¬ (slic
 -- What each result of a drain of a block without live pages means. The broom's own blocks are unchanged
 abbrev pub DeadTold : Broom → Drain → Broom → Type 0
 DeadTold before (drain.Drained block copied) after = DeadBySurvey before (drain.Drained block copied) after
-DeadTold before drain.NothingToGain after = GainedNothing (view_of_broom before) (view_of_broom after) × (blocks_of_broom after ≡ blocks_of_broom before)
+DeadTold before drain.NothingToGain after = ChoseNone (view_of_broom before) after × (blocks_of_broom after ≡ blocks_of_broom before)
 DeadTold before drain.NoSpare after = LiveBySurvey before after ⊎ DeadBySurvey before drain.NoSpare after
 DeadTold before drain.Lost after = DeadBySurvey before drain.Lost after
 DeadTold before drain.QueueFull after = ⊥

@@ -8,6 +8,7 @@ use Rattle.broom.specs.declared.answer.Drain.{Drain}
 use Rattle.broom.specs.declared.answer.Drain.TheVariants as drain
 use Rattle.broom.specs.declared.answer.Erase.{Erase}
 use Rattle.broom.specs.declared.answer.Erase.TheVariants as erase
+use Rattle.broom.specs.Dead.{DeadTold}
 use Rattle.broom.specs.Told.{DrainTold, NextTold, SurveyLeft, Unmarks}
 use Rattle.broom.specs.Erasing.{EraseTold}
 
@@ -104,6 +105,10 @@ DrainOneTold limit before answer after = TurnTold (λ b given x. DrainTold b giv
 -- what each result of a turn that drains by the last survey means
 abbrev pub DrainNextOneTold : ℕ → Broom → Drain → Broom → Type 0
 DrainNextOneTold limit before answer after = TurnTold NextTold limit before answer after
+
+-- what each result of a turn that drains a block without live pages means
+abbrev pub DrainDeadOneTold : ℕ → Broom → Drain → Broom → Type 0
+DrainDeadOneTold limit before answer after = TurnTold DeadTold limit before answer after
 
 -- A block was fetched. Then the broom made an erase of it with this result, after which the block isn't marked any more, and did nothing
 -- else

@@ -11,7 +11,7 @@ pub enum Drain {
     NoSpare,
     /// The block's state has changed since the broom loaded it: another broom has claimed it, or a reader has come or gone.
     Lost,
-    /// The broom has set a drained block aside, and the queue has no room for it. Only `drain_one` and `drain_next_one` return this.
+    /// The broom has set a drained block aside, and the queue has no room for it. Only the drains of a turn return this.
     QueueFull,
 }
 

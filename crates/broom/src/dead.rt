@@ -14,7 +14,7 @@ use flash_table::{BroomSeat, Flash, Gate, Point};
 use geometry::{Phase, PinWord};
 
 /// Surveys the device, and drains the closed block with the fewest live pages if it has none. It needs no spare, and looks at each sector once
-/// more. It calls its gate before the claim. `NoSpare` means that the block has a live page.
+/// more. It calls its gate before the claim. `NoSpare` means that the block has a live page, or isn't closed any more.
 pub fn drain_dead<G: Gate>(flash: &Flash, broom: &mut Broom, gate: &mut G) -> Drain
     requires { IsReady flash.now broom.old }
     ensures told { DeadTold broom.old result broom.new }
@@ -44,7 +44,7 @@ fn drain_inspected<G: Gate>(flash: &Flash, broom: &mut Broom, block: u32, gate: 
     broom.closed[block as usize] = false;
     let state = flash.load_state(&mut broom.seat, block);
     if state.phase != Phase::Closed {
-        return Drain::Lost;
+        return Drain::NoSpare;
     }
     if !inspect(flash, &mut broom.seat, block, state) {
         return Drain::NoSpare;

@@ -32,4 +32,4 @@ pub use geometry::{Geometry, PageAddr};
 pub use meeting::{meet_brooms, stand};
 pub use restocking::restock;
 pub use state::{count_blocks, load_state};
-pub use turns::{drain_next_one, drain_one, erase_one};
+pub use turns::{drain_dead_one, drain_next_one, drain_one, erase_one};

@@ -4,10 +4,11 @@ ghost use Rattle.geometry.specs.Geometry.{blocks_of};
 ghost use Rattle.erase_queue.specs.Queue.{limit_of};
 ghost use Rattle.flash_table.specs.Flash.{geometry_of};
 ghost use Rattle.broom.specs.Ready.{IsReady};
-ghost use Rattle.broom.specs.Handing.{IsQueued, DrainOneTold, DrainNextOneTold, EraseOneTold};
+ghost use Rattle.broom.specs.Handing.{IsQueued, DrainOneTold, DrainNextOneTold, DrainDeadOneTold, EraseOneTold};
 
 use crate::answer::{Drain, Erase};
 use crate::broom::Broom;
+use crate::dead::drain_dead;
 use crate::draining::{drain, drain_next};
 use crate::erasing::erase;
 use crate::handing::{fetch, hand_on, relieve};
@@ -65,6 +66,33 @@ pub fn drain_next_one<G: Gate>(
     let answer = drain_next(flash, broom, gate);
     let Drain::Drained { block, copied } = answer else {
         return answer;
+    };
+    hand_on(queue, rt, broom, block);
+    Drain::Drained { block, copied }
+}
+
+/// Drains a block without live pages as `drain_dead` does, and puts it into the queue or sets it aside as `drain_one` does.
+#[tactic(auto, using(crate::proofs::Keeping::still_at, crate::proofs::Keeping::still_queued))]
+pub fn drain_dead_one<G: Gate>(
+    flash: &Flash,
+    queue: &EraseQueue,
+    rt: &impl Wait,
+    broom: &mut Broom,
+    gate: &mut G,
+) -> Drain
+    requires limit { limit_of queue.now ≡ blocks_of (geometry_of flash.now) }
+    requires ready { IsReady flash.now broom.old }
+    requires queued { IsQueued queue.now broom.old }
+    ensures told { DrainDeadOneTold (limit_of queue.now) broom.old result broom.new }
+    ensures ready { IsReady flash.now broom.new }
+    ensures queued { IsQueued queue.now broom.new }
+{
+    if !relieve(queue, rt, broom) {
+        return Drain::QueueFull;
+    }
+    let dead = drain_dead(flash, broom, gate);
+    let Drain::Drained { block, copied } = dead else {
+        return dead;
     };
     hand_on(queue, rt, broom, block);
     Drain::Drained { block, copied }

@@ -81,11 +81,11 @@ some_calls =
     0 ∷ by.Drain drain.Lost 0
     ∷ by.Erase (erase.Erased 3 true) ∷ by.Erase (erase.Erased 4 false) ∷ by.Erase
     (erase.Retired 5) ∷ by.Erase erase.Pinned ∷ by.Erase erase.Stale ∷ by.Erase erase.Stale
-    ∷ by.Restock true ∷ []
+    ∷ by.Restock true ∷ by.DrainDead (drain.Drained 6 0) ∷ by.DrainDead drain.NothingToGain ∷ []
 
 -- what they add
 abbrev pub some_counts : Tally
-some_counts = record { drained = 2; moved = 2; programmed = 3; erased = 3; kept = 1; retired = 1; lost = 1; pinned = 1; stale = 2; gainless = 1 }
+some_counts = record { drained = 3; moved = 2; programmed = 3; erased = 3; kept = 1; retired = 1; lost = 1; pinned = 1; stale = 2; gainless = 2 }
 
 -- the answers of two drains with these results, each with an erase that finds nothing behind it: one by a new survey, and one by that survey
 abbrev pub two_drains : Drain → Drain → List BroomAnswer

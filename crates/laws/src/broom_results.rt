@@ -4,7 +4,8 @@ ghost use Rattle.broom.specs.Dead.{DeadBySurvey, DeadTold, DidDrainDead, FoundIn
 ghost use Rattle.broom.specs.Surveying.{Chosen};
 ghost use Rattle.broom.specs.Emptying.{Emptied, Programmed, given_up, live_from, looks_in, pages_left, pages_to_fill};
 ghost use Rattle.broom.specs.Erasing.{DidErase, EraseTold, renewed};
-ghost use Rattle.broom.specs.Handing.{DrainNextOneTold, DrainOneTold, EraseOneTold, Fetched, HandedOn, HandsNothing, IsElse, LeftAt, Relieved};
+ghost use Rattle.broom.specs.Handing.{DrainDeadOneTold, DrainNextOneTold, DrainOneTold, EraseOneTold};
+ghost use Rattle.broom.specs.Handing.{Fetched, HandedOn, HandsNothing, IsElse, LeftAt, Relieved};
 ghost use Rattle.broom.specs.Handing.{aside_of, place_of};
 ghost use Rattle.broom.specs.Ready.{blocks_of_broom, marks_of, view_of_broom};
 ghost use Rattle.broom.specs.Restocking.{RestockTold};
@@ -157,7 +158,7 @@ pub fn drains_by_a_survey()
 pub fn drains_of_dead_blocks()
     ensures drained { (b n : ℕ) (x y : Broom) → DeadTold x (drain.Drained b n) y → (r : Broom) × Chosen (view_of_broom x) b r
         × (slice_index (counts_kept r) b ≡ 0) × (n ≡ 0) × DidDrainDead (view_of_broom r) b (view_of_broom y)
-        × (blocks_of_broom y ≡ blocks_of_broom x) }
+        × (blocks_of_broom y ≡ blocks_of_broom x) × Unmarks r b y }
     ensures dead { (v w : View) → (h : DidDrainDead v 3 w) → (h.state.phase ≡ phase.Closed) × FitsPin h.state
         × (v.numbers.sectors ≤ inspected_in w.inspection 3 h.state.generation) × (w ≡ record v {
           loaded = v.loaded ++ (3, pin_word h.state) ∷ [];
@@ -170,15 +171,19 @@ pub fn drains_of_dead_blocks()
         }) }
     ensures none { (x y : Broom) → DeadTold x drain.NothingToGain y → (blocks_of_broom y ≡ blocks_of_broom x) × (s : Survey)
         × GainsNothing s (view_of_broom x).numbers.pages }
+    ensures none_marked { (x y : Broom) → DeadTold x drain.NothingToGain y → (s : Survey) × Surveyed (view_of_broom x) s (view_of_broom y)
+        × (marks_of y ≡ closed_of s.states) }
     ensures live { (x y : Broom) → LiveBySurvey x y → (b : ℕ) × Chosen (view_of_broom x) b y × (¬ (slice_index (counts_kept y) b ≡ 0)) }
     ensures no_spare { (x y : Broom) → DeadTold x drain.NoSpare y → LiveBySurvey x y ⊎ DeadBySurvey x drain.NoSpare y }
-    ensures in_use { (x y : Broom) → InspectedTold x 3 drain.NoSpare y → (h : FoundInUse (view_of_broom x) 3 (view_of_broom y)) × (h.stopped.page.block ≡ 3)
-        × (h.stopped.page.generation ≡ h.state.generation) × (h.stopped.sector < (view_of_broom x).numbers.sectors) × (h.state.phase ≡ phase.Closed)
-        × (blocks_of_broom y ≡ blocks_of_broom x) }
+    ensures no_spare_by { (x y : Broom) → InspectedTold x 3 drain.NoSpare y → (FoundOther (view_of_broom x) 3 (view_of_broom y)
+        ⊎ FoundInUse (view_of_broom x) 3 (view_of_broom y)) × (blocks_of_broom y ≡ blocks_of_broom x) }
+    ensures in_use { (v w : View) → (h : FoundInUse v 3 w) → (h.stopped.page.block ≡ 3) × (h.stopped.page.generation ≡ h.state.generation)
+        × (h.stopped.sector < v.numbers.sectors) × (h.state.phase ≡ phase.Closed) }
     ensures listed { (v w : View) → (h : FoundInUse v 3 w) → w.named ≡ v.named ++ (h.stopped.sector, map_word h.stopped.page) ∷ [] }
     ensures lost { (x y : Broom) → DeadTold x drain.Lost y → DeadBySurvey x drain.Lost y }
-    ensures lost_by { (x y : Broom) → InspectedTold x 3 drain.Lost y → FoundOther (view_of_broom x) 3 (view_of_broom y)
-        ⊎ LostInspected (view_of_broom x) 3 (view_of_broom y) }
+    ensures lost_by { (x y : Broom) → InspectedTold x 3 drain.Lost y → LostInspected (view_of_broom x) 3 (view_of_broom y)
+        × (blocks_of_broom y ≡ blocks_of_broom x) }
+    ensures unmarked { (x y : Broom) → DeadBySurvey x drain.Lost y → (b : ℕ) × (r : Broom) × Chosen (view_of_broom x) b r × Unmarks r b y }
     ensures other { (v w : View) → (h : FoundOther v 3 w) → (¬ (h.state.phase ≡ phase.Closed)) × FitsPin h.state
         × (w.loaded ≡ v.loaded ++ (3, pin_word h.state) ∷ []) × (w.lost ≡ v.lost) × (w.named ≡ v.named) }
     ensures claim { (v w : View) → (h : LostInspected v 3 w) → (h.state.phase ≡ phase.Closed) × FitsPin h.state × (w.lost ≡ v.lost ++ 3 ∷ [])
@@ -193,6 +198,7 @@ pub fn turns_with_a_queue()
     ensures lost { (x y : Broom) → DrainOneTold 9 x drain.Lost y → (r : Broom) × Relieved x r × DrainTold r drain.Lost y
         × SurveyLeft r drain.Lost y × HandsNothing r y }
     ensures next { (x y : Broom) → DrainNextOneTold 9 x drain.NoSpare y → (r : Broom) × Relieved x r × NextTold r drain.NoSpare y × HandsNothing r y }
+    ensures dead { (x y : Broom) → DrainDeadOneTold 9 x drain.Lost y → (r : Broom) × Relieved x r × DeadTold r drain.Lost y × HandsNothing r y }
     ensures full { (x y : Broom) → DrainOneTold 9 x drain.QueueFull y → (b : ℕ) × (aside_of x ≡ Some b) × (aside_of y ≡ Some b) × IsElse x y
         × WasFull 9 (place_of x) (place_of y) }
     ensures put_first { (b : ℕ) (x y : Broom) → aside_of x ≡ Some b → Relieved x y → (aside_of y ≡ None) × IsElse x y

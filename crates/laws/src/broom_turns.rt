@@ -2,7 +2,7 @@
 ghost use Rattle.std.specs.Prelude.{◌≡◌, ◌+◌, ◌-◌, ◌%◌, ◌^◌, ℕ, [], ◌∷◌, false, length};
 ghost use Rattle.std.specs.Arc.{arc_value};
 ghost use Rattle.broom.specs.Ends.{folded_place, folded_view};
-ghost use Rattle.broom.specs.Handing.{DrainNextOneTold, DrainOneTold, EraseOneTold, HandsNothing, LeftAt};
+ghost use Rattle.broom.specs.Handing.{DrainDeadOneTold, DrainNextOneTold, DrainOneTold, EraseOneTold, HandsNothing, LeftAt};
 ghost use Rattle.broom.specs.Ready.{view_of_broom};
 ghost use Rattle.broom.specs.Restocking.{RestockTold};
 ghost use Rattle.broom.specs.Told.{KeepsSurvey};
@@ -52,6 +52,7 @@ pub fn brooms_of_a_run()
         × GrowsBy k (view_of_broom x).programs (view_of_broom y).programs }
     ensures drained_next { (n k : ℕ) (x y : Broom) → HasMadeCalls n x (by.DrainNext drain.Lost k ∷ []) y → DrainNextOneTold n x drain.Lost y
         × GrowsBy k (view_of_broom x).programs (view_of_broom y).programs }
+    ensures drained_dead { (n : ℕ) (x y : Broom) → HasMadeCalls n x (by.DrainDead drain.Lost ∷ []) y → DrainDeadOneTold n x drain.Lost y }
     ensures erased { (n : ℕ) (x y : Broom) → HasMadeCalls n x (by.Erase erase.Pinned ∷ []) y → EraseOneTold n x erase.Pinned y }
     ensures counted { (s t : Collector) → HasCollectedBy s (by.Erase erase.Stale ∷ []) t → s.tally ≡ nothing_done
         → t.tally ≡ record nothing_done { stale = 1 } }

@@ -2,6 +2,7 @@
 ghost use Rattle.std.specs.Prelude.{◌≡◌, ◌≤◌, ℕ, Bool, IfSome, List, [], ◌∷◌, Ok, true, false, length};
 ghost use Rattle.answers.specs.Answers.{end_text};
 ghost use Rattle.answers.specs.Streams.{Passage, Sends, Stream};
+ghost use Rattle.broom.specs.declared.answer.Drain.{Drain};
 ghost use Rattle.broom.specs.declared.answer.Drain.TheVariants as drain;
 ghost use Rattle.broom.specs.declared.answer.Erase.{Erase};
 ghost use Rattle.geometry.specs.Geometry.{hosts_of};
@@ -32,11 +33,15 @@ pub fn brooms_of_a_round()
     ensures made_up { (s : Collector) → ¬ HaveCollected [] (s ∷ []) }
 {}
 
-/// What follows a drain: an erase, and a restock exactly if the drain found no spare.
+/// What follows a drain: an erase; a restock exactly if the drain found no spare; and a drain of a block without live pages exactly if that
+/// found none either.
 pub fn calls_behind_a_drain()
     ensures erased { (e : Erase) → Follows drain.NothingToGain (by.Erase e ∷ []) }
-    ensures restocked { (e : Erase) (found : Bool) → Follows drain.NoSpare (by.Erase e ∷ by.Restock found ∷ []) }
+    ensures restocked { (e : Erase) → Follows drain.NoSpare (by.Erase e ∷ by.Restock true ∷ []) }
+    ensures drained { (e : Erase) (d : Drain) → Follows drain.NoSpare (by.Erase e ∷ by.Restock false ∷ by.DrainDead d ∷ []) }
     ensures not_restocked { (e : Erase) → ¬ Follows drain.NoSpare (by.Erase e ∷ []) }
+    ensures not_drained { (e : Erase) → ¬ Follows drain.NoSpare (by.Erase e ∷ by.Restock false ∷ []) }
+    ensures needless_drain { (e : Erase) (d : Drain) → ¬ Follows drain.NoSpare (by.Erase e ∷ by.Restock true ∷ by.DrainDead d ∷ []) }
     ensures needless { (e : Erase) (found : Bool) → ¬ Follows drain.NothingToGain (by.Erase e ∷ by.Restock found ∷ []) }
 {}
 

@@ -81,6 +81,7 @@ const LINES: [(Kind, &[Point]); 9] = [
 enum Call {
     Drain,
     DrainNext,
+    DrainDead,
     Erase,
 }
 
@@ -103,6 +104,7 @@ impl Collector<'_> {
         match call {
             Call::Drain => Done::Drained(self.volume.drain_one(rt, &mut self.broom, gate)),
             Call::DrainNext => Done::Drained(self.volume.drain_next_one(rt, &mut self.broom, gate)),
+            Call::DrainDead => Done::Drained(self.volume.drain_dead_one(rt, &mut self.broom, gate)),
             Call::Erase => Done::Erased(self.volume.erase_one(rt, &mut self.broom, gate)),
         }
     }
@@ -110,8 +112,9 @@ impl Collector<'_> {
 
 // The calls of the broom, each with its answer and the points of its gate. The first drain copies into its spare, and the second
 // one into the same block, which is then full.
-const CALLS: [(Call, Done, &[Point]); 8] = [
+const CALLS: [(Call, Done, &[Point]); 9] = [
     (Call::DrainNext, Done::Drained(Drain::NothingToGain), &[]),
+    (Call::DrainDead, Done::Drained(Drain::NoSpare), &[]),
     (
         Call::Drain,
         Done::Drained(Drain::Drained {

@@ -303,6 +303,9 @@ impl<'a, H: Home> Collector<'a, H> {
                 Done::Drained(self.volume.drain_next_one(rt, &mut self.broom, gate))
             }
             Call::DrainDead => Done::Drained(self.volume.drain_dead(&mut self.broom, gate)),
+            Call::DrainDeadOne => {
+                Done::Drained(self.volume.drain_dead_one(rt, &mut self.broom, gate))
+            }
             Call::Restock => Done::Restocked(self.volume.restock(&mut self.broom)),
             _ => Done::Nothing,
         }

@@ -26,12 +26,12 @@ impl BroomState {
 
 // Whether this drain uses the last survey.
 fn is_next(drawn: Drawn) -> bool {
-    matches!(drawn.kind, 5..8 | 9)
+    matches!(drawn.kind, 5..7 | 9)
 }
 
 // Whether this drain is one of a block without live pages.
 fn is_dead(drawn: Drawn) -> bool {
-    drawn.kind == 17
+    matches!(drawn.kind, 7 | 17)
 }
 
 /// The state in which a call of a broom begins.
@@ -228,7 +228,7 @@ impl BroomModel {
     fn survey(&mut self, broom: usize, drawn: Drawn, drain: Drain)
         requires { broom < 2 }
     {
-        if !is_dead(drawn) && matches!(drain, Drain::NoSpare | Drain::QueueFull) {
+        if drain == Drain::QueueFull || drain == Drain::NoSpare && !is_dead(drawn) {
             return;
         }
         if !is_next(drawn) {

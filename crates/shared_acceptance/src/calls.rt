@@ -68,8 +68,9 @@ pub(crate) enum Call {
     /// A drain with the broom's last survey, and one with the queue.
     DrainNext,
     DrainNextOne,
-    /// A drain of a block without live pages, for which no spare is needed.
+    /// A drain of a block without live pages, for which no spare is needed, and one with the queue.
     DrainDead,
+    DrainDeadOne,
     Restock,
 }
 

@@ -68,6 +68,18 @@ const DRAINS_DEAD_ONE: ExpectedCall = drained!(Call::DrainDead, 1, 0);
 
 const DRAINS_DEAD_TWO: ExpectedCall = drained!(Call::DrainDead, 2, 0);
 
+const NO_SPARE_FOR_ONE: ExpectedCall = (Call::DrainOne, Done::Drained(Drain::NoSpare));
+
+const NOTHING_TO_ERASE: ExpectedCall = (Call::EraseOne, Done::Erased(Erase::QueueEmpty));
+
+const QUEUES_DEAD_TWO: ExpectedCall = drained!(Call::DrainDeadOne, 2, 0);
+
+const KEEPS_TWO_OF_QUEUE: ExpectedCall = erased!(Call::EraseOne, 2, true);
+
+const QUEUES_THREE: ExpectedCall = drained!(Call::DrainOne, 3, 0);
+
+const FREES_THREE_OF_QUEUE: ExpectedCall = erased!(Call::EraseOne, 3, false);
+
 // A host fills blocks 0, 1 and 2, and then these steps are made. In block 0 the page of sector 1 is live, in block 1 none, and in block 2
 // that of sector 0.
 macro_rules! three_filled {
@@ -157,6 +169,25 @@ const LIVES_ON: [Step; 19] = three_filled![
     Step::By(Who::First, NO_SPARE),
     Step::By(Who::First, DRAINS_DEAD_TWO),
     Step::By(Who::First, KEEPS_TWO),
+];
+
+// The same by turns. The spare is block 2 then, so block 3 comes free, and the host can write again.
+const LIVES_ON_BY_TURNS: [Step; 21] = three_filled![
+    Step::By(Who::First, DRAINS_ONE),
+    Step::By(Who::First, DRAINS_NEXT_ZERO_BY_MOVES),
+    Step::By(Who::A, (Call::Write(1, 7), WRITTEN)),
+    Step::By(Who::A, (Call::Write(1, 8), WRITTEN)),
+    Step::By(Who::A, (Call::Write(0, 9), FULL)),
+    Step::By(Who::A, (Call::Trim(0), TRIMMED)),
+    Step::By(Who::A, (Call::Trim(1), TRIMMED)),
+    Step::By(Who::First, NO_SPARE_FOR_ONE),
+    Step::By(Who::First, NOTHING_TO_ERASE),
+    Step::By(Who::First, FINDS_NO_SPARE),
+    Step::By(Who::First, QUEUES_DEAD_TWO),
+    Step::By(Who::First, KEEPS_TWO_OF_QUEUE),
+    Step::By(Who::First, QUEUES_THREE),
+    Step::By(Who::First, FREES_THREE_OF_QUEUE),
+    Step::By(Who::A, (Call::Write(0, 10), EMPTY)),
 ];
 
 // The second broom drains the block at the gate of the first one.
@@ -329,6 +360,13 @@ fn drains_of_dead_blocks_answer_as_the_rows_say(rt: HostRuntime) -> Result<(), F
             steps: &LIVES_ON,
             meanwhile: &[],
             sectors: [0, 0],
+        },
+        Row {
+            name: "by turns too, and a host can write again",
+            device: ONE_BROOM,
+            steps: &LIVES_ON_BY_TURNS,
+            meanwhile: &[],
+            sectors: [10, 0],
         },
         Row {
             name: "and so does a broom that has one",

@@ -50,7 +50,8 @@ impl Drawn {
     pub(crate) fn of_broom(self) -> Call {
         match self.kind {
             0..5 => Call::DrainOne,
-            5..8 => Call::DrainNextOne,
+            5..7 => Call::DrainNextOne,
+            7 => Call::DrainDeadOne,
             8 => Call::Drain,
             9 => Call::DrainNext,
             10..16 => Call::EraseOne,

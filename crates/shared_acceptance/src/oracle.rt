@@ -254,7 +254,7 @@ impl Oracle {
         self.tally.brooms.note_drain(drain);
         let is_next = matches!(begun.call, Call::DrainNext | Call::DrainNextOne);
         self.tally.brooms.note_next(is_next, drain);
-        if matches!(begun.call, Call::DrainDead) {
+        if matches!(begun.call, Call::DrainDead | Call::DrainDeadOne) {
             self.tally.brooms.note_dead(drain);
         }
         self.array.drain(drain, self.pages);

@@ -79,11 +79,11 @@ inspected : (r a : Broom) (block : ℕ) (answer : Drain) → InspectedTold r blo
     → ((view_of_broom a).seen ≡ (view_of_broom r).seen) × ((view_of_broom a).mine ≡ (view_of_broom r).mine)
 inspected r a block (drain.Drained one copied) t = (ap (λ (x : View). x.seen) t.2.changed, ap (λ (x : View). x.mine) t.2.changed)
 inspected r a block drain.NothingToGain t = absurd t
-inspected r a block drain.NoSpare t = (ap (λ (x : View). x.seen) t.0.stopped.changed, ap (λ (x : View). x.mine) t.0.stopped.changed)
-inspected r a block drain.Lost t = elim t.0 [
+inspected r a block drain.NoSpare t = elim t.0 [
   | inl other ↦ (ap (λ (x : View). x.seen) other.changed, ap (λ (x : View). x.mine) other.changed)
-  | inr lost ↦ (ap (λ (x : View). x.seen) lost.changed, ap (λ (x : View). x.mine) lost.changed)
+  | inr live ↦ (ap (λ (x : View). x.seen) live.stopped.changed, ap (λ (x : View). x.mine) live.stopped.changed)
 ]
+inspected r a block drain.Lost t = (ap (λ (x : View). x.seen) t.0.changed, ap (λ (x : View). x.mine) t.0.changed)
 inspected r a block drain.QueueFull t = absurd t
 
 surveyed : (b a : Broom) (answer : Drain) → DeadBySurvey b answer a → AreOfHosts (view_of_broom a).numbers (view_of_broom a).seen
@@ -96,7 +96,8 @@ surveyed b a answer t hosts =
 pub dead_drained : (b a : Broom) (answer : Drain) → DeadTold b answer a → AreOfHosts (view_of_broom a).numbers (view_of_broom a).seen
     → LeavesArray (view_of_broom b) (view_of_broom a)
 dead_drained b a (drain.Drained block copied) t hosts = surveyed b a (drain.Drained block copied) t hosts
-dead_drained b a drain.NothingToGain t hosts = leaves (view_of_broom b) (view_of_broom a) t.0.made.later hosts (ap (λ (x : View). x.mine) t.0.changed)
+dead_drained b a drain.NothingToGain t hosts =
+    leaves (view_of_broom b) (view_of_broom a) t.0.gained.made.later hosts (ap (λ (x : View). x.mine) t.0.gained.changed)
 dead_drained b a drain.NoSpare t hosts = elim t [
   | inl live ↦ leaves (view_of_broom b) (view_of_broom a) live.1.chosen.made.later hosts (ap (λ (x : View). x.mine) live.1.chosen.changed)
   | inr told ↦ surveyed b a drain.NoSpare told hosts

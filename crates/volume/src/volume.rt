@@ -46,7 +46,7 @@ impl Volume {
     ghost use Rattle.broom.specs.Dead.{DeadTold};
     ghost use Rattle.broom.specs.Restocking.{RestockTold};
     ghost use Rattle.broom.specs.Meeting.{StoodTold, BroomsMet};
-    ghost use Rattle.broom.specs.Handing.{DrainNextOneTold, DrainOneTold, EraseOneTold, HandsNothing, IsBelow, LeftAt, aside_of, place_of};
+    ghost use Rattle.broom.specs.Handing.{DrainDeadOneTold, DrainNextOneTold, DrainOneTold, EraseOneTold, HandsNothing, IsBelow, LeftAt, aside_of, place_of};
     ghost use Rattle.broom.specs.Loading.{AllLoaded, StateLoaded, counts_in};
     ghost use Rattle.broom.specs.Ready.{IsInRange, view_of_broom, blocks_of_broom};
     ghost use Rattle.host.specs.Ready.{IsReady};
@@ -385,7 +385,7 @@ impl Volume {
     }
 
     /// Surveys the device, and drains the closed block with the fewest live pages if it has none. It needs no spare, and looks at each sector once
-    /// more. It calls its gate before the claim. `NoSpare` means that the block has a live page.
+    /// more. It calls its gate before the claim. `NoSpare` means that the block has a live page, or isn't closed any more.
     #[tactic(auto, using(crate::proofs::Queued::still_ready))]
     pub fn drain_dead<G: Gate>(&self, broom: &mut Broom, gate: &mut G) -> Drain
         requires { IsBroomReady self.now broom.old }
@@ -470,6 +470,16 @@ impl Volume {
         ensures array { LeavesArray (view_of_broom broom.old) (view_of_broom broom.new) }
     {
         broom::drain_next_one(&self.flash, &self.queue, rt, broom, gate)
+    }
+
+    /// Drains a block without live pages as `drain_dead` does, and puts it into the queue or sets it aside as `drain_one` does.
+    pub fn drain_dead_one<G: Gate>(&self, rt: &impl Wait, broom: &mut Broom, gate: &mut G) -> Drain
+        requires { IsBroomReady self.now broom.old }
+        ensures told { DrainDeadOneTold (limit_of (queue_of self.now)) broom.old result broom.new }
+        ensures ready { IsBroomReady self.now broom.new }
+        ensures array { LeavesArray (view_of_broom broom.old) (view_of_broom broom.new) }
+    {
+        broom::drain_dead_one(&self.flash, &self.queue, rt, broom, gate)
     }
 
     /// Erases the block that is set aside or, if there is none, the first one of the queue. A block that has readers is put back at the end of the

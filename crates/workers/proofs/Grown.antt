@@ -9,9 +9,12 @@ use Rattle.broom.specs.declared.answer.Drain.{Drain}
 use Rattle.broom.specs.declared.answer.Drain.TheVariants as drain
 use Rattle.broom.specs.declared.answer.Erase.{Erase}
 use Rattle.broom.specs.declared.answer.Erase.TheVariants as erase
-use Rattle.broom.specs.Handing.{DrainNextOneTold, DrainOneTold, EraseOneTold, IsElse}
+use Rattle.broom.specs.Dead.{DeadBySurvey, DeadTold, InspectedTold}
+use Rattle.broom.specs.Handing.{DrainDeadOneTold, EraseOneTold, IsElse, TurnTold}
 use Rattle.broom.specs.Ready.{blocks_of_broom, view_of_broom}
 use Rattle.broom.specs.Restocking.{DidRestock, HadSpare, RestockTold}
+use Rattle.broom.specs.Surveying.{Chosen}
+use Rattle.broom.specs.Told.{DrainTold, NextTold, SurveyLeft}
 use Rattle.flash_table.specs.declared.broom_seat.BroomBlocks.{BroomBlocks}
 use Rattle.workers.specs.declared.broom_answer.BroomAnswer.{BroomAnswer}
 use Rattle.workers.specs.declared.broom_answer.BroomAnswer.TheVariants as by
@@ -112,55 +115,116 @@ around a b c d t first last grown =
 before_it : (a b c : Broom) (t : Tally) → IsElse a b → Grew (view_of_broom b) t (view_of_broom c) → Grew (view_of_broom a) t (view_of_broom c)
 before_it a b c t first grown = subst (λ (x : View). Grew x t (view_of_broom c)) (ap view_of_broom first) grown
 
-survey_grows : (limit : ℕ) (a b : Broom) (d : Drain) → DrainOneTold limit a d b → Grew (view_of_broom a) (survey_adds d) (view_of_broom b)
-survey_grows limit a b (drain.Drained block copied) told =
-    let did = told.drain.drain.0 in
-    let from = told.drain.relieved in
-    let to = told.drained in
-    around a from to b (drain_adds (drain.Drained block copied)) told.drain.first.rest told.handed.rest
-    (grown_drain (view_of_broom from) (view_of_broom to) copied _
-    (ap (λ (x : View). x.role) did.changed) (ap (λ (x : View). x.drains) did.changed) (ap (λ (x : View). x.moves) did.changed)
-    (ap (λ (x : View). x.erases) did.changed) (ap (λ (x : View). x.lost) did.changed))
-survey_grows limit a b drain.NothingToGain told =
-    let is = told.drain.0.0.changed in
-    before_it a told.relieved b (survey_adds drain.NothingToGain) told.first.rest
-    (grown_none (view_of_broom told.relieved) (view_of_broom b) (survey_adds drain.NothingToGain) refl refl refl refl
-    (ap (λ (x : View). x.role) is) (ap (λ (x : View). x.drains) is)
-    (ap (λ (x : View). x.moves) is) (ap (λ (x : View). x.erases) is) (ap (λ (x : View). x.lost) is))
-survey_grows limit a b drain.NoSpare told =
-    before_it a told.relieved b nothing_done told.first.rest
-    (grown_same (view_of_broom told.relieved) (view_of_broom b) nothing_done refl refl refl refl told.drain.0.view)
-survey_grows limit a b drain.Lost told =
-    let lost = told.drain.0.0 in
-    let is = lost.changed in
-    before_it a told.relieved b (drain_adds drain.Lost) told.first.rest
-    (grown_lost (view_of_broom told.relieved) (view_of_broom b) lost.block
-    (ap (λ (x : View). x.role) is) (ap (λ (x : View). x.drains) is) (ap (λ (x : View). x.moves) is)
-    (ap (λ (x : View). x.erases) is) (ap (λ (x : View). x.lost) is))
-survey_grows limit a b drain.QueueFull told = grown_same (view_of_broom a) (view_of_broom b) nothing_done refl refl refl refl (ap view_of_broom told.rest)
+-- what a view grew by before which a survey was made
+behind_survey : (a r : Broom) (b : ℕ) (w : View) (t : Tally) → Chosen (view_of_broom a) b r → Grew (view_of_broom r) t w → Grew (view_of_broom a) t w
+behind_survey a r b w t chosen grew =
+    let is = chosen.changed in
+    record {
+      role = grew.role ∙ ap (λ (x : View). x.role) is;
+      drains = subst (λ (l : List Cycle). GrowsBy t.drained l w.drains) (ap (λ (x : View). x.drains) is) grew.drains;
+      moves = grew.moves ∙ ap (λ (x : View). x.moves + t.moved) is;
+      erases = subst (λ (l : List Cycle). GrowsBy t.erased l w.erases) (ap (λ (x : View). x.erases) is) grew.erases;
+      lost = subst (λ (l : List ℕ). GrowsBy t.lost l w.lost) (ap (λ (x : View). x.lost) is) grew.lost;
+    }
 
-next_grows : (limit : ℕ) (a b : Broom) (d : Drain) → DrainNextOneTold limit a d b → Grew (view_of_broom a) (drain_adds d) (view_of_broom b)
-next_grows limit a b (drain.Drained block copied) told =
-    let did = told.drain.drain.1 in
+drain_grows : (a b : Broom) (d : Drain) → DrainTold a d b → Grew (view_of_broom a) (survey_adds d) (view_of_broom b)
+drain_grows a b (drain.Drained block copied) did =
+    grown_drain (view_of_broom a) (view_of_broom b) copied _
+    (ap (λ (x : View). x.role) did.changed) (ap (λ (x : View). x.drains) did.changed) (ap (λ (x : View). x.moves) did.changed)
+    (ap (λ (x : View). x.erases) did.changed) (ap (λ (x : View). x.lost) did.changed)
+drain_grows a b drain.NothingToGain told =
+    let is = told.0.changed in
+    grown_none (view_of_broom a) (view_of_broom b) (survey_adds drain.NothingToGain) refl refl refl refl
+    (ap (λ (x : View). x.role) is) (ap (λ (x : View). x.drains) is) (ap (λ (x : View). x.moves) is)
+    (ap (λ (x : View). x.erases) is) (ap (λ (x : View). x.lost) is)
+drain_grows a b drain.NoSpare told = grown_same (view_of_broom a) (view_of_broom b) nothing_done refl refl refl refl told.view
+drain_grows a b drain.Lost told =
+    let is = told.0.changed in
+    grown_lost (view_of_broom a) (view_of_broom b) told.0.block
+    (ap (λ (x : View). x.role) is) (ap (λ (x : View). x.drains) is) (ap (λ (x : View). x.moves) is)
+    (ap (λ (x : View). x.erases) is) (ap (λ (x : View). x.lost) is)
+drain_grows a b drain.QueueFull told = absurd told
+
+next_grows : (a b : Broom) (d : Drain) → NextTold a d b → Grew (view_of_broom a) (drain_adds d) (view_of_broom b)
+next_grows a b (drain.Drained block copied) told =
+    let is = told.1.changed in
+    grown_drain (view_of_broom a) (view_of_broom b) copied _
+    (ap (λ (x : View). x.role) is) (ap (λ (x : View). x.drains) is) (ap (λ (x : View). x.moves) is)
+    (ap (λ (x : View). x.erases) is) (ap (λ (x : View). x.lost) is)
+next_grows a b drain.NothingToGain told = grown_same (view_of_broom a) (view_of_broom b) nothing_done refl refl refl refl told.1
+next_grows a b drain.NoSpare told = grown_same (view_of_broom a) (view_of_broom b) nothing_done refl refl refl refl told.0.view
+next_grows a b drain.Lost told =
+    let is = told.2 in
+    grown_lost (view_of_broom a) (view_of_broom b) told.0
+    (ap (λ (x : View). x.role) is) (ap (λ (x : View). x.drains) is) (ap (λ (x : View). x.moves) is)
+    (ap (λ (x : View). x.erases) is) (ap (λ (x : View). x.lost) is)
+next_grows a b drain.QueueFull told = absurd told
+
+-- a block without live pages, and its drain
+inspected_grows : (r b : Broom) (block : ℕ) (d : Drain) → InspectedTold r block d b → Grew (view_of_broom r) (survey_adds d) (view_of_broom b)
+inspected_grows r b block (drain.Drained one copied) told =
+    let is = told.2.changed in
+    grown_drain (view_of_broom r) (view_of_broom b) copied _
+    (ap (λ (x : View). x.role) is) (ap (λ (x : View). x.drains) is)
+    (ap (λ (x : View). x.moves) is ∙ (sym (add-zero (view_of_broom r).moves) ∙ ap (λ (n : ℕ). (view_of_broom r).moves + n) (sym told.1)))
+    (ap (λ (x : View). x.erases) is) (ap (λ (x : View). x.lost) is)
+inspected_grows r b block drain.NothingToGain told = absurd told
+inspected_grows r b block drain.NoSpare told = elim told.0 [
+  | inl other ↦
+      let is = other.changed in
+      grown_none (view_of_broom r) (view_of_broom b) nothing_done refl refl refl refl
+      (ap (λ (x : View). x.role) is) (ap (λ (x : View). x.drains) is) (ap (λ (x : View). x.moves) is)
+      (ap (λ (x : View). x.erases) is) (ap (λ (x : View). x.lost) is)
+  | inr live ↦
+      let is = live.stopped.changed in
+      grown_none (view_of_broom r) (view_of_broom b) nothing_done refl refl refl refl
+      (ap (λ (x : View). x.role) is) (ap (λ (x : View). x.drains) is) (ap (λ (x : View). x.moves) is)
+      (ap (λ (x : View). x.erases) is) (ap (λ (x : View). x.lost) is)
+]
+inspected_grows r b block drain.Lost told =
+    let is = told.0.changed in
+    grown_lost (view_of_broom r) (view_of_broom b) block
+    (ap (λ (x : View). x.role) is) (ap (λ (x : View). x.drains) is) (ap (λ (x : View). x.moves) is)
+    (ap (λ (x : View). x.erases) is) (ap (λ (x : View). x.lost) is)
+inspected_grows r b block drain.QueueFull told = absurd told
+
+surveyed_grows : (a b : Broom) (d : Drain) → DeadBySurvey a d b → Grew (view_of_broom a) (survey_adds d) (view_of_broom b)
+surveyed_grows a b d told = behind_survey a told.1 told.0 (view_of_broom b) (survey_adds d) told.2.chosen (inspected_grows told.1 b told.0 d told.4)
+
+dead_grows : (a b : Broom) (d : Drain) → DeadTold a d b → Grew (view_of_broom a) (survey_adds d) (view_of_broom b)
+dead_grows a b (drain.Drained block copied) told = surveyed_grows a b (drain.Drained block copied) told
+dead_grows a b drain.NothingToGain told =
+    let is = told.0.gained.changed in
+    grown_none (view_of_broom a) (view_of_broom b) (survey_adds drain.NothingToGain) refl refl refl refl
+    (ap (λ (x : View). x.role) is) (ap (λ (x : View). x.drains) is) (ap (λ (x : View). x.moves) is)
+    (ap (λ (x : View). x.erases) is) (ap (λ (x : View). x.lost) is)
+dead_grows a b drain.NoSpare told = elim told [
+  | inl live ↦
+      behind_survey a b live.0 (view_of_broom b) nothing_done live.1.chosen
+      (grown_same (view_of_broom b) (view_of_broom b) nothing_done refl refl refl refl refl)
+  | inr dead ↦ surveyed_grows a b drain.NoSpare dead
+]
+dead_grows a b drain.Lost told = surveyed_grows a b drain.Lost told
+dead_grows a b drain.QueueFull told = absurd told
+
+-- what a turn's view grew by is what its drain's did, and nothing where the queue was full
+turn_grows : (Told : Broom → Drain → Broom → Type 0) (adds : Drain → Tally) → adds drain.QueueFull ≡ nothing_done
+    → ((a b : Broom) (d : Drain) → Told a d b → Grew (view_of_broom a) (adds d) (view_of_broom b)) → (limit : ℕ) (a b : Broom) (d : Drain)
+    → TurnTold Told limit a d b → Grew (view_of_broom a) (adds d) (view_of_broom b)
+turn_grows Told adds none grows limit a b (drain.Drained block copied) told =
     let from = told.drain.relieved in
     let to = told.drained in
-    around a from to b (drain_adds (drain.Drained block copied)) told.drain.first.rest told.handed.rest
-    (grown_drain (view_of_broom from) (view_of_broom to) copied _
-    (ap (λ (x : View). x.role) did.changed) (ap (λ (x : View). x.drains) did.changed) (ap (λ (x : View). x.moves) did.changed)
-    (ap (λ (x : View). x.erases) did.changed) (ap (λ (x : View). x.lost) did.changed))
-next_grows limit a b drain.NothingToGain told =
-    before_it a told.relieved b nothing_done told.first.rest
-    (grown_same (view_of_broom told.relieved) (view_of_broom b) nothing_done refl refl refl refl told.drain.1)
-next_grows limit a b drain.NoSpare told =
-    before_it a told.relieved b nothing_done told.first.rest
-    (grown_same (view_of_broom told.relieved) (view_of_broom b) nothing_done refl refl refl refl told.drain.0.view)
-next_grows limit a b drain.Lost told =
-    let is = told.drain.2 in
-    before_it a told.relieved b (drain_adds drain.Lost) told.first.rest
-    (grown_lost (view_of_broom told.relieved) (view_of_broom b) told.drain.0
-    (ap (λ (x : View). x.role) is) (ap (λ (x : View). x.drains) is) (ap (λ (x : View). x.moves) is)
-    (ap (λ (x : View). x.erases) is) (ap (λ (x : View). x.lost) is))
-next_grows limit a b drain.QueueFull told = grown_same (view_of_broom a) (view_of_broom b) nothing_done refl refl refl refl (ap view_of_broom told.rest)
+    around a from to b (adds (drain.Drained block copied)) told.drain.first.rest told.handed.rest
+    (grows from to (drain.Drained block copied) told.drain.drain)
+turn_grows Told adds none grows limit a b drain.NothingToGain told =
+    before_it a told.relieved b (adds drain.NothingToGain) told.first.rest (grows told.relieved b drain.NothingToGain told.drain)
+turn_grows Told adds none grows limit a b drain.NoSpare told =
+    before_it a told.relieved b (adds drain.NoSpare) told.first.rest (grows told.relieved b drain.NoSpare told.drain)
+turn_grows Told adds none grows limit a b drain.Lost told =
+    before_it a told.relieved b (adds drain.Lost) told.first.rest (grows told.relieved b drain.Lost told.drain)
+turn_grows Told adds none grows limit a b drain.QueueFull told =
+    subst (λ (t : Tally). Grew (view_of_broom a) t (view_of_broom b)) (sym none)
+    (grown_same (view_of_broom a) (view_of_broom b) nothing_done refl refl refl refl (ap view_of_broom told.rest))
 
 erase_grows : (limit : ℕ) (a b : Broom) (e : Erase) → EraseOneTold limit a e b → Grew (view_of_broom a) (erase_adds e) (view_of_broom b)
 erase_grows limit a b (erase.Erased block true) told =
@@ -253,6 +317,48 @@ erase_adds_none erase.Pinned = refl
 erase_adds_none erase.Stale = refl
 erase_adds_none erase.QueueEmpty = refl
 
+-- nor does a drain of a block without live pages
+inspected_keeps : (r b : Broom) (block : ℕ) (d : Drain) → InspectedTold r block d b → (view_of_broom b).programs ≡ (view_of_broom r).programs
+inspected_keeps r b block (drain.Drained one copied) told = ap (λ (x : View). x.programs) told.2.changed
+inspected_keeps r b block drain.NothingToGain told = absurd told
+inspected_keeps r b block drain.NoSpare told = elim told.0 [
+  | inl other ↦ ap (λ (x : View). x.programs) other.changed
+  | inr live ↦ ap (λ (x : View). x.programs) live.stopped.changed
+]
+inspected_keeps r b block drain.Lost told = ap (λ (x : View). x.programs) told.0.changed
+inspected_keeps r b block drain.QueueFull told = absurd told
+
+surveyed_keeps : (a b : Broom) (d : Drain) → DeadBySurvey a d b → (view_of_broom b).programs ≡ (view_of_broom a).programs
+surveyed_keeps a b d told = inspected_keeps told.1 b told.0 d told.4 ∙ ap (λ (x : View). x.programs) told.2.chosen.changed
+
+dead_keeps : (a b : Broom) (d : Drain) → DeadTold a d b → (view_of_broom b).programs ≡ (view_of_broom a).programs
+dead_keeps a b (drain.Drained block copied) told = surveyed_keeps a b (drain.Drained block copied) told
+dead_keeps a b drain.NothingToGain told = ap (λ (x : View). x.programs) told.0.gained.changed
+dead_keeps a b drain.NoSpare told = elim told [
+  | inl live ↦ ap (λ (x : View). x.programs) live.1.chosen.changed
+  | inr dead ↦ surveyed_keeps a b drain.NoSpare dead
+]
+dead_keeps a b drain.Lost told = surveyed_keeps a b drain.Lost told
+dead_keeps a b drain.QueueFull told = absurd told
+
+dead_turn_keeps : (limit : ℕ) (a b : Broom) (d : Drain) → DrainDeadOneTold limit a d b → (view_of_broom b).programs ≡ (view_of_broom a).programs
+dead_turn_keeps limit a b (drain.Drained block copied) told =
+    let from = told.drain.relieved in
+    let to = told.drained in
+    kept_around a from to b told.drain.first.rest told.handed.rest (dead_keeps from to (drain.Drained block copied) told.drain.drain)
+dead_turn_keeps limit a b drain.NothingToGain told =
+    kept_before a told.relieved b told.first.rest (dead_keeps told.relieved b drain.NothingToGain told.drain)
+dead_turn_keeps limit a b drain.NoSpare told = kept_before a told.relieved b told.first.rest (dead_keeps told.relieved b drain.NoSpare told.drain)
+dead_turn_keeps limit a b drain.Lost told = kept_before a told.relieved b told.first.rest (dead_keeps told.relieved b drain.Lost told.drain)
+dead_turn_keeps limit a b drain.QueueFull told = ap (λ (x : Broom). (view_of_broom x).programs) told.rest
+
+survey_adds_none : (d : Drain) → (survey_adds d).programmed ≡ 0
+survey_adds_none (drain.Drained block copied) = refl
+survey_adds_none drain.NothingToGain = refl
+survey_adds_none drain.NoSpare = refl
+survey_adds_none drain.Lost = refl
+survey_adds_none drain.QueueFull = refl
+
 -- and neither does a restock
 spare_keeps : (v : View) (x : BroomBlocks) (w : View) (y : BroomBlocks) → HadSpare v x w y ⊎ DidRestock v x w y → w.programs ≡ v.programs
 spare_keeps v x w y (inl had) = ap (λ (z : View). z.programs) had.view
@@ -264,9 +370,16 @@ restock_keeps a b false told = ap (λ (z : View). z.programs) told.changed
 
 call_grows : (limit : ℕ) (a b : Broom) (x : BroomAnswer) → CallTold limit a x b → HasGrown (view_of_broom a) (answer_adds x) (view_of_broom b)
 call_grows limit a b (by.Drain given programmed) told =
-    with_programs (view_of_broom a) (view_of_broom b) (survey_adds given) programmed (survey_grows limit a b given told.0) told.1
+    with_programs (view_of_broom a) (view_of_broom b) (survey_adds given) programmed
+    (turn_grows (λ x given y. DrainTold x given y × SurveyLeft x given y) survey_adds refl (λ x y d done. drain_grows x y d done.0) limit a b given told.0)
+    told.1
 call_grows limit a b (by.DrainNext given programmed) told =
-    with_programs (view_of_broom a) (view_of_broom b) (drain_adds given) programmed (next_grows limit a b given told.0) told.1
+    with_programs (view_of_broom a) (view_of_broom b) (drain_adds given) programmed
+    (turn_grows NextTold drain_adds refl next_grows limit a b given told.0) told.1
+call_grows limit a b (by.DrainDead given) told =
+    with_none (view_of_broom a) (view_of_broom b) (survey_adds given) (survey_adds_none given)
+    (turn_grows DeadTold survey_adds refl dead_grows limit a b given told)
+    (dead_turn_keeps limit a b given told)
 call_grows limit a b (by.Erase given) told =
     with_none (view_of_broom a) (view_of_broom b) (erase_adds given) (erase_adds_none given) (erase_grows limit a b given told)
     (erase_keeps limit a b given told)

@@ -94,6 +94,7 @@ call_lists : (limit : ℕ) (a b : Broom) (x : BroomAnswer) → CallTold limit a 
     → ((answer_adds x).pinned ≡ listed_by_erase busy_in a x b) × ((answer_adds x).stale ≡ listed_by_erase stale_in a x b)
 call_lists limit a b (by.Drain given programmed) told = survey_finds_none given
 call_lists limit a b (by.DrainNext given programmed) told = drain_finds_none given
+call_lists limit a b (by.DrainDead given) told = survey_finds_none given
 call_lists limit a b (by.Erase given) told = (erase_lists_busy limit a b given told, erase_lists_stale limit a b given told)
 call_lists limit a b (by.Restock given) told = (refl, refl)
 

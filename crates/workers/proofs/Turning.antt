@@ -1,5 +1,6 @@
 -- A turn of a broom, call by call.
-use Rattle.std.proofs.Common.{◌≡◌, ℕ, ◌+◌, ◌-◌, ◌≤◌, Bool, true, false, List, [], ◌∷◌, ◌++◌, length, refl, sym, ap, ◌∙◌, subst, append_assoc, append-nil, arith}
+use Rattle.std.proofs.Common.{◌≡◌, ℕ, ◌+◌, ◌-◌, ◌≤◌, Bool, true, false, List, [], ◌∷◌, ◌++◌}
+use Rattle.std.proofs.Common.{length, refl, sym, ap, ◌∙◌, subst, append_assoc, append-nil, arith, inl, inr}
 use Rattle.std.specs.Prelude.{◌||◌}
 use mathlib.Core.Bool.{true≢false}
 use Rattle.std.specs.List.{flat_map, list_any}
@@ -13,7 +14,7 @@ use Rattle.broom.specs.declared.answer.Erase.{Erase}
 use Rattle.workers.specs.declared.broom_answer.BroomAnswer.{BroomAnswer}
 use Rattle.workers.specs.declared.broom_answer.BroomAnswer.TheVariants as by
 use Rattle.workers.specs.declared.collector.Collector.{Collector}
-use Rattle.workers.specs.Collecting.{HasCollectedBy, HasFollowed, HasTakenTurn}
+use Rattle.workers.specs.Collecting.{HasCollectedBy, HasFollowed, HasSearched, HasTakenTurn}
 use Rattle.workers.specs.Turns.{Follows, GoesOn, TurnDrain, by_last_survey, by_new_survey, found_no_spare, has_drained, has_erased, has_gained, is_last}
 use Rattle.workers.proofs.Collected.{collected_by_then}
 
@@ -68,6 +69,10 @@ or_turned true false = refl
 or_turned false true = refl
 or_turned false false = refl
 
+or_false : (a : Bool) → a ≡ (a || false)
+or_false true = refl
+or_false false = refl
+
 pub next_drain : (s t u v : Collector) (made : ℕ) (given next : Drain) (programmed : ℕ) (gained more now : Bool) → TurnSoFar s made given gained t
     → is_last given ≡ false → made + 1 ≤ s.drains → HasCollectedBy t (by.DrainNext next programmed ∷ []) u → HasFollowed u next more v
     → now ≡ (more || gained) → TurnSoFar s (made + 1) next now v
@@ -111,18 +116,41 @@ is_spareless drain.NoSpare = refl
 is_spareless drain.Lost = refl
 is_spareless drain.QueueFull = refl
 
+-- a search that found a spare, and one that went on to a drain of a block without live pages
+pub searched_found : (s t : Collector) (found : Bool) → found ≡ true → HasCollectedBy s (by.Restock found ∷ []) t → HasSearched s true t
+searched_found s t found is restock = record {
+  answers = by.Restock true ∷ [];
+  search = inl refl;
+  told = refl;
+  collected = subst (λ (b : Bool). HasCollectedBy s (by.Restock b ∷ []) t) is restock;
+}
+
+pub searched_dead : (s t u : Collector) (found : Bool) (dead : Drain) (gained : Bool) → found ≡ false → HasCollectedBy s (by.Restock found ∷ []) t
+    → HasCollectedBy t (by.DrainDead dead ∷ []) u → gained ≡ has_drained dead → HasSearched s gained u
+searched_dead s t u found dead gained none restock drained is = record {
+  answers = by.Restock false ∷ by.DrainDead dead ∷ [];
+  search = inr (dead, refl);
+  told = is ∙ or_false (has_drained dead);
+  collected = subst (λ (b : Bool). HasCollectedBy s (by.Restock b ∷ by.DrainDead dead ∷ []) u) none
+      (collected_by_then s t u (by.Restock found ∷ []) (by.DrainDead dead ∷ []) restock drained);
+}
+
 -- what followed a drain that found no spare, and what followed another one
-pub followed_spareless : (s t u : Collector) (given : Drain) (erased : Erase) (found gained : Bool) → found_no_spare given ≡ true
-    → HasCollectedBy s (by.Erase erased ∷ []) t → HasCollectedBy t (by.Restock found ∷ []) u
-    → gained ≡ (found || (has_drained given || has_erased erased)) → HasFollowed s given gained u
-followed_spareless s t u given erased found gained none erase restock is = record {
-  behind = by.Erase erased ∷ by.Restock found ∷ [];
-  follows = record { erased = erased; spareless = λ same. (found, refl); other = λ differs. absurd (true≢false (sym none ∙ differs)) };
-  told = is ∙ each (has_drained given) (has_erased erased) found;
-  collected = collected_by_then s t u (by.Erase erased ∷ []) (by.Restock found ∷ []) erase restock;
+pub followed_spareless : (s t u : Collector) (given : Drain) (erased : Erase) (more gained : Bool) → found_no_spare given ≡ true
+    → HasCollectedBy s (by.Erase erased ∷ []) t → HasSearched t more u
+    → gained ≡ (more || (has_drained given || has_erased erased)) → HasFollowed s given gained u
+followed_spareless s t u given erased more gained none erase searched is = record {
+  behind = by.Erase erased ∷ searched.answers;
+  follows = record {
+    erased = erased;
+    spareless = λ same. (searched.answers, searched.search, refl);
+    other = λ differs. absurd (true≢false (sym none ∙ differs));
+  };
+  told = is ∙ (each (has_drained given) (has_erased erased) more ∙ ap (λ (b : Bool). has_drained given || (has_erased erased || b)) searched.told);
+  collected = collected_by_then s t u (by.Erase erased ∷ []) searched.answers erase searched.collected;
 }
   where
-    each : (a b c : Bool) → (c || (a || b)) ≡ (a || (b || (c || false)))
+    each : (a b c : Bool) → (c || (a || b)) ≡ (a || (b || c))
     each true true true = refl
     each true true false = refl
     each true false true = refl
@@ -137,10 +165,6 @@ pub followed_other : (s t : Collector) (given : Drain) (erased : Erase) (gained 
 followed_other s t given erased gained differs erase is = record {
   behind = by.Erase erased ∷ [];
   follows = record { erased = erased; spareless = λ none. absurd (true≢false (sym none ∙ differs)); other = λ different. refl };
-  told = is ∙ ap (λ (b : Bool). has_drained given || b) (each (has_erased erased));
+  told = is ∙ ap (λ (b : Bool). has_drained given || b) (or_false (has_erased erased));
   collected = erase;
 }
-  where
-    each : (a : Bool) → a ≡ (a || false)
-    each true = refl
-    each false = refl

@@ -6,7 +6,7 @@ use Rattle.erase_queue.specs.Queue.{limit_of}
 use Rattle.flash_rule.specs.declared.view.View.{View}
 use Rattle.broom.specs.declared.answer.Drain.{Drain}
 use Rattle.broom.specs.declared.broom.Broom.{Broom}
-use Rattle.broom.specs.Handing.{DrainNextOneTold, DrainOneTold, EraseOneTold, HandsNothing}
+use Rattle.broom.specs.Handing.{DrainDeadOneTold, DrainNextOneTold, DrainOneTold, EraseOneTold, HandsNothing}
 use Rattle.broom.specs.Ready.{view_of_broom}
 use Rattle.broom.specs.Restocking.{RestockTold}
 use Rattle.broom.specs.Told.{KeepsSurvey}
@@ -16,7 +16,7 @@ use Rattle.workers.specs.declared.broom_answer.BroomAnswer.TheVariants as by
 use Rattle.workers.specs.declared.collector.Collector.{Collector}
 use Rattle.workers.specs.Growing.{GrowsBy, HasGrown, busy_in, stale_in}
 use Rattle.workers.specs.Tallies.{IsCounted, added, total_of, wrapped}
-use Rattle.workers.specs.Turns.{AreTurns, Follows, IsTurn, has_drained, has_gained}
+use Rattle.workers.specs.Turns.{AreTurns, Follows, IsSearch, IsTurn, has_drained, has_gained}
 
 -- A restock had this result. It doesn't use the queue, and the broom keeps its last survey
 pub record HasRestocked (before : Broom) (given : Bool) (after : Broom) : Type 0 where
@@ -32,6 +32,7 @@ HasProgrammed n before after = GrowsBy n (view_of_broom before).programs (view_o
 abbrev pub CallTold : ℕ → Broom → BroomAnswer → Broom → Type 0
 CallTold limit before (by.Drain given programmed) after = DrainOneTold limit before given after × HasProgrammed programmed before after
 CallTold limit before (by.DrainNext given programmed) after = DrainNextOneTold limit before given after × HasProgrammed programmed before after
+CallTold limit before (by.DrainDead given) after = DrainDeadOneTold limit before given after
 CallTold limit before (by.Erase given) after = EraseOneTold limit before given after
 CallTold limit before (by.Restock given) after = HasRestocked before given after
 
@@ -44,6 +45,7 @@ HasMadeCalls limit before (answer ∷ answers) after = (next : Broom) × CallTol
 abbrev pub listed_by_erase : (View → List ℕ) → Broom → BroomAnswer → Broom → ℕ
 listed_by_erase list_of before (by.Drain given programmed) after = 0
 listed_by_erase list_of before (by.DrainNext given programmed) after = 0
+listed_by_erase list_of before (by.DrainDead given) after = 0
 listed_by_erase list_of before (by.Erase given) after = length (list_of (view_of_broom after)) - length (list_of (view_of_broom before))
 listed_by_erase list_of before (by.Restock given) after = 0
 
@@ -70,6 +72,13 @@ pub record HasCollectedBy (before : Collector) (answers : List BroomAnswer) (aft
   pub grown : HasGrown (view_of_broom before.broom) (total_of answers) (view_of_broom after.broom)
   pub pinned : (total_of answers).pinned ≡ listed_by_erases busy_in (limit_at before) before.broom answers after.broom calls
   pub stale : (total_of answers).stale ≡ listed_by_erases stale_in (limit_at before) before.broom answers after.broom calls
+
+-- A search for a spare was made, and nothing else was done. It is known whether it has gained something
+pub record HasSearched (before : Collector) (gained : Bool) (after : Collector) : Type 0 where
+  pub answers : List BroomAnswer
+  pub search : IsSearch answers
+  pub told : gained ≡ list_any has_gained answers
+  pub collected : HasCollectedBy before answers after
 
 -- What followed a drain with this result was done, and nothing else. It is known whether the drain or what followed it has gained something
 pub record HasFollowed (before : Collector) (given : Drain) (gained : Bool) (after : Collector) : Type 0 where

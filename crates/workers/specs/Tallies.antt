@@ -41,6 +41,7 @@ erase_adds erase.QueueEmpty = nothing_done
 abbrev pub answer_adds : BroomAnswer → Tally
 answer_adds (by.Drain given programmed) = record (survey_adds given) { programmed = programmed }
 answer_adds (by.DrainNext given programmed) = record (drain_adds given) { programmed = programmed }
+answer_adds (by.DrainDead given) = survey_adds given
 answer_adds (by.Erase given) = erase_adds given
 answer_adds (by.Restock given) = nothing_done
 

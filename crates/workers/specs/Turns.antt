@@ -1,5 +1,5 @@
 -- In which order a broom makes its calls, by their answers: one turn after another.
-use Rattle.std.specs.Prelude.{◌≡◌, ◌-◌, ◌≤◌, ℕ, All, Bool, true, false, List, [], ◌∷◌, ◌++◌, length}
+use Rattle.std.specs.Prelude.{◌≡◌, ◌-◌, ◌≤◌, ℕ, All, Bool, true, false, List, [], ◌∷◌, ◌++◌, ◌⊎◌, length}
 use Rattle.std.specs.List.{flat_map}
 use Rattle.broom.specs.declared.answer.Drain.{Drain}
 use Rattle.broom.specs.declared.answer.Drain.TheVariants as drain
@@ -36,6 +36,7 @@ has_erased erase.QueueEmpty = false
 abbrev pub has_gained : BroomAnswer → Bool
 has_gained (by.Drain given programmed) = has_drained given
 has_gained (by.DrainNext given programmed) = has_drained given
+has_gained (by.DrainDead given) = has_drained given
 has_gained (by.Erase given) = has_erased given
 has_gained (by.Restock given) = given
 
@@ -47,10 +48,16 @@ found_no_spare drain.NoSpare = true
 found_no_spare drain.Lost = false
 found_no_spare drain.QueueFull = false
 
--- These are the answers of what follows a drain with this result: of an erase, and then, exactly if the drain found no spare, of a restock
+-- these are the answers of a search for a spare: of a restock, and then, exactly if that found none, of a drain of a block without live
+-- pages
+abbrev pub IsSearch : List BroomAnswer → Type 0
+IsSearch answers = (answers ≡ by.Restock true ∷ []) ⊎ ((dead : Drain) × (answers ≡ by.Restock false ∷ by.DrainDead dead ∷ []))
+
+-- These are the answers of what follows a drain with this result: of an erase, and then, exactly if the drain found no spare, of a search
+-- for one
 pub record Follows (given : Drain) (answers : List BroomAnswer) : Type 0 where
   pub erased : Erase
-  pub spareless : found_no_spare given ≡ true → (found : Bool) × (answers ≡ by.Erase erased ∷ by.Restock found ∷ [])
+  pub spareless : found_no_spare given ≡ true → (search : List BroomAnswer) × IsSearch search × (answers ≡ by.Erase erased ∷ search)
   pub other : found_no_spare given ≡ false → answers ≡ by.Erase erased ∷ []
 
 -- a drain of a turn: its result, how many pages it programmed for copies, and the answers of what followed it

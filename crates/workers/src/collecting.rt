@@ -1,7 +1,7 @@
 //! What a broom does while the workers of a round play.
 ghost use Rattle.std.specs.Prelude.{◌≡◌, ◌||◌, ℕ, [], ◌∷◌};
 ghost use Rattle.workers.specs.declared.broom_answer.BroomAnswer.TheVariants as by;
-ghost use Rattle.workers.specs.Collecting.{HasCollected, HasCollectedBy, HasFollowed, HasTakenTurn};
+ghost use Rattle.workers.specs.Collecting.{HasCollected, HasCollectedBy, HasFollowed, HasSearched, HasTakenTurn};
 ghost use Rattle.workers.specs.Turns as turns;
 
 use crate::broom_answer::BroomAnswer;
@@ -83,6 +83,14 @@ impl Collector {
         drain
     }
 
+    fn drain_dead<G: Gate>(&mut self, rt: &impl Wait, gate: &mut G) -> Drain
+        ensures { HasCollectedBy self.old (by.DrainDead result ∷ []) self.new }
+    {
+        let drain = self.volume.drain_dead_one(rt, &mut self.broom, gate);
+        self.tally = self.tally.with_answer(BroomAnswer::DrainDead(drain));
+        drain
+    }
+
     fn erase<G: Gate>(&mut self, rt: &impl Wait, gate: &mut G) -> Erase
         ensures { HasCollectedBy self.old (by.Erase result ∷ []) self.new }
     {
@@ -99,14 +107,26 @@ impl Collector {
         has_spare
     }
 
-    // What follows a drain: an erase, and a restock if the drain found no spare. Returns whether the drain or these gained anything.
+    // Looks for a spare: a restock or, if no block is free, a drain of a block without live pages, whose erase gives one. Returns whether
+    // these gained anything.
+    fn search<G: Gate>(&mut self, rt: &impl Wait, gate: &mut G) -> bool
+        ensures { HasSearched self.old result self.new }
+    {
+        if self.restock() {
+            return true;
+        }
+        let drain = self.drain_dead(rt, gate);
+        has_drained(drain)
+    }
+
+    // What follows a drain: an erase, and a search for a spare if the drain found none. Returns whether the drain or these gained anything.
     fn follow<G: Gate>(&mut self, drain: Drain, rt: &impl Wait, gate: &mut G) -> bool
         ensures { HasFollowed self.old drain result self.new }
     {
         let erase = self.erase(rt, gate);
         let gained = have_gained(drain, erase);
         if drain == Drain::NoSpare {
-            return self.restock() || gained;
+            return self.search(rt, gate) || gained;
         }
         gained
     }

@@ -114,6 +114,7 @@ impl Tally {
             BroomAnswer::DrainNext(drain, programmed) => {
                 Tally::of_drain(drain).with_programmed(programmed)
             }
+            BroomAnswer::DrainDead(drain) => Tally::of_survey(drain),
             BroomAnswer::Erase(erase) => Tally::of_erase(erase),
             BroomAnswer::Restock(_) => Tally::new(),
         }

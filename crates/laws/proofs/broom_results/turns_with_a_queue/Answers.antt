@@ -10,6 +10,9 @@ returns-clause-lost c x y h = (h.relieved, h.first, h.drain.0, h.drain.1, h.apar
 pub returns-clause-next : goal.returns-clause-next
 returns-clause-next c x y h = (h.relieved, h.first, h.drain, h.apart)
 
+pub returns-clause-dead : goal.returns-clause-dead
+returns-clause-dead c x y h = (h.relieved, h.first, h.drain, h.apart)
+
 pub returns-clause-erased : goal.returns-clause-erased
 returns-clause-erased c b k x y h = (h.0, h.1.fetched, h.1.first, h.1.erase, h.1.marks, h.1.apart)
 

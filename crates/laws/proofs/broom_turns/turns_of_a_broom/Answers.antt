@@ -1,5 +1,5 @@
-use Rattle.std.proofs.Common.{◌≡◌, ◌≤◌, ◌++◌, ℕ, Bool, true, false, List, [], ◌∷◌, length, refl, sym, ap, ◌∙◌, append-nil, arith}
-use Rattle.std.specs.List.{flat_map}
+use Rattle.std.proofs.Common.{◌≡◌, ◌++◌, ℕ, Bool, true, false, List, [], ◌∷◌, inl, inr, refl, sym, ap, ◌∙◌, append-nil, arith}
+use Rattle.std.specs.List.{flat_map, list_any}
 use Rattle.std.proofs.lemmas.List.Elements.{All-cons, All-nil}
 use Rattle.broom.specs.declared.answer.Drain.{Drain}
 use Rattle.broom.specs.declared.answer.Drain.TheVariants as drain
@@ -21,24 +21,40 @@ with_erase given programmed e found =
       follows = record { erased = e; spareless = λ none. let wrong : false ≡ true = sym found ∙ none in absurd (cc); other = λ other. refl };
     }
 
--- at most two calls follow a drain
-few_behind : (given : Drain) (answers : List BroomAnswer) → Follows given answers → length answers ≤ 2
-few_behind given answers h = each (found_no_spare given) refl
-  where
-    each : (none : Bool) → found_no_spare given ≡ none → length answers ≤ 2
-    each true is = omega (arith, ap length (h.spareless is).1)
-    each false is = omega (arith, ap length (h.other is))
+-- whether a call is a drain by the last survey
+abbrev is_next : BroomAnswer → Bool
+is_next (by.Drain given programmed) = false
+is_next (by.DrainNext given programmed) = true
+is_next (by.DrainDead given) = false
+is_next (by.Erase given) = false
+is_next (by.Restock given) = false
 
--- four calls aren't one drain with what follows it
-not_one : (first : TurnDrain) (answers : List BroomAnswer) → length answers ≡ 4 → answers ≡ by_new_survey first ++ [] → ⊥
-not_one first answers four are =
-    omega (arith, few_behind first.given first.behind first.follows, four, ap length are, ap length (append-nil (by_new_survey first)))
+-- none of the calls that follow a drain is one
+none_next : (given : Drain) (answers : List BroomAnswer) → Follows given answers → list_any is_next answers ≡ false
+none_next given answers h = each (found_no_spare given) refl
+  where
+    each : (none : Bool) → found_no_spare given ≡ none → list_any is_next answers ≡ false
+    each true is =
+        let search = h.spareless is in elim search.1 [
+          | inl found ↦ ap (list_any is_next) (search.2 ∙ ap (λ l. by.Erase h.erased ∷ l) found)
+          | inr none ↦ ap (list_any is_next) (search.2 ∙ ap (λ l. by.Erase h.erased ∷ l) none.1)
+        ]
+    each false is = ap (list_any is_next) (h.other is)
+
+-- calls with one aren't one drain with what follows it
+not_one : (first : TurnDrain) (answers : List BroomAnswer) → list_any is_next answers ≡ true → answers ≡ by_new_survey first ++ [] → ⊥
+not_one first answers next are =
+    let none = none_next first.given first.behind first.follows in
+    let wrong : true ≡ false =
+    sym next ∙ (ap (list_any is_next) are ∙ (ap (list_any is_next) (append-nil (by_new_survey first)) ∙ none)) in
+    absurd (cc)
 
 -- the result of the drain by a new survey with which calls begin
 first_given : List BroomAnswer → Drain
 first_given [] = drain.Lost
 first_given (by.Drain given programmed ∷ answers) = given
 first_given (by.DrainNext given programmed ∷ answers) = drain.Lost
+first_given (by.DrainDead given ∷ answers) = drain.Lost
 first_given (by.Erase given ∷ answers) = drain.Lost
 first_given (by.Restock given ∷ answers) = drain.Lost
 

@@ -1,0 +1,188 @@
+// to_the_end [DEVICES [SEED]]: small devices of random numbers, whose clients write and trim at random until each was refused some times. The last
+// refusal may not be early: when a write is refused, no block is free, and no broom could win one back. Who reads the blocks and the map afterwards
+// sees it: no block is free, none is drained, and none that has an erase left is closed with a dead page. No time decides: a write that waits for
+// what can't come ends the test.
+#define NBDKIT_API_VERSION 2
+#include <nbdkit-plugin.h>
+#include <stdarg.h>
+#include <stdio.h>
+#include <stdlib.h>
+#include <string.h>
+#include <unistd.h>
+
+#include "../device.h"
+
+enum { PAGE = 8, MOST_BLOCKS = 30, MOST_PAGES = 8, MOST_CLIENTS = 4, MOST_OF_A_REQUEST = 4, MOST_REFUSALS = 12, PATIENCE_S = 240, DEVICES = 200 };
+
+static struct device device;
+static unsigned tried;
+static int failures;
+static _Atomic int has_ended;
+
+static void fail(const char *form, ...) {
+    const struct options *o = &device.options;
+    va_list words;
+    va_start(words, form);
+    printf("device %u (%u sectors, %u blocks of %u pages, endurance %u, %u handles, %u brooms): ", tried, o->sectors, o->blocks, o->pages, o->endurance,
+           o->hosts, o->brooms);
+    vprintf(form, words);
+    printf("\n");
+    va_end(words);
+    failures++;
+}
+
+// The plugin may tell that the device is full, and nothing else.
+void nbdkit_error(const char *form, ...) {
+    if (strstr(form, "no block is free"))
+        return;
+    char text[500];
+    va_list words;
+    va_start(words, form);
+    vsnprintf(text, sizeof text, form, words);
+    va_end(words);
+    fail("%s", text);
+}
+
+void nbdkit_set_error(int error) {
+    (void) error;
+}
+
+void nbdkit_debug(const char *form, ...) {
+    (void) form;
+}
+
+int options_worn_error(const struct options *options) {
+    (void) options;
+    return -1;
+}
+
+void options_tell_refusal(const struct options *options, uint32_t code) {
+    (void) options;
+    fail("refused (%u)", code);
+}
+
+static uint32_t draw(uint32_t *random, uint32_t count) {
+    *random = *random * 1664525 + 1013904223;
+    return (uint32_t) ((*random >> 8) * (uint64_t) count >> 24);
+}
+
+static void choose(uint32_t *random) {
+    struct options *o = &device.options;
+    *o = (struct options){.page = PAGE, .luns = 1, .wait = 10000 * PATIENCE_S};
+    o->hosts = 1 + draw(random, MOST_CLIENTS);
+    o->brooms = draw(random, 8) ? 1 + draw(random, 3) : 0;
+    o->pages = 1 + draw(random, MOST_PAGES);
+    uint32_t kept = o->hosts + 2 * o->brooms;
+    o->blocks = kept + 2 + draw(random, MOST_BLOCKS - kept - 1);
+    o->spare_blocks = 1 + draw(random, o->blocks - kept - 1);
+    o->sectors = (o->blocks - kept - o->spare_blocks) * o->pages + 1;
+    o->endurance = 1 + draw(random, draw(random, 2) ? 4 : 20);
+    o->low = 1 + draw(random, 3);
+    o->high = o->low + draw(random, 3);
+}
+
+// ---- Clients.
+
+static void *read_at_random(void *unused) {
+    uint8_t page[PAGE];
+    uint32_t random = tried;
+    (void) unused;
+    while (!atomic_load(&has_ended))
+        device_read(&device, page, PAGE, draw(&random, device.options.sectors) * (uint64_t) PAGE);
+    return NULL;
+}
+
+// A skewed draw, so that some blocks stay live and others die.
+static void *write_until_refused(void *number) {
+    static const uint8_t zeros[MOST_OF_A_REQUEST * PAGE];
+    uint32_t random = tried * 31 + *(uint32_t *) number, refusals = 1 + draw(&random, MOST_REFUSALS), skew = draw(&random, 3);
+    while (refusals > 0) {
+        uint32_t sector = draw(&random, device.options.sectors), left;
+        for (uint32_t i = 0; i < skew; i++)
+            sector = draw(&random, sector + 1);
+        left = device.options.sectors - sector;
+        uint32_t count = (1 + draw(&random, left < MOST_OF_A_REQUEST ? left : MOST_OF_A_REQUEST)) * PAGE;
+        if (draw(&random, 8) == 0)
+            device_trim(&device, count, sector * (uint64_t) PAGE);
+        else
+            refusals -= device_write(&device, zeros, count, sector * (uint64_t) PAGE) == -1;
+    }
+    return NULL;
+}
+
+static void start(pthread_t *thread, void *(*run)(void *), uint32_t *number) {
+    if (pthread_create(thread, NULL, run, number))
+        abort();
+}
+
+static void run_clients(uint32_t count) {
+    pthread_t reader, clients[MOST_CLIENTS];
+    uint32_t numbers[MOST_CLIENTS];
+    atomic_store(&has_ended, 0);
+    start(&reader, read_at_random, NULL);
+    for (uint32_t i = 0; i < count; i++) {
+        numbers[i] = i;
+        start(&clients[i], write_until_refused, &numbers[i]);
+    }
+    for (uint32_t i = 0; i < count; i++)
+        pthread_join(clients[i], NULL);
+    atomic_store(&has_ended, 1);
+    pthread_join(reader, NULL);
+}
+
+// ---- What is left.
+
+static void count_live(uint32_t *live) {
+    struct mintlintel_seat *host = &device.host_seats[0];
+    memset(live, 0, MOST_BLOCKS * sizeof *live);
+    for (uint32_t sector = 0; sector < device.options.sectors; sector++) {
+        struct mintlintel_page page;
+        if (mintlintel_host_hold(host, sector) != MINTLINTEL_WRITTEN)
+            continue;
+        mintlintel_host_held(host, &page);
+        mintlintel_host_release(host);
+        live[page.block]++;
+    }
+}
+
+static void look_for_more(void) {
+    uint32_t live[MOST_BLOCKS];
+    if (device.options.brooms == 0)
+        return;
+    count_live(live);
+    if (device.stock.open_count > 0)
+        fail("a write was refused, and %u handles have room", device.stock.open_count);
+    for (uint32_t block = 0; block < device.options.blocks; block++) {
+        struct mintlintel_state state;
+        mintlintel_broom_block(&device.broom_seats[0], block, &state);
+        int can_be_erased = state.erases + 1 < device.options.endurance;
+        if (state.phase == MINTLINTEL_PHASE_FREE)
+            fail("a write was refused, and block %u is free", block);
+        else if (can_be_erased && state.phase == MINTLINTEL_PHASE_CLOSED && live[block] < device.options.pages)
+            fail("a write was refused, and block %u can be won back: %u of its pages are live, after %u erases", block, live[block], state.erases);
+        else if (can_be_erased && state.phase > MINTLINTEL_PHASE_CLOSED)
+            fail("a write was refused, and block %u is being won back (phase %u)", block, state.phase);
+        if (device.brooms.erases[block] != state.erases && state.phase != MINTLINTEL_PHASE_RETIRED)
+            fail("block %u was erased %u times, and %u are counted", block, state.erases, device.brooms.erases[block]);
+    }
+}
+
+static void try_one(uint32_t *random) {
+    choose(random);
+    if (device_open(&device) == -1 || device_start(&device) == -1)
+        abort();
+    run_clients(1 + draw(random, MOST_CLIENTS));
+    device_stop(&device);
+    look_for_more();
+    device_close(&device);
+}
+
+int main(int count, char **words) {
+    unsigned devices = count > 1 ? (unsigned) atoi(words[1]) : DEVICES;
+    uint32_t random = count > 2 ? (uint32_t) atoi(words[2]) : 1;
+    alarm(PATIENCE_S);
+    for (tried = 0; tried < devices && failures < 10; tried++)
+        try_one(&random);
+    printf("%u devices\n", tried);
+    return failures > 0;
+}

@@ -1,0 +1,17 @@
+use Rattle.std.proofs.Common.{refl, subst}
+use Rattle.erase_queue.specs.Queue.{limit_of}
+use Rattle.volume.specs.declared.volume.Volume.{Volume}
+use Rattle.volume.specs.Volume.{queue_of}
+use Rattle.workers.specs.declared.broom_answer.BroomAnswer.TheVariants as by
+use Rattle.workers.specs.Collecting.{CallTold}
+use Rattle.workers.proofs.Collected.{collected_one}
+use Rattle.workers.proofs.collector.Collector.drain_dead.Goals as goal
+
+pub returns : goal.returns
+returns g c =
+    let self = c.args.self.now in
+    let answer = by.DrainDead c.drain_dead_one-drain.result in
+    let broom = c.drain_dead_one-drain.new.broom in
+    collected_one self _ answer refl refl
+    (subst (λ (v : Volume). CallTold (limit_of (queue_of v)) self.broom answer broom) c.deref.ensures c.drain_dead_one-drain.ensures.told)
+    c.with_answer-self.ensures
