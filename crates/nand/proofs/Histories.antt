@@ -3,13 +3,13 @@ use Rattle.std.proofs.Common.{◌≡◌, ◌⊎◌, ◌∙◌, inl, inr, ◌+◌
 use Rattle.std.proofs.Common.{get_or, set, refl, sym, ap, subst, arith}
 use Rattle.durable.specs.Flash.{Flash}
 use Rattle.durable.specs.Promise.{IsRecoverable}
-use Rattle.durable.specs.Updates.{Update}
+use Rattle.durable.specs.Updates.{Makes, Update}
 use Rattle.nand.specs.declared.failure.Failure.{Failure}
 use Rattle.nand.specs.declared.flash.Shape.{Shape}
 use Rattle.nand.specs.declared.history.Change.{Change}
 use Rattle.nand.specs.declared.layer.Durable.{Durable}
 use Rattle.nand.specs.declared.layer.NotOpened.{NotOpened}
-use Rattle.nand.specs.Histories.{Makes, Leads, update_by}
+use Rattle.nand.specs.Histories.{Leads, update_by}
 use Rattle.nand.specs.Opened.{CanOpen, Fails, IsOpenLayer, device_on, layer_sectors}
 
 module _ {N : Type 0} (flash : N → Flash) (shape : N → Shape) (update : Update) (before : List Update) where

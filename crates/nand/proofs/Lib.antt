@@ -1,4 +1,3 @@
-pub mod Subsequences
 pub mod Histories
 pub mod Steps
 pub mod Mounted

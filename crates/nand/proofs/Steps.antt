@@ -11,8 +11,8 @@ use Rattle.durable.specs.declared.memory.Core.{Core}
 use Rattle.durable.specs.Choice.{Spends, number_after}
 use Rattle.durable.specs.Commands.{is_program, updates_with}
 use Rattle.durable.specs.Device.{Device, device_of}
-use Rattle.durable.specs.Flash.{Flash, Recovers}
-use Rattle.durable.specs.Promise.{IsConsistent, IsRecoverable, KeepsAcknowledged}
+use Rattle.durable.specs.Flash.{Flash}
+use Rattle.durable.specs.Promise.{IsConsistent, IsRecoverable}
 use Rattle.durable.specs.Memory.{Represents}
 use Rattle.durable.specs.Updates.{Update, array_after, changed}
 use Rattle.durable.proofs.Promises.{survives_idle_cut}
@@ -23,7 +23,7 @@ use Rattle.nand.specs.declared.flash.Fault.TheVariants as fault
 use Rattle.nand.specs.declared.flash.Shape.{Shape}
 use Rattle.nand.specs.declared.layer.Durable.{Durable}
 use Rattle.nand.specs.Opened.{CanOpen, Fails, IsOpenLayer, IsRefusal, IsTrueCause, device_on, failure_of, layer_sectors, number_of, update_of}
-use Rattle.nand.proofs.Subsequences.{all_of, between_next, between_same}
+use Rattle.durable.proofs.Subsequences.{all_of, between_same}
 
 -- the program adds its update, and no other command does
 pub adds : (m : Command) (update : Update) (was : List Update) → is_program m ≡ true → updates_with m update was ≡ update ∷ was
@@ -50,28 +50,6 @@ nearer (Program at k) pages old new spends is goes = absurd (false≢true (sym i
 nearer (Copy k from to) pages old new spends is goes = omega (arith, spends.1)
 nearer (Erase b) pages old new spends is goes = omega (arith, spends.0, spends.1)
 nearer Refused pages old new spends is goes = absurd (goes refl)
-
--- the updates that a flash keeps, told exactly
-exact : (f : Flash) (sectors : ℕ) (updates found : List Update) → found ≡ updates → Recovers f sectors (array_after found)
-    → KeepsAcknowledged f sectors updates updates
-exact f sectors updates found is recovers = subst (λ (us : List Update). KeepsAcknowledged f sectors us us) is
-    (record { updates = found; includes = all_of found; included = all_of found; recovers = recovers })
-
--- what a power cut inside an update leaves has the array from before it, or the one from after it
-pub before_or_after : (f : Flash) (device : Device) (update : Update) (updates : List Update) → IsRecoverable f device updates (update ∷ updates)
-    → IsRecoverable f device updates updates ⊎ IsRecoverable f device (update ∷ updates) (update ∷ updates)
-before_or_after f device update updates is = ⊎_elim
-    (λ before. inl (record {
-      keeps = exact f device.sectors updates is.keeps.updates before is.keeps.recovers;
-      written = is.written;
-      spare = is.spare;
-    }))
-    (λ after. inr (record {
-      keeps = exact f device.sectors (update ∷ updates) is.keeps.updates after is.keeps.recovers;
-      written = is.written;
-      spare = is.spare;
-    }))
-    (between_next update updates is.keeps.updates is.keeps.includes is.keeps.included)
 
 -- an open layer's map is that of the array after its updates
 pub array_is : (f : Flash) (core : Core) (updates : List Update) (is : IsConsistent f core updates updates) (s : ℕ)

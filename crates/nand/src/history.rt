@@ -1,6 +1,6 @@
 ghost use Rattle.std.specs.Prelude.{◌≡◌, All, List, ◌∷◌, [], length, Ok, Err, OnOk, IfOk, IfErr};
-ghost use Rattle.durable.specs.Updates.{Update};
-ghost use Rattle.nand.specs.Histories.{Makes, IsFor, Leads, update_by};
+ghost use Rattle.durable.specs.Updates.{Makes, Update};
+ghost use Rattle.nand.specs.Histories.{IsFor, Leads, update_by};
 ghost use Rattle.nand.specs.Opened.{CanOpen, Fails, IsClosed, IsOpenLayer, IsSameDevice, IsTrueCause, layer_sectors};
 ghost use Rattle.nand.specs.declared.failure.Failure.TheVariants as failure;
 

@@ -10,7 +10,7 @@ ghost use Rattle.durable.specs.Updates.{Update};
 ghost use Rattle.durable.specs.declared.command.Command.TheVariants as command;
 ghost use Rattle.nand.specs.Cells.{IsWiped, contents_of, flash_in};
 ghost use Rattle.nand.specs.Chip.{Ends, HasSame, after_command, chip_bad, chip_erases, chip_faults, chip_flash, chip_shape, coming, schedule_of};
-ghost use Rattle.nand.specs.Histories.{Makes, IsFor, Leads, update_by};
+ghost use Rattle.nand.specs.Histories.{IsFor, Leads, update_by};
 ghost use Rattle.nand.specs.Nand.{CountsCut, CountsFault, Performs, ReadsMain, ReadsStamp, noted_of, value_with};
 ghost use Rattle.nand.specs.Opened.{CanOpen, Fails, IsClosed, IsOpenLayer, IsRefusal, IsSameDevice, IsTrueCause, ReadsSector};
 ghost use Rattle.nand.specs.Opened.{device_on, failure_of, layer_sectors, number_of, update_of};
@@ -212,11 +212,6 @@ pub fn histories()
     ensures short { (bytes : Vec ℕ OnHeap) → bytes.items ≡ [] → ¬ IsFor 8 1 (Write 7 bytes) }
     ensures last { IsFor 8 1 (Trim 7) }
     ensures past { ¬ IsFor 8 1 (Trim 8) }
-    ensures done { (u v : Update) → Makes true u (v ∷ []) (u ∷ v ∷ []) }
-    ensures lost { (u : Update) → ¬ Makes true u [] [] }
-    ensures before { (u : Update) → Makes false u [] [] }
-    ensures after { (u : Update) → Makes false u [] (u ∷ []) }
-    ensures other { (u v : Update) → u ≢ v → ¬ Makes false u [] (v ∷ []) }
     ensures in_order { (a b : Call) (u : Update) → Leads (a ∷ b ∷ []) (true ∷ true ∷ []) (u ∷ []) (update_by b ∷ update_by a ∷ u ∷ []) }
     ensures only { (a b : Call) (updates : List Update) → Leads (a ∷ b ∷ []) (true ∷ true ∷ []) [] updates → updates ≡ update_by b ∷ update_by a ∷ [] }
     ensures not_made { (a b : Call) (updates : List Update) → Leads (a ∷ b ∷ []) (true ∷ []) [] updates → updates ≡ update_by a ∷ [] }

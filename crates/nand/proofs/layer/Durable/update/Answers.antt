@@ -7,7 +7,8 @@ use Rattle.nand.specs.declared.failure.Failure.TheVariants as failure
 use Rattle.nand.specs.declared.flash.Shape.{Shape}
 use Rattle.nand.specs.Nand.{value_with}
 use Rattle.nand.specs.Opened.{IsOpenLayer, device_on, layer_sectors, update_of}
-use Rattle.nand.proofs.Steps.{adds, before_or_after, fails_open, is_readable, keeps, moved, no_refusal, same_number}
+use Rattle.durable.proofs.Exact.{before_or_after}
+use Rattle.nand.proofs.Steps.{adds, fails_open, is_readable, keeps, moved, no_refusal, same_number}
 use Rattle.nand.proofs.layer.Durable.update.Goals as goal
 use Rattle.nand.proofs.layer.Durable.update.Goals.{in-Refused, in_default}
 
