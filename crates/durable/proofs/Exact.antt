@@ -9,7 +9,7 @@ use Rattle.durable.specs.Device.{Device, device_of}
 use Rattle.durable.specs.Flash.{Flash, Recovers}
 use Rattle.durable.specs.Promise.{IsConsistent, IsReadable, IsRecoverable, KeepsAcknowledged}
 use Rattle.durable.specs.Updates.{AreMade, Update, array_after}
-use Rattle.durable.specs.Runs.{Event, Completed, CutBetween, CutInside, Failed, Runs, calls_in}
+use Rattle.durable.specs.Runs.{Event, Completed, CutBetween, CutInside, Failed, Runs, outcomes_in}
 use Rattle.durable.proofs.Promises.{readable, readable_renumbered, remounts, runs_consistent, survives_idle_cut}
 use Rattle.durable.proofs.Subsequences.{all_of, between_next, between_same}
 
@@ -56,20 +56,20 @@ not_done left t old new update calls updates made is mounts = ⊎_elim
     (λ after. (update ∷ updates, (updates, made, inr refl), mounts (update ∷ updates) (readable left old (update ∷ updates) (update ∷ updates) after)))
     (before_or_after left old update updates is)
 
-runs_made : (events : List Event) (f : Flash) (core : Core) → Runs events f core → IsMade (calls_in events) f core
+runs_made : (events : List Event) (f : Flash) (core : Core) → Runs events f core → IsMade (outcomes_in events) f core
 runs_made [] f core runs = ([], refl, runs_consistent [] f core runs)
 runs_made (Completed update m ∷ events) t new runs =
     let was = runs_made events runs.0 runs.1 runs.2 in
-    completed t new update m (calls_in events) was.0 was.1 (runs.3.1 runs.0 t update.value was.0 was.0 was.2 runs.3.0)
+    completed t new update m (outcomes_in events) was.0 was.1 (runs.3.1 runs.0 t update.value was.0 was.0 was.2 runs.3.0)
 runs_made (Failed update m ∷ events) t new runs =
     let was = runs_made events runs.0 runs.1 runs.2 in
-    not_done runs.3.0 t (device_of runs.1) new update (calls_in events) was.0 was.1
+    not_done runs.3.0 t (device_of runs.1) new update (outcomes_in events) was.0 was.1
     (runs.3.1 runs.0 runs.3.0 update.value was.0 was.0 was.2 runs.3.2)
     (λ all is. remounts t (device_of new) new all all runs.3.4 refl
     (readable_renumbered runs.3.0 t (device_of runs.1) (device_of new) all all runs.3.3 runs.3.5 is))
 runs_made (CutInside update m ∷ events) t new runs =
     let was = runs_made events runs.0 runs.1 runs.2 in
-    not_done t t (device_of runs.1) new update (calls_in events) was.0 was.1 (runs.3.0 runs.0 t update.value was.0 was.0 was.2 runs.3.1)
+    not_done t t (device_of runs.1) new update (outcomes_in events) was.0 was.1 (runs.3.0 runs.0 t update.value was.0 was.0 was.2 runs.3.1)
     (λ all is. remounts t (device_of runs.1) new all all runs.3.2 runs.3.3 is)
 runs_made (CutBetween ∷ events) t new runs =
     let was = runs_made events runs.0 runs.1 runs.2 in (
@@ -80,7 +80,7 @@ runs_made (CutBetween ∷ events) t new runs =
     )
 
 pub runs_each : (events : List Event) (f : Flash) (core : Core) → Runs events f core
-    → (updates : List Update) × AreMade (calls_in events) updates × Recovers f (device_of core).sectors (array_after updates)
+    → (updates : List Update) × AreMade (outcomes_in events) updates × Recovers f (device_of core).sectors (array_after updates)
 runs_each events f core runs =
     let is = runs_made events f core runs in
     let keeps = (survives_idle_cut core f is.0 is.0 is.2).keeps in

@@ -113,7 +113,7 @@ blank (Completed update m ∷ events) t new runs has c le p s n v held =
     let before = whole events runs.0 runs.1 runs.2 now in
     let is = blocks_are (device_of new) old runs.3.1.2 in
     let same = untouched runs.0 t old m update.sector update.value (names_of runs.1 m runs.0 events before runs.3.0)
-        (completes_cut runs.0 t m update.sector update.value runs.3.1.0) c p (omega (arith, le, is.0)) in
+    (completes_cut runs.0 t m update.sector update.value runs.3.1.0) c p (omega (arith, le, is.0)) in
     blank events runs.0 runs.1 runs.2 now c (omega (arith, le, is.0)) p s n v (sym same ∙ held)
 blank (Failed update m ∷ events) t new runs has c le p s n v held =
     let old = device_of runs.1 in
@@ -132,7 +132,7 @@ blank (CutInside update m ∷ events) t new runs has c le p s n v held =
     let before = whole events runs.0 runs.1 runs.2 now in
     let is = blocks_are (device_of new) old runs.3.1.3 in
     let same = untouched runs.0 t old m update.sector update.value (names_of runs.1 m runs.0 events before runs.3.0) runs.3.1.1 c p
-        (omega (arith, le, is.0)) in
+    (omega (arith, le, is.0)) in
     blank events runs.0 runs.1 runs.2 now c (omega (arith, le, is.0)) p s n v (sym same ∙ held)
 blank (CutBetween ∷ events) t new runs has c le p s n v held =
     let old = device_of runs.1 in

@@ -55,12 +55,12 @@ begun_in (CutInside update command ∷ events) = update ∷ begun_in events
 begun_in (CutBetween ∷ events) = begun_in events
 
 -- the calls of a run, the newest first, and whether each was acknowledged: its program has succeeded, or its command failed or was cut
-abbrev pub calls_in : List Event → List (Update × Bool)
-calls_in [] = []
-calls_in (Completed update command ∷ events) = if is_program command then (update, true) ∷ calls_in events else calls_in events
-calls_in (Failed update command ∷ events) = (update, false) ∷ calls_in events
-calls_in (CutInside update command ∷ events) = (update, false) ∷ calls_in events
-calls_in (CutBetween ∷ events) = calls_in events
+abbrev pub outcomes_in : List Event → List (Update × Bool)
+outcomes_in [] = []
+outcomes_in (Completed update command ∷ events) = if is_program command then (update, true) ∷ outcomes_in events else outcomes_in events
+outcomes_in (Failed update command ∷ events) = (update, false) ∷ outcomes_in events
+outcomes_in (CutInside update command ∷ events) = (update, false) ∷ outcomes_in events
+outcomes_in (CutBetween ∷ events) = outcomes_in events
 
 -- how many commands of a run have failed
 abbrev pub failures_in : List Event → ℕ

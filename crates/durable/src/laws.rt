@@ -15,7 +15,7 @@ ghost use Rattle.durable.specs.Memory.{IsMappedTo, map_entry};
 ghost use Rattle.durable.specs.Mounting.{IsStampOf, next_in, after_in};
 ghost use Rattle.durable.specs.Promise.{IsConsistent, IsReadable, IsRecoverable, KeepsAcknowledged};
 ghost use Rattle.durable.specs.Runs.{Completed, CutBetween, CutInside, Event, Failed, IsMountedFrom, Runs, RunsOnReserve};
-ghost use Rattle.durable.specs.Runs.{acknowledged_in, begun_in, calls_in, failures_in};
+ghost use Rattle.durable.specs.Runs.{acknowledged_in, begun_in, outcomes_in, failures_in};
 ghost use Rattle.durable.specs.Updates.{AreMade, IsSubsequence, Makes, Update, array_after, changed};
 ghost use Rattle.durable.specs.declared.command.Command.TheVariants as command;
 ghost use Rattle.durable.specs.declared.fault.MountFault.TheVariants.{NoFreeBlock};
@@ -302,10 +302,10 @@ pub fn runs()
         → IsMountedFrom t new }
     ensures failed_same { (events : List Event) (t : Flash) (new : Layer) (u : Update) → Runs (Failed u (command.Erase 1) ∷ events) t new
         → (f : Flash) × (old : Layer) × Runs events f old × IsSameFlashOf (device_of old) (device_of new) }
-    ensures call { (u v : Update) → calls_in (Completed u (command.Program (record { block = 1; page = 2 }) 5) ∷ Failed v (command.Erase 1) ∷ [])
+    ensures call { (u v : Update) → outcomes_in (Completed u (command.Program (record { block = 1; page = 2 }) 5) ∷ Failed v (command.Erase 1) ∷ [])
         ≡ (u, true) ∷ (v, false) ∷ [] }
-    ensures no_call { (u : Update) → calls_in (Completed u (command.Erase 1) ∷ CutBetween ∷ []) ≡ [] }
-    ensures cut_call { (u : Update) → calls_in (CutInside u (command.Program (record { block = 1; page = 2 }) 5) ∷ []) ≡ (u, false) ∷ [] }
+    ensures no_call { (u : Update) → outcomes_in (Completed u (command.Erase 1) ∷ CutBetween ∷ []) ≡ [] }
+    ensures cut_call { (u : Update) → outcomes_in (CutInside u (command.Program (record { block = 1; page = 2 }) 5) ∷ []) ≡ (u, false) ∷ [] }
     ensures counted { (u : Update) → failures_in (Failed u (command.Erase 1) ∷ Completed u (command.Erase 1) ∷ Failed u (command.Erase 2) ∷ []) ≡ 2 }
     ensures not_counted { (u : Update) → failures_in (CutInside u (command.Erase 1) ∷ CutBetween ∷ []) ≡ 0 }
 {}

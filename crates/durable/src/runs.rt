@@ -9,7 +9,7 @@ ghost use Rattle.durable.specs.Updates.{AreMade, Update, array_after};
 ghost use Rattle.durable.specs.declared.command.Command.{Command as Next};
 ghost use Rattle.durable.specs.declared.memory.Core.{Core as Layer};
 ghost use Rattle.durable.specs.Promise.{KeepsAcknowledged, IsReadable, IsRecoverable, IsConsistent};
-ghost use Rattle.durable.specs.Runs.{Event, Runs, RunsOnReserve, acknowledged_in, begun_in, calls_in, failures_in};
+ghost use Rattle.durable.specs.Runs.{Event, Runs, RunsOnReserve, acknowledged_in, begun_in, outcomes_in, failures_in};
 
 /// After any run of commands with any number of power cuts, each inside a command or between two, and with any number of commands that fail, a mount
 /// reads every acknowledged update.
@@ -23,7 +23,7 @@ pub fn keeps_acknowledged()
 
     // Told call by call: each acknowledged call has made its update, each other one has made it or not, and nothing else has.
     ensures each { (events : List Event) (f : Flash) (layer : Layer) → Runs events f layer
-        → (updates : List Update) × AreMade (calls_in events) updates × Recovers f (device_of layer).sectors (array_after updates) }
+        → (updates : List Update) × AreMade (outcomes_in events) updates × Recovers f (device_of layer).sectors (array_after updates) }
 {}
 
 /// What a command that fails leaves can be mounted, if the blocks are numbered so that one without versions comes in use: one in reserve, since no

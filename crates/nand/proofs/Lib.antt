@@ -1,4 +1,5 @@
 pub mod Histories
+pub mod Orders
 pub mod Steps
 pub mod Mounted
 pub mod Readings
