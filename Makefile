@@ -16,6 +16,7 @@ TOOLS := trace report sweep model simulate
 DOC := $(DESTDIR)$(PREFIX)/share/doc/mintlintel
 DRIVERS := flash.h mtd.c zone.c
 PROGRAM := crates/flashplay/out/flashplay
+IMAGE_PROGRAM := bindings/out/flashplay-image
 
 all:
 	./flashplay --prove
@@ -24,17 +25,19 @@ check:
 	@.ci/run
 
 install: all
+	$(MAKE) -C bindings
 	install -d $(LIB)/tools/simulation $(BIN) $(MAN) $(BASH) $(ZSH) $(DOC)/docs $(DOC)/bench $(DOC)/examples
 	install -m 755 -s $(PROGRAM) $(LIB)/flashplay
+	install -m 755 -s $(IMAGE_PROGRAM) $(LIB)/flashplay-image
 	install -m 755 $(TOOLS:%=tools/%) $(LIB)/tools
 	install -m 644 tools/simulation/*.py tools/simulation/*.css $(LIB)/tools/simulation
 	install -m 755 tools/flashplay $(BIN)/flashplay
 	for tool in $(TOOLS); do ln -sf ../lib/mintlintel/tools/$$tool $(BIN)/flashplay-$$tool; done
-	packaging/manual $(PROGRAM) $(VERSION) > $(MAN)/flashplay.1
+	packaging/manual $(PROGRAM) $(IMAGE_PROGRAM) $(VERSION) > $(MAN)/flashplay.1
 	for tool in $(TOOLS); do packaging/tool-manual $$tool $(VERSION) > $(MAN)/flashplay-$$tool.1; done
-	packaging/completion bash $(PROGRAM) > $(BASH)/flashplay
+	packaging/completion bash $(PROGRAM) $(IMAGE_PROGRAM) > $(BASH)/flashplay
 	for tool in $(TOOLS); do ln -sf flashplay $(BASH)/flashplay-$$tool; done
-	packaging/completion zsh $(PROGRAM) > $(ZSH)/_flashplay
+	packaging/completion zsh $(PROGRAM) $(IMAGE_PROGRAM) > $(ZSH)/_flashplay
 	install -m 644 README.md CHANGELOG.md CONTRIBUTING.md $(DOC)
 	install -m 644 docs/*.md docs/*.svg $(DOC)/docs
 	install -m 644 bench/*.md $(DOC)/bench
@@ -45,7 +48,7 @@ install: all
 	packaging/installed-links $(DOC)
 	commit=$$(git describe --always --abbrev=40 --dirty --exclude='*') && version=$$(rt version) && \
 	  printf 'commit %s\nproved with %s\n' "$$commit" "$$version" > $(LIB)/BUILT_FROM
-	if [ -e bindings/Makefile ]; then $(MAKE) -C bindings install DESTDIR=$(abspath $(DESTDIR)) PREFIX=$(PREFIX); fi
+	$(MAKE) -C bindings install DESTDIR=$(abspath $(DESTDIR)) PREFIX=$(PREFIX)
 	if [ -e bindings/python/packing.py ]; then install -d $(LIB)/python && cd bindings/python && MINTLINTEL_LIB=$(abspath $(DESTDIR))$(PREFIX)/lib \
 	  python3 -B -c 'import sys, packing; packing.build_wheel(sys.argv[1])' $(abspath $(DESTDIR))$(PREFIX)/lib/mintlintel/python; fi
 

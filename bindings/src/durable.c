@@ -23,6 +23,7 @@ struct mintlintel_flash {
     struct mintlintel_durable_numbers numbers;
     uint32_t *chip_block, *erases;
     uint8_t *state;
+    uint8_t *has_value; /* a bit for each sector: its newest page has a value. Where it is 0 the page's stamp says so */
     uint32_t used;
     uint32_t stranded; /* the first sector that may be in a block that isn't in use */
     int is_stuck, has_failed; /* such a sector can't be read; a block has failed and isn't marked */
@@ -133,6 +134,7 @@ static void free_flash(struct mintlintel_flash *flash)
         free(flash->chip_block);
         free(flash->erases);
         free(flash->state);
+        free(flash->has_value);
         free(flash->page);
         free(flash->moved);
         free(flash);
@@ -149,9 +151,10 @@ static struct mintlintel_flash *make_flash(const struct mintlintel_nand *nand, c
     flash->chip_block = calloc(numbers->blocks, sizeof *flash->chip_block);
     flash->erases = calloc(numbers->blocks, sizeof *flash->erases);
     flash->state = calloc(numbers->blocks, 1);
+    flash->has_value = calloc(numbers->sectors / 8 + 1, 1);
     flash->page = malloc(numbers->page_bytes);
     flash->moved = malloc(numbers->page_bytes);
-    if (flash->chip_block && flash->erases && flash->state && flash->page && flash->moved)
+    if (flash->chip_block && flash->erases && flash->state && flash->has_value && flash->page && flash->moved)
         return flash;
     free_flash(flash);
     return NULL;
@@ -346,6 +349,13 @@ static uint32_t refusal_of(const struct mintlintel_durable *device, uint32_t sec
     return bytes == device->flash->numbers.page_bytes ? MINTLINTEL_DONE : MINTLINTEL_NOT_A_PAGE;
 }
 
+/* Notes whether a sector's newest page has a value. */
+static void note_value(struct mintlintel_flash *flash, uint32_t sector, int has_value)
+{
+    uint8_t bit = (uint8_t)(1u << sector % 8), *bits = &flash->has_value[sector / 8];
+    *bits = has_value ? *bits | bit : *bits & (uint8_t)~bit;
+}
+
 /* Whether a sector is written: 1 or 0, or 28, or why each call is refused. A page that can't be read had something. */
 static uint32_t was(struct mintlintel_durable *device, uint32_t sector)
 {
@@ -353,11 +363,14 @@ static uint32_t was(struct mintlintel_durable *device, uint32_t sector)
     struct stamp stamp;
     if (device->flash->stopped)
         return device->flash->stopped;
+    if (device->flash->has_value[sector / 8] >> sector % 8 & 1)
+        return MINTLINTEL_WRITTEN;
     if (mintlintel_core_page(&device->core, sector, &at) != MINTLINTEL_WRITTEN)
         return MINTLINTEL_EMPTY;
     int reading = read_page(device->flash, at.block, at.page, NULL, &stamp);
     if (reading == 3)
         return stops(device->flash, MINTLINTEL_POWER_GONE);
+    note_value(device->flash, sector, reading == 0 && stamp.kind == STAMP_VALUE);
     return reading != 0 || stamp.kind == STAMP_VALUE ? MINTLINTEL_WRITTEN : MINTLINTEL_EMPTY;
 }
 
@@ -383,6 +396,7 @@ static uint32_t retire(struct mintlintel_durable *device, const struct mintlinte
 /* Gives a sector a new version. A block that fails on the way is given up, and the call goes on elsewhere. */
 static uint32_t update(struct mintlintel_durable *device, struct update update)
 {
+    note_value(device->flash, update.sector, 0);
     for (;;) {
         struct mintlintel_command command;
         uint32_t code = mintlintel_core_next(&device->core, update.sector, &command);
@@ -395,8 +409,10 @@ static uint32_t update(struct mintlintel_durable *device, struct update update)
             code = mintlintel_core_done(&device->core, update.sector, &command);
         if (code != MINTLINTEL_DONE)
             return stops(device->flash, code);
-        if (command.kind == PROGRAM && !has_failed)
+        if (command.kind == PROGRAM && !has_failed) {
+            note_value(device->flash, update.sector, update.bytes != NULL);
             return MINTLINTEL_DONE;
+        }
     }
 }
 

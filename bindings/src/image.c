@@ -4,6 +4,7 @@
 #include "mintlintel_image.h"
 #include "crc.h"
 #include "flash.h"
+#include "image_format.h"
 #include <errno.h>
 #include <fcntl.h>
 #include <libgen.h>
@@ -15,12 +16,6 @@
 #include <time.h>
 #include <unistd.h>
 
-enum { VERSION = 1, PART_BYTES = 4096, HEAD_BYTES = 2 * PART_BYTES, SPARE_BYTES = 32, CHECK_BYTES = 4, BOOT_BYTES = 36 };
-/* Where the fields of the head's first part stand, of its second part, and of a page's spare bytes. */
-enum { AT_VERSION = 8, AT_NUMBERS = 12, AT_STATE = 0, AT_MODE = 4, AT_BOOT = 8, AT_SESSION_CHECK = 44 };
-enum { AT_SPARE_CHECK = MINTLINTEL_STAMP_BYTES, AT_ASIDE = 28 };
-enum state { IN_USE = 1, CLOSED = 2 };
-
 static const uint8_t magic[8] = {0x89, 'M', 'N', 'T', 'L', '\r', '\n', 0x1a};
 
 struct mintlintel_image_file {
@@ -28,9 +23,9 @@ struct mintlintel_image_file {
     uint32_t reason;         /* MINTLINTEL_FILE_FAILED after one */
     enum mintlintel_image_mode mode;
     struct mintlintel_durable_numbers numbers;
-    uint64_t spare_bytes, block_bytes;
+    struct image_layout layout;
     int is_mounting, is_dirty, is_erased; /* bytes were written since the last sync; a block was erased since then */
-    uint32_t cached;         /* the block whose spare bytes are in `spares`, while mounting */
+    uint32_t cached;         /* the block whose spare bytes are in `spares`; it isn't programmed before it is erased */
     uint8_t *spares, *zeros, *page;
     off_t data_from, data_to; /* while mounting: no data stands between these places */
 };
@@ -41,11 +36,6 @@ static void put32(uint8_t *at, uint32_t value)
 {
     for (int i = 0; i < 4; i++)
         at[i] = (uint8_t)(value >> 8 * i);
-}
-
-static uint32_t get32(const uint8_t *at)
-{
-    return at[0] | (uint32_t)at[1] << 8 | (uint32_t)at[2] << 16 | (uint32_t)at[3] << 24;
 }
 
 /* Notes a failure of the file: every call returns it from now on. */
@@ -104,17 +94,17 @@ static int sync_file(struct mintlintel_image_file *file)
 
 static off_t spare_at(const struct mintlintel_image_file *file, uint32_t block, uint32_t page)
 {
-    return (off_t)(HEAD_BYTES + block * file->block_bytes + (uint64_t)page * SPARE_BYTES);
+    return (off_t)(HEAD_BYTES + block * file->layout.block_bytes + (uint64_t)page * SPARE_BYTES);
 }
 
 static off_t page_at(const struct mintlintel_image_file *file, uint32_t block, uint32_t page)
 {
-    return (off_t)(HEAD_BYTES + block * file->block_bytes + file->spare_bytes + (uint64_t)page * file->numbers.page_bytes);
+    return (off_t)(HEAD_BYTES + block * file->layout.block_bytes + file->layout.spare_bytes + (uint64_t)page * file->numbers.page_bytes);
 }
 
 static off_t length_of(const struct mintlintel_image_file *file)
 {
-    return (off_t)(HEAD_BYTES + file->numbers.blocks * file->block_bytes);
+    return (off_t)(HEAD_BYTES + file->numbers.blocks * file->layout.block_bytes);
 }
 
 /* ---- The chip ---- */
@@ -124,12 +114,11 @@ static int is_zero(const uint8_t *bytes, size_t count)
     return bytes[0] == 0 && memcmp(bytes, bytes + 1, count - 1) == 0;
 }
 
-/* What a page's spare bytes say: 0 a version, 1 erased, 2 neither. */
-static int reading_of(const uint8_t *spare)
+enum reading mtl_image_reading(const uint8_t *spare)
 {
     if (is_zero(spare, SPARE_BYTES))
-        return 1;
-    return get32(spare + AT_SPARE_CHECK) == mtl_crc(0, spare, AT_SPARE_CHECK) && get32(spare + AT_ASIDE) == 0 ? 0 : 2;
+        return IS_ERASED;
+    return mtl_get32(spare + AT_SPARE_CHECK) == mtl_crc(0, spare, AT_SPARE_CHECK) && mtl_get32(spare + AT_ASIDE) == 0 ? IS_VERSION : IS_NEITHER;
 }
 
 /* Whether this place of the file is in a hole, so that all up to the next data reads as zeros. */
@@ -151,7 +140,7 @@ static int load_spares(struct mintlintel_image_file *file, uint32_t block)
     if (file->cached == block)
         return 0;
     file->cached = UINT32_MAX;
-    if (is_hole(file, at, at + (off_t)count))
+    if (file->is_mounting && is_hole(file, at, at + (off_t)count))
         memset(file->spares, 0, count);
     else if (get(file, file->spares, count, at) != 0)
         return 3;
@@ -169,7 +158,7 @@ static int image_read(void *chip, uint32_t block, uint32_t page, void *main, voi
         spare = file->spares + (size_t)page * SPARE_BYTES;
     } else if (get(file, one, SPARE_BYTES, spare_at(file, block, page)) != 0)
         return 3;
-    int reading = reading_of(spare);
+    int reading = mtl_image_reading(spare);
     if (reading == 0 && main && get(file, main, file->numbers.page_bytes, page_at(file, block, page)) != 0)
         return 3;
     if (reading == 0)
@@ -191,17 +180,25 @@ static int image_program(void *chip, uint32_t block, uint32_t page, const void *
     return file->mode == MINTLINTEL_ALWAYS ? sync_file(file) : 0;
 }
 
+/* A block is collected page by page, so its spare bytes are read once. */
 static int image_copyback(void *chip, uint32_t from_block, uint32_t from_page, uint32_t block, uint32_t page)
 {
     struct mintlintel_image_file *file = chip;
-    uint8_t stamp[MINTLINTEL_STAMP_BYTES];
-    int reading = image_read(chip, from_block, from_page, file->page, stamp);
-    return reading == 0 ? image_program(chip, block, page, file->page, stamp) : failed(file, EIO);
+    if (load_spares(file, from_block) != 0)
+        return 3;
+    const uint8_t *spare = file->spares + (size_t)from_page * SPARE_BYTES;
+    if (mtl_image_reading(spare) != IS_VERSION)
+        return failed(file, EIO);
+    if (get(file, file->page, file->numbers.page_bytes, page_at(file, from_block, from_page)) != 0)
+        return 3;
+    return image_program(chip, block, page, file->page, spare);
 }
 
 static int image_erase(void *chip, uint32_t block)
 {
     struct mintlintel_image_file *file = chip;
+    if (block == file->cached)
+        file->cached = UINT32_MAX;
     if (file->mode == MINTLINTEL_FLUSH && sync_file(file) != 0)
         return 3;
     if (set(file, file->zeros, (size_t)file->numbers.pages * SPARE_BYTES, spare_at(file, block, 0)) != 0)
@@ -235,14 +232,14 @@ static uint32_t head_from(const uint8_t *part, struct mintlintel_image_head *hea
     memset(head, 0, sizeof *head);
     if (memcmp(part, magic, sizeof magic) != 0)
         return MINTLINTEL_NOT_AN_IMAGE;
-    head->version = get32(part + AT_VERSION);
+    head->version = mtl_get32(part + AT_VERSION);
     if (head->version != VERSION)
         return MINTLINTEL_OTHER_VERSION;
-    if (get32(part + PART_BYTES - CHECK_BYTES) != mtl_crc(0, part, PART_BYTES - CHECK_BYTES))
+    if (mtl_get32(part + PART_BYTES - CHECK_BYTES) != mtl_crc(0, part, PART_BYTES - CHECK_BYTES))
         return MINTLINTEL_NOT_AN_IMAGE;
     uint32_t *numbers[5] = {&head->numbers.luns, &head->numbers.blocks, &head->numbers.pages, &head->numbers.page_bytes, &head->numbers.sectors};
     for (int i = 0; i < 5; i++)
-        *numbers[i] = get32(part + AT_NUMBERS + 4 * i);
+        *numbers[i] = mtl_get32(part + AT_NUMBERS + 4 * i);
     return mtl_durable_fault(&head->numbers) == MINTLINTEL_DONE ? MINTLINTEL_DONE : MINTLINTEL_NOT_AN_IMAGE;
 }
 
@@ -298,11 +295,11 @@ static int needs_checks(struct mintlintel_image_file *file, uint32_t *mode)
 {
     uint8_t session[AT_SESSION_CHECK + CHECK_BYTES], boot[BOOT_BYTES];
     *mode = MINTLINTEL_FLUSH;
-    if (get(file, session, sizeof session, PART_BYTES) != 0 || get32(session + AT_SESSION_CHECK) != mtl_crc(0, session, AT_SESSION_CHECK))
+    if (get(file, session, sizeof session, PART_BYTES) != 0 || mtl_get32(session + AT_SESSION_CHECK) != mtl_crc(0, session, AT_SESSION_CHECK))
         return 1;
-    *mode = get32(session + AT_MODE);
+    *mode = mtl_get32(session + AT_MODE);
     read_boot(boot);
-    return get32(session + AT_STATE) != CLOSED && (boot[0] == 0 || memcmp(boot, session + AT_BOOT, BOOT_BYTES) != 0);
+    return mtl_get32(session + AT_STATE) != CLOSED && (boot[0] == 0 || memcmp(boot, session + AT_BOOT, BOOT_BYTES) != 0);
 }
 
 /* ---- After a power cut ---- */
@@ -311,7 +308,7 @@ static int needs_checks(struct mintlintel_image_file *file, uint32_t *mode)
 static int is_whole(struct mintlintel_image_file *file, uint32_t block, uint32_t page)
 {
     const uint8_t *spare = file->spares + (size_t)page * SPARE_BYTES;
-    if (reading_of(spare) != 0)
+    if (mtl_image_reading(spare) != 0)
         return 0;
     if (get(file, file->page, file->numbers.page_bytes, page_at(file, block, page)) != 0)
         return 3;
@@ -338,7 +335,7 @@ static int check_pages(struct mintlintel_image_file *file, uint32_t mode)
             if (whole == 3)
                 return 3;
             is_behind |= mode != MINTLINTEL_ALWAYS && !whole;
-            if ((is_behind || !whole) && reading_of(file->spares + (size_t)page * SPARE_BYTES) == 0 && set_aside(file, block, page) != 0)
+            if ((is_behind || !whole) && mtl_image_reading(file->spares + (size_t)page * SPARE_BYTES) == 0 && set_aside(file, block, page) != 0)
                 return 3;
         }
     }
@@ -370,11 +367,16 @@ static uint64_t in_whole_parts(uint64_t bytes)
     return (bytes + PART_BYTES - 1) / PART_BYTES * PART_BYTES;
 }
 
+struct image_layout mtl_image_layout(const struct mintlintel_durable_numbers *numbers)
+{
+    uint64_t spare_bytes = in_whole_parts((uint64_t)numbers->pages * SPARE_BYTES);
+    return (struct image_layout){spare_bytes, spare_bytes + in_whole_parts((uint64_t)numbers->pages * numbers->page_bytes)};
+}
+
 static void lay_out(struct mintlintel_image_file *file, const struct mintlintel_durable_numbers *numbers)
 {
     file->numbers = *numbers;
-    file->spare_bytes = in_whole_parts((uint64_t)numbers->pages * SPARE_BYTES);
-    file->block_bytes = file->spare_bytes + in_whole_parts((uint64_t)numbers->pages * numbers->page_bytes);
+    file->layout = mtl_image_layout(numbers);
     file->cached = UINT32_MAX;
 }
 
@@ -477,8 +479,8 @@ uint32_t mintlintel_image_open(struct mintlintel_image *image, const char *path,
     struct mintlintel_nand nand = {file, image_read, image_program, image_copyback, image_erase, NULL, NULL, image_sync};
     file->fd = -1;
     file->mode = mode;
-    uint32_t code = open_image(file, path, &numbers);
     file->is_mounting = 1;
+    uint32_t code = open_image(file, path, &numbers);
     if (code == MINTLINTEL_DONE)
         code = mtl_durable_open(&image->device, &nand, &file->numbers, &file->reason);
     file->is_mounting = 0;

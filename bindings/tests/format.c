@@ -77,7 +77,7 @@ static void check_after_a_cut(const char *path)
 
 static void check_crc(void)
 {
-    uint8_t zeros[32] = {0}, ones[32], rising[32], random[5000];
+    uint8_t zeros[32] = {0}, ones[32], rising[32], random[10000];
     uint64_t state = 88172645463325252u;
     memset(ones, 0xff, sizeof ones);
     for (int i = 0; i < 32; i++)

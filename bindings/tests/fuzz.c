@@ -1,5 +1,7 @@
-/* Makes sequences of calls from libFuzzer's bytes, on a device for one thread, and on two hosts and a broom of a shared one. Some calls have
- * a wrong sector, length, block or kind, or a closed handle. The models say what each call has to return. */
+/* Makes sequences of calls from libFuzzer's bytes, on a device for one thread, and on two hosts and one or two brooms of a shared one. Some calls
+ * have a wrong sector, length, block or kind, or a closed handle, and some opens an allocation that is refused. The models say what each call has
+ * to return. */
+#include "counted.h"
 #include "models.h"
 
 /* The calls that return a code, and how often each of them returned which. */
@@ -7,7 +9,7 @@ enum call {
     CALL_one_open, CALL_one_read, CALL_one_write, CALL_one_write_new, CALL_one_trim, CALL_one_counts, CALL_one_block, CALL_shared_open,
     CALL_seat_numbers, CALL_host_read, CALL_host_write, CALL_host_write_new, CALL_host_trim, CALL_host_look, CALL_host_hold, CALL_host_copy,
     CALL_host_word, CALL_host_held, CALL_host_release, CALL_broom_drain, CALL_broom_drain_next, CALL_broom_drain_dead, CALL_broom_erase, CALL_broom_restock,
-    CALL_broom_block, CALL_broom_counts, CALLS
+    CALL_broom_block, CALL_broom_counts, CALL_collect, CALL_write_within, CALLS
 };
 enum { CODES = 128 };
 #define CALL(name, ...) counted(CALL_##name, mintlintel_##name(__VA_ARGS__))
@@ -33,6 +35,20 @@ static struct shared_model m;
 static int one_is_open, held_value[HOSTS];
 static enum kind kinds[SEATS];
 static struct mintlintel_page held_page[HOSTS];
+
+/* Half of the opens find that one of their first allocations is refused. */
+static void refuse_by(uint32_t byte)
+{
+    granted = byte % 2 ? (long)byte / 2 % 32 : -1;
+    refusals = 0;
+}
+
+/* the code of an open that is refused for nothing else */
+static uint32_t opened(void)
+{
+    granted = -1;
+    return refusals > 0 ? MINTLINTEL_NO_MEMORY : MINTLINTEL_DONE;
+}
 
 static uint32_t next(struct input *in)
 {
@@ -103,8 +119,10 @@ static void one_call(struct input *in)
         code = CALL(one_trim, &one, sector);
         CHECK(code == (without ? without : one_trim(&o, sector)));
     } else if (call == 6) {
+        refuse_by(byte);
         code = CALL(one_open, &one, 1, byte < 64 ? 0 : BLOCKS, PAGES, WORDS, SECTORS, ENDURANCE);
-        CHECK(code == (one_is_open ? (uint32_t)MINTLINTEL_ALREADY_OPEN : byte < 64 ? (uint32_t)MINTLINTEL_BAD_BLOCKS : 0));
+        without = opened();
+        CHECK(code == (one_is_open ? (uint32_t)MINTLINTEL_ALREADY_OPEN : byte < 64 ? (uint32_t)MINTLINTEL_BAD_BLOCKS : without));
         if (code == 0)
             one_begin(&o);
         one_is_open |= code == 0;
@@ -148,7 +166,7 @@ static void host_call(uint32_t call, uint32_t seat, struct input *in)
         check_page(out, code == MINTLINTEL_WRITTEN, sector < SECTORS ? m.value[sector] : 0);
         break;
     case 1: case 2:
-        code = CALL(host_write, &seats[seat], sector, page, length);
+        code = call == 1 ? CALL(host_write, &seats[seat], sector, page, length) : CALL(write_within, &seats[seat], sector, page, length, 0);
         CHECK(code == (with_page ? with_page : shared_write(&m, (int)seat, sector, (int)byte, 0)));
         break;
     case 3:
@@ -210,20 +228,33 @@ static uint32_t block_by(uint32_t byte)
     return byte / 2 % (BLOCKS + 1);
 }
 
+/* the number of a broom's seat among the brooms */
+static int broom_of(uint32_t seat)
+{
+    return seat > SWEEP ? (int)(seat - SWEEP) : 0;
+}
+
 static void report_call(uint32_t seat, uint32_t block, uint32_t unfit_code)
 {
     struct mintlintel_state state = {7, 7, 7, 7}, expected = state;
     uint32_t wanted = unfit_code ? unfit_code : block >= BLOCKS ? MINTLINTEL_NO_SUCH_BLOCK : 0;
     if (!wanted)
-        expected = shared_block(&m, 0, block);
+        expected = shared_block(&m, broom_of(seat), block);
     CHECK(CALL(broom_block, &seats[seat], block, &state) == wanted && memcmp(&state, &expected, sizeof state) == 0);
 }
 
 static void counts_call(uint32_t seat, uint32_t unfit_code)
 {
     struct mintlintel_counts counts = {7, 7, 7, 7, 7, 7, 7, 7, 7}, expected = counts;
-    uint32_t wanted = unfit_code ? unfit_code : shared_counts(&m, 0, &expected);
+    uint32_t wanted = unfit_code ? unfit_code : shared_counts(&m, broom_of(seat), &expected);
     CHECK(CALL(broom_counts, &seats[seat], &counts) == wanted && memcmp(&counts, &expected, sizeof counts) == 0);
+}
+
+static void collect_call(uint32_t seat, uint32_t goal, uint32_t unfit_code)
+{
+    struct mintlintel_collected did = {7, 7, 7, 7, 7, 7}, expected = {0, 0, 0, 0, 0, 0};
+    uint32_t wanted = unfit_code ? unfit_code : shared_collect(&m, broom_of(seat), goal, &expected);
+    CHECK(CALL(collect, &seats[seat], goal, &did) == wanted && memcmp(&did, &expected, sizeof did) == 0);
 }
 
 static void broom_call(uint32_t call, uint32_t seat, struct input *in)
@@ -232,38 +263,40 @@ static void broom_call(uint32_t call, uint32_t seat, struct input *in)
     uint32_t block = 77, moved = 78, model_block = 77, model_moved = 78;
     if (call < 3) {
         code = call < 2 ? CALL(broom_drain, &seats[seat], &block, &moved) : CALL(broom_drain_next, &seats[seat], &block, &moved);
-        CHECK(code == (wanted ? wanted : shared_drain(&m, 0, call < 2, &model_block, &model_moved)));
+        CHECK(code == (wanted ? wanted : shared_drain(&m, broom_of(seat), call < 2, &model_block, &model_moved)));
         CHECK(block == model_block && moved == model_moved);
     } else if (call < 5) {
         wanted = wanted ? wanted : number >= BLOCKS ? MINTLINTEL_NO_SUCH_BLOCK : 0;
         code = CALL(broom_erase, &seats[seat], number);
-        CHECK(code == (wanted ? wanted : shared_erase(&m, 0, number)));
+        CHECK(code == (wanted ? wanted : shared_erase(&m, broom_of(seat), number)));
     } else if (call == 5) {
         code = CALL(broom_restock, &seats[seat]);
-        CHECK(code == (wanted ? wanted : shared_restock(&m, 0)));
+        CHECK(code == (wanted ? wanted : shared_restock(&m, broom_of(seat))));
     } else if (call == 6) {
         report_call(seat, number, wanted);
     } else if (call == 7) {
         counts_call(seat, wanted);
+    } else if (call == 8) {
+        collect_call(seat, number % 4, wanted);
     } else {
         code = CALL(broom_drain_dead, &seats[seat], &block, &moved);
-        CHECK(code == (wanted ? wanted : shared_drain_dead(&m, 0, &model_block, &model_moved)));
+        CHECK(code == (wanted ? wanted : shared_drain_dead(&m, broom_of(seat), &model_block, &model_moved)));
         CHECK(block == model_block && moved == model_moved);
     }
 }
 
-static void begin_shared(void)
+static void begin_shared(int brooms)
 {
-    shared_begin(&m);
+    shared_begin(&m, brooms);
     for (int seat = 0; seat < SEATS; seat++)
-        kinds[seat] = seat < HOSTS ? HOST : BROOM;
+        kinds[seat] = seat < HOSTS ? HOST : seat < SWEEP + brooms ? BROOM : CLOSED;
 }
 
 static void close_seat(uint32_t seat)
 {
     mintlintel_seat_close(&seats[seat]);
     if (kinds[seat] == BROOM)
-        shared_close_broom(&m, 0);
+        shared_close_broom(&m, broom_of(seat));
     else if (kinds[seat] != CLOSED)
         shared_close_host(&m, (int)seat);
     kinds[seat] = CLOSED;
@@ -272,16 +305,18 @@ static void close_seat(uint32_t seat)
 /* Opens a device for all seats, or fails as it must; or closes one. */
 static void seat_call(uint32_t call, uint32_t seat, struct input *in)
 {
-    struct mintlintel_numbers numbers = {7, 7, 7, 7, 7, 7, 7, 7}, wanted = {1, BLOCKS, PAGES, WORDS, SECTORS, ENDURANCE, HOSTS, BROOMS};
-    uint32_t byte = next(in), any = 0, code, hosts = byte < 32 ? 0 : HOSTS;
+    struct mintlintel_numbers numbers = {7, 7, 7, 7, 7, 7, 7, 7}, wanted = {1, BLOCKS, PAGES, WORDS, SECTORS, ENDURANCE, HOSTS, (uint32_t)m.broom_count};
+    uint32_t byte = next(in), any = 0, code, hosts = byte < 32 ? 0 : HOSTS, brooms = kinds[SEATS - 1] == CLOSED ? 1 + byte / 128 : BROOMS;
     switch (call) {
     case 0:
-        for (uint32_t i = hosts > 0 ? 0 : HOSTS; i < SEATS; i++)
+        for (uint32_t i = hosts > 0 ? 0 : HOSTS; i < HOSTS + brooms; i++)
             any |= kinds[i] != CLOSED;
-        code = CALL(shared_open, seats, hosts, &seats[SWEEP], BROOMS, 1, BLOCKS, PAGES, byte < 64 ? 0 : WORDS, SECTORS, ENDURANCE);
-        CHECK(code == (any ? (uint32_t)MINTLINTEL_ALREADY_OPEN : byte < 64 ? (uint32_t)MINTLINTEL_BAD_WORDS : 0));
+        refuse_by(byte);
+        code = CALL(shared_open, seats, hosts, &seats[SWEEP], brooms, 1, BLOCKS, PAGES, byte < 64 ? 0 : WORDS, SECTORS, ENDURANCE);
+        any = any ? (uint32_t)MINTLINTEL_ALREADY_OPEN : byte < 64 ? (uint32_t)MINTLINTEL_BAD_WORDS : 0;
+        CHECK(code == (opened() == MINTLINTEL_DONE || any ? any : (uint32_t)MINTLINTEL_NO_MEMORY));
         if (code == 0)
-            begin_shared();
+            begin_shared((int)brooms);
         break;
     case 1:
         if (byte < 8)
@@ -296,17 +331,17 @@ static void seat_call(uint32_t call, uint32_t seat, struct input *in)
 
 static void shared_call(struct input *in)
 {
-    uint32_t call = next(in) % 27, seat = next(in) % SEATS;
+    uint32_t call = next(in) % 28, seat = next(in) % SEATS;
     if (call < 9)
         host_call(call % 7, seat, in);
     else if (call < 13)
         holder_call(call - 9, seat, in);
-    else if (call < 22)
+    else if (call < 23)
         broom_call(call - 13, seat, in);
-    else if (call < 24)
-        broom_call(call - 21, SWEEP, in);
+    else if (call < 25)
+        broom_call(call - 22, SWEEP + seat % BROOMS, in);
     else
-        seat_call(call - 24, seat, in);
+        seat_call(call - 25, seat, in);
 }
 
 /* Each sector reads as the models have it, by each host. */
@@ -330,10 +365,11 @@ int LLVMFuzzerTestOneInput(const uint8_t *bytes, size_t size)
 {
     struct input in = {bytes, size};
     CHECK(CALL(one_open, &one, 1, BLOCKS, PAGES, WORDS, SECTORS, ENDURANCE) == 0);
-    CHECK(CALL(shared_open, seats, HOSTS, &seats[SWEEP], BROOMS, 1, BLOCKS, PAGES, WORDS, SECTORS, ENDURANCE) == 0);
+    int brooms = 1 + (int)(size % BROOMS);
+    CHECK(CALL(shared_open, seats, HOSTS, &seats[SWEEP], (size_t)brooms, 1, BLOCKS, PAGES, WORDS, SECTORS, ENDURANCE) == 0);
     one_is_open = 1;
     one_begin(&o);
-    begin_shared();
+    begin_shared(brooms);
     while (in.left > 0) {
         if (next(&in) % 3 == 0)
             one_call(&in);

@@ -1,5 +1,6 @@
-// Includes the header from C++, and uses a device for one thread.
-#include "mintlintel.h"
+// Includes the headers from C++, and uses a device for one thread.
+#include "mintlintel_image.h"
+#include "mintlintel_locked.h"
 #include <cstdio>
 #include <cstring>
 #include <vector>

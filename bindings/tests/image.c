@@ -186,6 +186,23 @@ static void copies(void)
     unlink(other);
 }
 
+/* Few sectors on few blocks, so that a block is often collected twice with no other collection between. */
+static void collections(void)
+{
+    struct mintlintel_image image = {0};
+    uint8_t page[PAGE_BYTES] = {0}, held[3] = {0};
+    CHECK(mintlintel_image_open(&image, other, MINTLINTEL_NEVER, 1, 3, 4, PAGE_BYTES, 3) == MINTLINTEL_DONE);
+    for (int round = 0; round < 20000; round++) {
+        uint32_t sector = drawn(&state) % 3;
+        page[0] = held[sector] = (uint8_t)(1 + round % 255);
+        CHECK(mintlintel_durable_write(&image.device, sector, page, sizeof page) <= MINTLINTEL_WRITTEN);
+        for (sector = 0; sector < 3; sector++)
+            CHECK(mintlintel_durable_read(&image.device, sector, page, sizeof page) == (held[sector] != 0) && (!held[sector] || page[0] == held[sector]));
+    }
+    mintlintel_image_close(&image);
+    unlink(other);
+}
+
 /* A file that can't grow: the call says so, and nothing that was acknowledged is lost. */
 static void full_disk(void)
 {
@@ -226,6 +243,7 @@ int main(int argc, char **argv)
     flipped_heads();
     flipped_pages();
     copies();
+    collections();
     full_disk();
     unlink(path);
     printf("image: sessions, refusals, flipped bytes, copies and a full disk agree with what was acknowledged\n");

@@ -1,6 +1,8 @@
-/* Memory of a device for one thread: each allocation of an open refused in turn, and a thousand opens and closes without growing. */
+/* Memory of a device for one thread: each allocation of an open refused in turn, a thousand opens and closes without growing, and large pages
+ * asked for in what an open takes and nowhere else. */
 #include "counted.h"
 #include "testing.h"
+#include <sys/mman.h>
 
 enum { PAGE = 64 };
 
@@ -57,12 +59,37 @@ static void test_reopening(int times)
     }
 }
 
+/* What the system was asked for, at the end of an open: the linker puts this in front of madvise. */
+static uint8_t *advised;
+static size_t advised_bytes;
+int __wrap_madvise(void *begin, size_t bytes, int advice);
+
+int __wrap_madvise(void *begin, size_t bytes, int advice)
+{
+    CHECK(advice == MADV_HUGEPAGE && (uintptr_t)begin % (2 << 20) == 0 && bytes % (2 << 20) == 0 && bytes > 0);
+    CHECK(last_bytes >= bytes && (uint8_t *)begin >= last && (uint8_t *)begin + bytes <= last + last_bytes);
+    advised = begin;
+    advised_bytes += bytes;
+    return -1;
+}
+
+static void test_large_pages(void)
+{
+    enum { WORDS = 512, BLOCKS = 500, PAGES = 32 };
+    size_t pages = (size_t)BLOCKS * PAGES * WORDS * 8;
+    struct mintlintel_one device = {0};
+    CHECK(advised == NULL && mintlintel_one_open(&device, 1, BLOCKS, PAGES, WORDS, 9000, 10) == MINTLINTEL_DONE);
+    CHECK(advised != NULL && advised_bytes > pages - 2 * (2 << 20));
+    mintlintel_one_close(&device);
+}
+
 int main(void)
 {
     long allocations = test_refused_allocations();
     CHECK(allocations > 0);
     test_open_handle_without_memory();
     test_reopening(1000);
+    test_large_pages();
     printf("memory_one: each of %ld allocations refused in turn, and 1000 opens left no block\n", allocations);
     return 0;
 }

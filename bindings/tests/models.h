@@ -5,7 +5,7 @@
 
 #include "testing.h"
 
-enum { SECTORS = 6, WORDS = 2, PAGE = 8 * WORDS, BLOCKS = 10, PAGES = 2, ENDURANCE = 4, HOSTS = 2, BROOMS = 1, NONE = -1 };
+enum { SECTORS = 6, WORDS = 2, PAGE = 8 * WORDS, BLOCKS = 10, PAGES = 2, ENDURANCE = 4, HOSTS = 2, BROOMS = 2, NONE = -1 };
 
 /* a page's place, or block NONE for an empty sector */
 struct place { int block, page; };
@@ -111,21 +111,22 @@ struct broom_model { int spare, destination; struct survey survey; };
 struct shared_model {
     struct shared_block blocks[BLOCKS];
     struct place places[SECTORS];
-    int value[SECTORS], opened[HOSTS], holds[HOSTS];
+    int value[SECTORS], opened[HOSTS], holds[HOSTS], broom_count;
     struct broom_model brooms[BROOMS];
 };
 
-static inline void shared_begin(struct shared_model *m)
+static inline void shared_begin(struct shared_model *m, int brooms)
 {
     memset(m, 0, sizeof *m);
+    m->broom_count = brooms;
     for (int sector = 0; sector < SECTORS; sector++)
         m->places[sector].block = NONE;
     for (int host = 0; host < HOSTS; host++)
         m->opened[host] = m->holds[host] = NONE;
-    for (int broom = 0; broom < BROOMS; broom++) {
+    for (int broom = 0; broom < brooms; broom++) {
         m->brooms[broom].destination = NONE;
-        m->brooms[broom].spare = BLOCKS - BROOMS + broom;
-        m->blocks[BLOCKS - BROOMS + broom].state.phase = OPENED;
+        m->brooms[broom].spare = BLOCKS - brooms + broom;
+        m->blocks[BLOCKS - brooms + broom].state.phase = OPENED;
     }
 }
 
@@ -143,6 +144,14 @@ static inline int lowest_free(struct shared_model *m)
             return block;
         }
     return NONE;
+}
+
+static inline int has_free(const struct shared_model *m)
+{
+    for (int block = 0; block < BLOCKS; block++)
+        if (m->blocks[block].state.phase == FREE)
+            return 1;
+    return 0;
 }
 
 /* Programs the next page of an open block, which is full and open no more after its last one. */
@@ -330,7 +339,8 @@ static inline struct mintlintel_state shared_block(struct shared_model *m, int b
     return (struct mintlintel_state){phases[b->state.phase], (uint32_t)b->state.readers, (uint32_t)b->programmed, b->state.generation};
 }
 
-/* The counts of the blocks, and the code: without a spare, and with no block that is free or to be erased, only a dead one can become free. */
+/* The counts of the blocks, and the code: of a device's only broom, without a spare, and with no block that is free or to be erased, only a dead
+ * one can become free. */
 static inline uint32_t shared_counts(struct shared_model *m, int broom, struct mintlintel_counts *counts)
 {
     int blocks[RETIRED + 1] = {0};
@@ -343,7 +353,59 @@ static inline uint32_t shared_counts(struct shared_model *m, int broom, struct m
         .erases = erases, .free = (uint32_t)blocks[FREE], .open = (uint32_t)blocks[OPENED], .closed = (uint32_t)blocks[FULL],
         .drained = (uint32_t)blocks[DRAINED], .retired = (uint32_t)blocks[RETIRED], .spares = m->brooms[broom].spare != NONE,
     };
-    return counts->spares + counts->free + counts->drained > 0 ? MINTLINTEL_DONE : MINTLINTEL_EXHAUSTED;
+    return m->broom_count > 1 || counts->spares + counts->free + counts->drained > 0 ? MINTLINTEL_DONE : MINTLINTEL_EXHAUSTED;
+}
+
+/* A collection erases each block that is drained, and then drains and erases one block after the other, until the goal is reached: by one survey,
+ * and by a new one where it looks for a block without live pages, since it has no spare and no block is free. */
+static inline uint32_t shared_erase_counted(struct shared_model *m, int broom, uint32_t block, struct mintlintel_collected *did)
+{
+    uint32_t code = shared_erase(m, broom, block);
+    did->freed += code == MINTLINTEL_DONE;
+    did->kept += code == MINTLINTEL_KEPT;
+    did->retired += code == MINTLINTEL_RETIRED;
+    did->pinned += code == MINTLINTEL_PINNED;
+    return code;
+}
+
+static inline uint32_t shared_restock_counted(struct shared_model *m, int broom, struct mintlintel_collected *did)
+{
+    struct mintlintel_counts counts;
+    uint32_t block, moved;
+    if (shared_restock(m, broom) == MINTLINTEL_DONE) {
+        did->restocked++;
+        return MINTLINTEL_DONE;
+    }
+    if (shared_drain_dead(m, broom, &block, &moved) == MINTLINTEL_DONE) {
+        shared_erase_counted(m, broom, block, did);
+        return MINTLINTEL_DONE;
+    }
+    return shared_counts(m, broom, &counts) == MINTLINTEL_EXHAUSTED ? MINTLINTEL_EXHAUSTED : MINTLINTEL_NO_SPARE;
+}
+
+static inline uint32_t shared_collect(struct shared_model *m, int broom, uint32_t goal, struct mintlintel_collected *did)
+{
+    int has_survey = 0;
+    memset(did, 0, sizeof *did);
+    for (uint32_t block = 0; block < BLOCKS; block++)
+        shared_erase_counted(m, broom, block, did);
+    while (did->freed < goal) {
+        uint32_t block, moved, code;
+        if (m->brooms[broom].spare == NONE) {
+            has_survey |= !has_free(m);
+            code = shared_restock_counted(m, broom, did);
+        } else {
+            code = shared_drain(m, broom, !has_survey, &block, &moved);
+            has_survey = 1;
+            if (code == MINTLINTEL_DONE) {
+                did->moved += moved;
+                shared_erase_counted(m, broom, block, did);
+            }
+        }
+        if (code != MINTLINTEL_DONE && code != MINTLINTEL_LOST)
+            return did->pinned > 0 ? MINTLINTEL_PINNED : code;
+    }
+    return MINTLINTEL_DONE;
 }
 
 /* A block that a seat has open counts as full as soon as the seat is closed. */

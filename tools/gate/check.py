@@ -20,6 +20,8 @@ from concurrent.futures import ThreadPoolExecutor
 from gate import definitions, gallery, layout, needless, promises, tree, twins, waits_nowhere, wrong_bodies, wrong_definitions
 
 UNIT_TESTS = [sys.executable, "-B", "-m", "unittest", "discover", "-q", "-s", "tools/gate/tests", "-t", "tools"]
+# What builds the proved library, and the program over an image.
+LIBRARY = "make --no-print-directory --silent -C bindings"
 # Two rows of commands that run beside each other.
 ROWS = (
     (".ci/uncompiled", "bench/run --try", "bench/power_cuts/check", "tools/check", "examples/launcher --quick"),
@@ -116,6 +118,7 @@ def main(words):
     check(gallery, "--goals", "--missing")
     check(wrong_definitions, "--missing")
     run("./flashplay", "--prove")
+    run(*LIBRARY.split())
     beside(ROWS)
     if is_ci:
         run("packaging/installed")

@@ -6,8 +6,7 @@
   whole is the same as on the page, and so are the lines of crates.txt. Each page names its reader in the first line.
   No page has two headings with the same text, and README has at most 800 words.
 - A page that uses one of the glossary's words for threads and collection links the glossary there or before.
-- No source and no page has a word of RETIRED, but where that says so. No two files of the crates' specs/ define the same name, but those
-  that the glossary's table lists.
+- No two files of the crates' specs/ define the same name, but those that the glossary's table lists.
 - The pages name the versions of the toolchain for which the record says that the wrong bodies were refused on the present text.
   The version that this machine has doesn't matter."""
 
@@ -26,20 +25,7 @@ VERSION = re.compile(r"rattle-kit-\w+|logic [0-9a-f]{16}")
 CODE = re.compile(r"`([^`]+)`")
 # Words of the glossary that a reader meets first; `pass`, `hold` and `stand` as nouns, or of a thread.
 OF_GLOSSARY = re.compile(r"\b(?:brooms?|a pass|passes|pins?|pinned|a hold|holds a page|drain(?:s|ed)?|fold(?:s|ed)?|meets?|stand)\b")
-# Retired words, each with the one name, and where they stay: in the types of a broom with its volume, and where they aren't renamed yet.
-RETIRED = {
-    "post posts": ("worker", "crates/exports/", "crates/durable_exports/"),
-    "crew crews roll rolls enroll": ("team",),
-    "sweeper sweepers": ("collector", "crates/exports/", "crates/uses/", "crates/two_threads/", "docs/LIBRARY.md"),
-    "swept": ("collected, and of passes met", "crates/broom/", "crates/shared_acceptance/"),
-    "deliver delivers delivery delivering": ("send, or merge", *(f"crates/{it}/" for it in ("answers", "runs", "player", "laws")), "docs/ARCHITECTURE.md"),
-    "NoShift": ("RoundFault",),
-    "WereSwept": ("HaveMet",),
-    "AllStart turn_all AreTurned play_posts": ("none: these functions are gone",),
-}
-# These are made from the sources, or tell what was.
 PLACES_OF_PAGES = ("*.md", "docs/*.md", "bench/*.md")
-WITHOUT_RETIRED = {"docs/DEFINITIONS.md", "docs/CALLS.md", "docs/GALLERY.md", "CHANGELOG.md"}
 
 
 def clauses():
@@ -116,23 +102,6 @@ def words_of_sources():
     files = [path for path in files if "out" not in path.relative_to(tree.TOP).parts]
     text = "".join(path.read_text() for path in files if path.is_file() and path.suffix in SOURCES)
     return set(re.findall(r"\w+", text + " ".join(str(path) for path in files)))
-
-
-def words_of(text):
-    """The words of a text: each name whole, and its parts in small letters."""
-    names = set(re.findall(r"[A-Za-z]\w*", text))
-    return names | {part.lower() for name in names for part in re.findall(r"[A-Z]?[a-z]+", name)}
-
-
-def retired_words():
-    """The retired words that a source or a page has where they may not stand, and the places that are listed in vain."""
-    files = [path for folder in ("src", "specs", "proofs") for path in tree.TOP.glob(f"crates/*/{folder}/**/*") if path.suffix in (".rt", ".antt")]
-    pages = [path for place in PLACES_OF_PAGES for path in tree.TOP.glob(place) if tree.relative(path) not in WITHOUT_RETIRED]
-    words = {tree.relative(path): words_of(path.stem + "\n" + path.read_text()) for path in sorted([*files, *pages])}
-    for retired, (name, *places) in RETIRED.items():
-        found = {file: its for file in words if (its := words[file].intersection(retired.split()))}
-        yield from (f"{file}: {', '.join(its)} is retired: {name}" for file, its in found.items() if not file.startswith(tuple(places)))
-        yield from (f"tools/gate/promises.py: {place} has none of {retired}" for place in places if not any(file.startswith(place) for file in found))
 
 
 def twice_defined(lines):
@@ -222,7 +191,7 @@ def main(_):
     versions = record.Record("refused", "must-fail").versions().values()
     recorded = {word for its in versions for it in its for word in VERSION.findall(it)}
     glossary = (tree.TOP / "docs/GLOSSARY.md").read_text().splitlines()
-    known, known_words, wrong = clauses(), words_of_sources(), [*retired_words(), *twice_defined(glossary)]
+    known, known_words, wrong = clauses(), words_of_sources(), [*twice_defined(glossary)]
     for path in (path for place in PLACES_OF_PAGES for path in tree.TOP.glob(place)):
         page = tree.relative(path)
         prose = re.sub(r"```.*?```", lambda block: "\n" * block[0].count("\n"), path.read_text(), flags=re.S).splitlines()

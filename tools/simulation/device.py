@@ -166,7 +166,12 @@ def play(device, feed):
     programs, copies, erases = _totals(run(device, counting, lambda source: source.read(), ("--quiet",)))
     if counted.plain:
         return Totals(counted.records(), programs, copies, erases, counted.writes - programs)
-    lines, worn, last = run(device, feed, _read_answers)
+    return totals_of(run(device, feed, read_lines))
+
+
+def totals_of(answers) -> Totals:
+    """The totals of the answers that were read line by line."""
+    lines, worn, last = answers
     return Totals(lines - 1, *_totals(last), worn)
 
 
@@ -175,10 +180,10 @@ def _totals(line):
     return [int(text) for text in line.split(b",")[1:]]
 
 
-def run(device, feed, reader, further=()):
+def run(device, feed, reader, further=(), program=LAUNCHER):
     """Plays the trace that `feed` writes, with further options, and returns what `reader` returns for the answers."""
     words = [*words_of(device), *further]
-    with subprocess.Popen([LAUNCHER, *words], stdin=subprocess.PIPE, stdout=subprocess.PIPE, stderr=subprocess.PIPE) as run:
+    with subprocess.Popen([program, *words], stdin=subprocess.PIPE, stdout=subprocess.PIPE, stderr=subprocess.PIPE) as run:
         # The program writes nothing before it has read the whole trace; if it stops reading, it reports why.
         with contextlib.suppress(BrokenPipeError):
             feed(run.stdin)
@@ -196,7 +201,7 @@ def run(device, feed, reader, further=()):
     return told
 
 
-def _read_answers(source):
+def read_lines(source):
     """How many lines there are, how many of them are refusals, and the last one."""
     lines, worn, rest = 0, 0, b""
     while piece := source.read(READ_AT_ONCE):

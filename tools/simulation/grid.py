@@ -8,6 +8,8 @@ from . import device
 from .numbers import Number
 
 # What a grid may run over: the numbers of a device, and its sectors in percent of all pages.
+# Or the images that devices start from.
+IMAGE = "image"
 AXES = ("luns", "blocks", "pages", "words", "sectors", "utilisation", "endurance")
 
 

@@ -6,7 +6,7 @@ import pathlib
 import tomllib
 from dataclasses import dataclass, field, replace
 
-from . import convert, device, part
+from . import convert, device, image, part
 from .faults import ARGUMENTS, BROKEN, Fault
 from .numbers import PAGE_BYTES, SPEED, Number
 from .titles import printable
@@ -50,10 +50,14 @@ class Manifest:
     precondition: str = NONE
     speed: float = 1.0
     part: dict = field(default_factory=dict)
+    image: str | None = None
     sums: list = field(default_factory=list)
 
     def devices(self) -> dict:
-        """The numbers of each device, by its over-provisioning."""
+        """The numbers of each device, by its over-provisioning. An image has its own."""
+        if self.image:
+            numbers = image.numbers_of(self.image, self.device["endurance"])
+            return {round(device.over_provisioning(numbers), 3): numbers}
         return {percent: {**self.device, "blocks": self._blocks(percent)} for percent in self.over_provisioning}
 
     def _blocks(self, percent: float) -> int:
@@ -64,7 +68,7 @@ class Manifest:
 
     def files(self) -> list:
         """The files that it reads."""
-        return [*self.logs, *([self.precondition] if is_file(self.precondition) else [])]
+        return [*self.logs, *([self.precondition] if is_file(self.precondition) else []), *([self.image] if self.image else [])]
 
 
 def sum_of(path) -> str:
@@ -101,7 +105,9 @@ def _check(manifest: Manifest):
     SPEED.check(manifest.speed, "speed")
     for percent in manifest.over_provisioning:
         OVER_PROVISIONING.check(percent, "over_provisioning")
-    if len(set(manifest.over_provisioning)) != len(manifest.over_provisioning) or not 0 < len(manifest.over_provisioning) <= MOST_DEVICES:
+    if manifest.image:
+        _check_image(manifest)
+    elif len(set(manifest.over_provisioning)) != len(manifest.over_provisioning) or not 0 < len(manifest.over_provisioning) <= MOST_DEVICES:
         raise ValueError(f"over_provisioning has 1 to {MOST_DEVICES} percentages, each once")
     for name in OF_DEVICE:
         device.RANGES[name].check(manifest.device.get(name), name)
@@ -112,6 +118,17 @@ def _check(manifest: Manifest):
     rounds_of(manifest.precondition)
     if not manifest.logs or not all(isinstance(text, str) for text in manifest.logs):
         raise ValueError("logs are a list of files")
+
+
+def _check_image(manifest: Manifest):
+    """An image has its numbers, and was aged before; and its runs have no log of collections, of which latencies are made."""
+    others = {"over_provisioning": manifest.over_provisioning, "precondition": manifest.precondition != NONE, "part": manifest.part}
+    for name, is_there in others.items():
+        if is_there:
+            raise ValueError(f"{name} isn't for a device that starts from an image")
+    found = image.numbers_of(manifest.image, manifest.device["endurance"])
+    if other := next((name for name in OF_DEVICE if manifest.device[name] != found[name]), None):
+        raise ValueError(f"{other} is {manifest.device[other]:,}, and the image has {found[other]:,}")
 
 
 def read(path) -> Manifest:
@@ -135,6 +152,8 @@ def load(path) -> Manifest:
         manifest.logs = [_absolute(folder, name) for name in manifest.logs]
         if is_file(manifest.precondition):
             manifest.precondition = _absolute(folder, manifest.precondition)
+        if manifest.image:
+            manifest.image = _absolute(folder, manifest.image)
         return manifest
     except (TypeError, AttributeError, ValueError) as error:
         raise Fault(f"{path}: {error}", BROKEN)
@@ -161,7 +180,8 @@ def text_of(manifest: Manifest, folder) -> str:
         "numbering": manifest.numbering,
         "log_device": manifest.log_device,
         "action": manifest.action,
-        "precondition": relative[-1] if len(relative) > len(logs) else manifest.precondition,
+        "precondition": relative[len(logs)] if is_file(manifest.precondition) else manifest.precondition,
+        "image": relative[-1] if manifest.image else None,
         "speed": manifest.speed,
         "over_provisioning": manifest.over_provisioning,
     }

@@ -26,6 +26,8 @@ def new_parser(about: str):
     parser.add_argument("answers", metavar="ANSWERS", help="the answers of a run, or - for standard input")
     parser.add_argument("--json", action="store_true", help="print one JSON object with flat keys instead of the text")
     parser.add_argument("--wear", metavar="FILE", help="the wear file of the same run")
+    before = "the wear before the run, of a device in a file that was used before: the erases are those since then"
+    parser.add_argument("--wear-before", metavar="FILE", help=before)
     parser.add_argument("--collections", metavar="FILE", help="the log of collections of the same run")
     size = "the bytes of a page, for bytes written and erases per gigabyte (the size of the pages that reads returned)"
     parser.add_argument("--page-bytes", type=PAGE_BYTES, metavar="N", help=size)
@@ -64,6 +66,8 @@ def parse(about: str, words: list):
             if name != "erases_picture" and not (part.is_named(options) if wanted == "part" else getattr(options, wanted)):
                 parser.error(f"--{name.replace('_', '-')} needs --{wanted}")
             pictures.check_name(getattr(options, name))
+    if options.wear_before and (not options.wear or options.from_line > 1 or options.from_mark):
+        parser.error("--wear-before needs --wear, and is of a whole run")
     if part.is_named(options) and not options.collections:
         parser.error("response times need --collections")
     for name in ("arrivals", "requests"):

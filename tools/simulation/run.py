@@ -44,7 +44,9 @@ def first_line_of(options) -> int:
 
 def read_run(options, answers: Answers) -> Run:
     """Reads the other files of the run, and keeps what is of the window."""
-    blocks = inputs.read(options.wear, wear.read_wear) if options.wear else None
+    blocks = whole = inputs.read(options.wear, wear.read_wear) if options.wear else None
+    if options.wear_before:
+        blocks = wear.since(whole, inputs.read(options.wear_before, wear.read_wear))
     log = inputs.read(options.collections, collected.read_log) if options.collections else None
     if isinstance(log, collected.Collections):
         collected.check(log, answers)
@@ -55,7 +57,7 @@ def read_run(options, answers: Answers) -> Run:
     _check_window(first, answers, log)
     timed = _respond(options, answers, log, first)
     told = summary.summarise(answers, options.page_bytes, blocks)
-    lived = _life(options, blocks, told, _in_window(answers, log, first))
+    lived = _life(options, whole, told, _in_window(answers, log, first))
     if first > 1:
         answers, log = _in_window(answers, log, first), log.from_line(first)
         blocks = wear.within(blocks, log) if blocks else None

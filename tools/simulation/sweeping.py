@@ -15,7 +15,7 @@ import tempfile
 import uuid
 from dataclasses import dataclass
 
-from . import answers, arrivals, collected, device, inputs, latency, make, part, pictures, request_lines, response
+from . import answers, arrivals, collected, device, grid, image, inputs, latency, make, part, pictures, request_lines, response
 from .faults import Fault
 from .manifest import sum_of
 from .traces import TraceWriter
@@ -46,7 +46,10 @@ def maker(text, point, lines):
 def play_point(options, point):
     """The row of a point: what was done in the lines that count."""
     device.check(point.device)
-    if part.is_named(options):
+    if options.image:
+        whole = image.totals(files_of(options)[f"image-{point.names[grid.IMAGE]}"].found(), feeder(options, point))
+        row = {grid.IMAGE: point.names[grid.IMAGE], **_totals(whole.lines, whole.programs, whole.copies, whole.erases, whole.worn)}
+    elif part.is_named(options):
         row = _responding(options, point)
     elif _lines_before(options, point):
         row = _settled(options, point)
@@ -54,6 +57,8 @@ def play_point(options, point):
         whole = device.play(point.device, feeder(options, point))
         row = _totals(whole.lines, whole.programs, whole.copies, whole.erases, whole.worn)
     row |= {**point.device, "utilisation": f"{point.utilisation():.6g}"}
+    if options.image:
+        row["endurance"] = ""  # an image has none
     return [row[name] for name in columns_of(options)]
 
 
@@ -138,7 +143,7 @@ def requests_of(options, lines):
 
 
 def columns_of(options):
-    return (*COLUMNS, *RESPONSE_COLUMNS) if part.is_named(options) else COLUMNS
+    return (grid.IMAGE, *COLUMNS) if options.image else (*COLUMNS, *RESPONSE_COLUMNS) if part.is_named(options) else COLUMNS
 
 
 def lines_of(rounds, points) -> int:
@@ -221,14 +226,18 @@ class File:
 def files_of(options):
     """The files that each point reads, examined before anything is played."""
     given = {name: getattr(options, name) for name in FILES}
-    return {name: File(path.resolve(), getattr(options, f"{name}_sum") or sum_of(path)) for name, path in given.items() if path}
+    images = {f"image-{place}": file for place, file in enumerate(options.image or [], 1)}
+    sums = dict(zip(images, options.image_sum or []))
+    kept = {name: File(path.resolve(), sums.get(name) or sum_of(path)) for name, path in images.items()}
+    return kept | {name: File(path.resolve(), getattr(options, f"{name}_sum") or sum_of(path)) for name, path in given.items() if path}
 
 
 def words_of_play(options):
     """The options of the call for a point, without the point."""
     words = [] if options.trace else ["--make", options.make]
     for name, file in files_of(options).items():
-        words += [f"--{name}", str(file.path), f"--{name}-sum", file.sum]
+        option = name.partition("-")[0]
+        words += [f"--{option}", str(file.path), f"--{option}-sum", file.sum]
     for name in ("lines", "before"):
         if getattr(options, name) is not None:
             words += [f"--{name}", str(getattr(options, name))]

@@ -58,6 +58,13 @@ def within(blocks: list, log) -> list:
     return [Block(counts[number], block.live, block.retired, block.erases - counts[number]) for number, block in enumerate(blocks)]
 
 
+def since(blocks: list, before: list) -> list:
+    """The blocks with the erases since another wear of the same device."""
+    if len(blocks) != len(before) or any(block.erases < early.erases for block, early in zip(blocks, before)):
+        raise Fault("the wear before the run has other blocks, or more erases: it is of another device", BROKEN)
+    return [Block(block.erases - early.erases, block.live, block.retired, early.erases) for block, early in zip(blocks, before)]
+
+
 def spread(numbers):
     """The least, the quartiles and the most of some numbers."""
     if len(numbers) == 1:

@@ -23,7 +23,8 @@ class Installed(unittest.TestCase):
         library, path = self.folder / "lib/mintlintel", self.folder / "bin"
         library.mkdir(parents=True)
         path.mkdir()
-        for file, text in ((library / "flashplay", STAND_IN), (path / "flashplay", (TOOLS / "flashplay").read_text())):
+        programs = {library / "flashplay": STAND_IN, library / "flashplay-image": STAND_IN.replace("exit 3", "exit 4")}
+        for file, text in {**programs, path / "flashplay": (TOOLS / "flashplay").read_text()}.items():
             file.write_text(text)
             file.chmod(0o755)
         (library / "BUILT_FROM").write_text("commit 1a2b\nproved with kit-1 logic 11\n")
@@ -40,3 +41,9 @@ class Installed(unittest.TestCase):
         self.assertEqual(self.run_it(given="a trace"), (3, "0: \na trace", ""))
         self.assertEqual(self.run_it("--wear", "a file", "*", "", given=""), (3, "4: --wear a file * \n", ""))
         self.assertEqual(self.run_it("--blocks=2", "--version"), (3, "2: --blocks=2 --version\n", ""))
+
+    def test_calls_of_an_image_go_to_its_program(self):
+        for words in (("image", "disk.img"), ("--image", "disk.img"), ("--quiet", "--image=disk.img"), ("image", "--help")):
+            self.assertEqual(self.run_it(*words, given="a trace"), (4, f"{len(words)}: {' '.join(words)}\na trace", ""))
+        status, told, _ = self.run_it("--help")
+        self.assertEqual((status, told.splitlines()[0]), (3, "1: --help"))

@@ -32,6 +32,13 @@ esac
 """
 
 
+# What stands for the library's Makefile: it counts its calls.
+MAKEFILE = """quick:
+\t@echo made >>"$(STATE)/made"; [ ! -e "$(STATE)/fails" ] || { echo no library; exit 1; }
+\t@mkdir -p out/quick && printf '#!/bin/sh\\necho quick "$$*"; exit 4\\n' >out/quick/flashplay-image && chmod +x out/quick/flashplay-image
+"""
+
+
 def is_there(process):
     try:
         return pathlib.Path(f"/proc/{process}/stat").read_text().rpartition(")")[2].split()[0] != "Z"
@@ -141,3 +148,30 @@ class Launcher(unittest.TestCase):
         # The next launcher takes over, and removes what was left.
         (self.state / "go").touch()
         self.assertEqual(self.prove().wait(timeout=30), 0)
+
+    def play(self, *words):
+        done = subprocess.run([self.top / "flashplay", *words], stdin=subprocess.DEVNULL, capture_output=True, text=True, env=self.environment)
+        made = self.state / "made"
+        return done.returncode, done.stdout, done.stderr.splitlines(), made.read_text().count("made") if made.exists() else 0
+
+    def test_builds_the_program_of_images_without_proof_if_it_is_older_than_a_source(self):
+        sources = self.top / "bindings/src"
+        for folder in (sources, self.top / "bindings/player", self.top / "bindings/include"):
+            folder.mkdir(parents=True)
+        (sources / "image.c").write_text("// a source\n")
+        (self.top / "bindings/Makefile").write_text(MAKEFILE)
+        building = "flashplay: building the library without proof, in a minute or two"
+        not_proved = "flashplay: the library below images is not proved yet: make -C bindings proves it"
+        self.assertEqual(self.play("image", "disk.img"), (4, "quick image disk.img\n", [building, not_proved], 1))
+        self.assertEqual(self.play("--quiet", "--image=disk.img"), (4, "quick --quiet --image=disk.img\n", [not_proved], 1))
+        later = time.time() + 5
+        os.utime(sources / "image.c", (later, later))
+        self.assertEqual(self.play("--image", "disk.img")[2:], ([building, not_proved], 2))
+        (self.state / "fails").touch()
+        status, _, told, _ = self.play("--image", "disk.img")
+        self.assertEqual((status, told[0], told[1], told[-1]), (70, building, "no library", "flashplay: the program was not built"))
+        proved = self.top / "bindings/out/flashplay-image"
+        proved.write_text("#!/bin/sh\necho proved\n")
+        proved.chmod(0o755)
+        os.utime(proved, (later + 5, later + 5))
+        self.assertEqual(self.play("image", "disk.img"), (0, "proved\n", [], 3))

@@ -25,6 +25,12 @@ Faults, on standard error:
   wear: failed, collections: failed
                     the file is not complete: run again'
 """
+# What stands for the program over an image.
+IMAGE_PROGRAM = """#!/bin/sh
+echo 'Options:
+      --image FILE  The file
+      --sync {always,never}  When'
+"""
 
 
 @contextlib.contextmanager
@@ -34,8 +40,9 @@ def installed():
         folder = pathlib.Path(folder)
         for name in NAMES:
             (folder / f"flashplay-{name}").symlink_to(TOOLS / name)
-        (folder / "flashplay").write_text(PROGRAM)
-        (folder / "flashplay").chmod(0o755)
+        for name, text in (("flashplay", PROGRAM), ("flashplay-image", IMAGE_PROGRAM)):
+            (folder / name).write_text(text)
+            (folder / name).chmod(0o755)
         yield folder
 
 
@@ -76,11 +83,12 @@ class Names(unittest.TestCase):
 
     def test_manual_of_the_program_takes_options_statuses_and_faults_from_its_help(self):
         with installed() as folder:
-            page = told(TOP / "packaging/manual", folder / "flashplay", "1.2.3").stdout
-        for text in ("Mintlintel 1.2.3", "\\-\\-blocks <N>\\fR\nBlocks", "\\fB1\\fR\ninput failed\n", "wear: failed, collections: failed\\fR\nthe file is not"):
+            page = told(TOP / "packaging/manual", folder / "flashplay", folder / "flashplay-image", "1.2.3").stdout
+        texts = ["Mintlintel 1.2.3", "\\-\\-blocks <N>\\fR\nBlocks", "\\-\\-image FILE\\fR\nThe file\n", "\\fB1\\fR\ninput failed\n"]
+        for text in (*texts, "wear: failed, collections: failed\\fR\nthe file is not"):
             self.assertIn(text, page)
         titles = re.findall(r"^\.SH (.*)$", page, re.M)
-        wanted = ["NAME", "SYNOPSIS", "DESCRIPTION", "EXAMPLES", "OPTIONS", "FILES", "EXIT STATUS", "DIAGNOSTICS", "SEE ALSO"]
+        wanted = ["NAME", "SYNOPSIS", "DESCRIPTION", "EXAMPLES", "OPTIONS", "DEVICES IN A FILE", "FILES", "EXIT STATUS", "DIAGNOSTICS", "SEE ALSO"]
         self.assertEqual(titles, wanted)
         self.assertNotRegex(page, r"@[A-Z]+@")
 
@@ -88,9 +96,12 @@ class Names(unittest.TestCase):
         ask = 'source "$1"; shift; COMP_WORDS=("$@"); COMP_CWORD=$(($# - 1)); _flashplay; echo "${COMPREPLY[*]}"'
         with installed() as folder:
             script = folder / "completion"
-            script.write_text(told(TOP / "packaging/completion", "bash", folder / "flashplay").stdout)
+            script.write_text(told(TOP / "packaging/completion", "bash", folder / "flashplay", folder / "flashplay-image").stdout)
             for words, wanted in (
                 (("flashplay", "--b"), "--blocks"),
+                (("flashplay", "--i"), "--image"),
+                (("flashplay", "im"), "image"),
+                (("flashplay", "--sync", "n"), "never"),
                 (("/usr/bin/flashplay-trace", ""), "make convert join --help --version"),
                 (("flashplay-trace", "make", "z"), "zipf"),
                 (("flashplay-trace", "convert", "--action", ""), "Q D C"),
