@@ -337,19 +337,24 @@ static double seconds(void)
     return (double)time.tv_sec + (double)time.tv_nsec / 1e9;
 }
 
-/* Without a broom no block comes free: the write waits as long as it was told to, and no longer; it pauses, so its tries are few. */
+/* Without a broom no block comes free: the write waits as long as it was told to; it pauses, so its tries are few. It waits not much longer, but on
+ * a busy machine that may take some runs. */
 static void test_write_waits_as_long_as_told(void)
 {
     uint8_t page[PAGE] = {0};
     CHECK(mintlintel_shared_open(hosts, 1, brooms, 0, 1, 4, 2, WORDS, 4, 1) == MINTLINTEL_DONE);
     while (write_byte(&hosts[0], 0, 1) != MINTLINTEL_NO_BLOCK)
         ;
-    double began = seconds();
-    CHECK(mintlintel_write_within(&hosts[0], 0, page, PAGE, 0) == MINTLINTEL_NO_BLOCK && seconds() - began < 0.05);
     long before = tries;
-    began = seconds();
-    CHECK(mintlintel_write_within(&hosts[0], 0, page, PAGE, 50) == MINTLINTEL_NO_BLOCK && tries - before > 1 && tries - before < 80);
-    CHECK(seconds() - began >= 0.05 && seconds() - began < 5);
+    CHECK(mintlintel_write_within(&hosts[0], 0, page, PAGE, 0) == MINTLINTEL_NO_BLOCK && tries == before + 1);
+    int runs = 0, is_soon = 0;
+    for (; runs < 100 && !is_soon; runs++) {
+        double began = seconds();
+        before = tries;
+        CHECK(mintlintel_write_within(&hosts[0], 0, page, PAGE, 50) == MINTLINTEL_NO_BLOCK && tries - before < 80 && seconds() - began >= 0.05);
+        is_soon = tries - before > 1 && seconds() - began < 0.5;
+    }
+    CHECK(is_soon);
     close_all();
 }
 

@@ -90,11 +90,13 @@ static void check_sector(struct mintlintel_seat *host, uint32_t sector)
     CHECK(code == (last[sector] > 0) && (code == MINTLINTEL_EMPTY || memcmp(page, wanted, PAGE) == 0));
 }
 
-/* Holds a page while the brooms go on, and looks at it again and again. */
+/* Holds a page while the brooms go on, and looks at it again and again. Some holds pause, so that the brooms also go on where other work has most
+ * of the processors. */
 static void hold(struct mintlintel_seat *host, uint32_t sector)
 {
     uint8_t page[PAGE], wanted[PAGE];
     uint64_t word, first;
+    struct timespec pause = {0, 100000};
     struct mintlintel_page place, later;
     uint32_t code = CALL(host_hold, AT(host), sector);
     CHECK(code == (last[sector] > 0));
@@ -107,6 +109,8 @@ static void hold(struct mintlintel_seat *host, uint32_t sector)
         CHECK(CALL(host_copy, AT(host), page, PAGE) == MINTLINTEL_WRITTEN && memcmp(page, wanted, PAGE) == 0);
         CHECK(CALL(host_word, AT(host), 0, &word) == MINTLINTEL_DONE && word == first);
     }
+    if (last[sector] % 8 == 0)
+        nanosleep(&pause, NULL);
     CHECK(CALL(host_copy, AT(host), page, PAGE + 1) == MINTLINTEL_NOT_A_PAGE);
     CHECK(CALL(host_word, AT(host), WORDS, &word) == MINTLINTEL_NO_SUCH_BLOCK);
     CHECK(CALL(host_write, AT(host), sector, page, PAGE) == MINTLINTEL_WRONG_KIND);

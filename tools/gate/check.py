@@ -26,7 +26,7 @@ LIBRARY = "make --no-print-directory --silent -C bindings"
 ROWS = (
     (".ci/uncompiled", "bench/run --try", "bench/power_cuts/check", "tools/check", "examples/launcher --quick"),
     ("examples/check", "examples/sessions", "examples/hostile", "examples/short_of_memory", "examples/launcher", "bindings/check",
-     "bindings/nbdkit/check", "examples/mtd/check"),
+     "bench/designs/measure --try", "bindings/nbdkit/check", "examples/mtd/check"),
 )
 
 

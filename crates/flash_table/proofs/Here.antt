@@ -1,9 +1,10 @@
--- The steps as `atomic_table` asks for them, at the place that the code computes and at the table's own numbers.
-use Rattle.std.proofs.Common.{◌≡◌, ℕ, ◌+◌, ◌%◌, ◌^◌, ◌-◌, ◌<◌, ◌==◌, true, List, length, Some, None, ap, arith, sym, refl, subst}
+-- What each step asks of a seat, by what its call asks: the steps of passes, and those that passes and brooms share.
+use Rattle.std.proofs.Common.{◌≡◌, ℕ, ◌+◌, ◌%◌, ◌^◌, ◌-◌, ◌<◌, ◌==◌, true, List, length, Some, None, arith, refl, ap}
 use Rattle.std.specs.Int.Bits.{bit_or}
 use mathlib.Core.Option.{none}
 use prog.Atomic.{either}
-use Rattle.atomic_table.specs.Table.{step, Allows, Splits, Joins}
+use Rattle.atomic_table.specs.Table.{step}
+use Rattle.atomic_table.specs.declared.shared.Seat.{Seat}
 use Rattle.geometry.specs.Limits.{Numbers, table_words_of}
 use Rattle.geometry.specs.MapWords.{FitsMap, map_word}
 use Rattle.geometry.specs.TableOrder.{pin_index, page_index}
@@ -13,22 +14,25 @@ use Rattle.geometry.specs.declared.pin_word.TheConstants.{TAKEN, NEXT_PHASE, PAG
 use Rattle.flash_rule.specs.declared.facts.Owned.{Owned}
 use Rattle.flash_rule.specs.declared.facts.Work.{Work}
 use Rattle.flash_rule.specs.declared.facts.Pin.TheVariants.{Candidate, Accepted}
-use Rattle.flash_rule.specs.Views.{is_pass, is_player}
-use Rattle.flash_rule.specs.Seats.{Ruled}
-use Rattle.flash_rule.specs.Plays.{Sitter, CanPlace, CanPut, CanCount, CanClose, words_in, is_unpinned, look_told, write_told, new_told}
+use Rattle.flash_rule.specs.Views.{is_pass}
+use Rattle.flash_rule.specs.Plays.{CanPlace, CanPut, CanCount, CanClose, words_in, is_unpinned, look_told, write_told, new_told}
 use Rattle.flash_rule.specs.Plays.{trim_told, test_told, take_told, put_told, count_told, close_told, IsOn, pin_told, unpin_told, get_told}
 use Rattle.flash_rule.specs.declared.facts.Name.{Name}
-use Rattle.flash_rule.specs.declared.facts.Role.TheVariants.{Player, Note}
+use Rattle.flash_rule.specs.declared.facts.Role.TheVariants.{Player}
 use Rattle.flash_rule.specs.declared.carried.Carried.{Carried}
 use Rattle.flash_rule.specs.declared.view.View.{View}
-use Rattle.flash_rule.specs.Seats.{lender, lent_note, host_of, giver, given_note, home, gone}
+use Rattle.flash_rule.specs.Seats.{lender, lent_note, host_of, giver, given_note, home}
 use Rattle.flash_rule.proofs.OwnSteps.{player_of}
 use Rattle.flash_rule.proofs.Places.{page_within}
 use Rattle.flash_rule.proofs.Notes.{lends, gives, takes_in, comes_home}
 use Rattle.flash_rule.proofs.Steps.{look_allowed, trim_allowed, write_allowed, new_allowed, take_allowed, test_allowed}
 use Rattle.flash_rule.proofs.Steps.{put_allowed, count_allowed, close_allowed, get_allowed}
 use Rattle.flash_rule.proofs.ReaderSteps.{pin_allowed, unpin_allowed}
-use Rattle.flash_table.proofs.AtPlace.{at_place, at_numbers}
+use Rattle.flash_table.specs.declared.flash.Flash.{Flash}
+use Rattle.flash_table.specs.declared.pass.Note.{Note}
+use Rattle.flash_table.specs.Flash.{IsNoteOf, note_view, device}
+use Rattle.flash_table.specs.Steps.{IsBack}
+use Rattle.flash_table.proofs.Asking.{IsSeatOf, Asks, AsksSplit, AsksJoin, slots_of, asks, asks_pin, asks_sector, asks_split, asks_join}
 
 -- the next word of a page that is being filled is one of the table's
 pub put_within : (z : Numbers) (v : View) (o : Owned) (i : ℕ) → v.numbers ≡ z → CanPut v o → i ≡ length (words_in v.work o) → o.block < z.blocks
@@ -39,99 +43,104 @@ put_within z v o i same can here low =
     let room = can.room in
     let short = can.short in page_within z o.block o.written i low (omega arith) (omega arith)
 
-module _ (z k : Numbers) (same : k ≡ z) (slots id : ℕ) (me : Sitter) where
-  pub look_here : (s : ℕ) → is_pass me.0.role ≡ true → is_unpinned me.0.pin ≡ true → s < z.sectors
-      → Allows (Ruled k) slots id me s (λ n. n) (look_told (step slots s 0 0 none) me)
+module _ (f : Flash) (x : Seat (Unit {0}) View) (h : IsSeatOf f x) where
+  -- ---- map words
+  pub look_here : (s : ℕ) → is_pass x.me.0.role ≡ true → is_unpinned x.me.0.pin ≡ true → s < (device f).sectors
+      → Asks f x s (λ n. n) (look_told (step (slots_of f) s 0 0 none) x.me)
   look_here s pass unpinned low =
-      at_numbers z k same slots id me (λ n. n) (look_told (step slots s 0 0 none) me) s (look_allowed z slots id me s pass unpinned low)
+      asks_sector f x h (λ n. n) (look_told (step (slots_of f) s 0 0 none) x.me) s low (look_allowed (device f) (slots_of f) x.id x.me s pass unpinned low)
 
-  pub trim_here : (s : ℕ) → is_pass me.0.role ≡ true → s < z.sectors → Allows (Ruled k) slots id me s (λ _. 0) (trim_told (step slots s 0 0 none) me)
-  trim_here s pass low = at_numbers z k same slots id me (λ _. 0) (trim_told (step slots s 0 0 none) me) s (trim_allowed z slots id me s pass low)
+  pub trim_here : (s : ℕ) → is_pass x.me.0.role ≡ true → s < (device f).sectors
+      → Asks f x s (λ _. 0) (trim_told (step (slots_of f) s 0 0 none) x.me)
+  trim_here s pass low =
+      asks_sector f x h (λ _. 0) (trim_told (step (slots_of f) s 0 0 none) x.me) s low (trim_allowed (device f) (slots_of f) x.id x.me s pass low)
 
-  pub write_here : (s word : ℕ) (m : MapWord) (value : List ℕ) → is_pass me.0.role ≡ true → s < z.sectors → word ≡ map_word m → FitsMap m
-      → CanPlace me.0 s m value
-      → Allows (Ruled k) slots id me s (λ _. word) (write_told (step slots s word 0 none) me)
-  write_here s word m value pass low packed fits can =
-      at_numbers z k same slots id me (λ _. word) (write_told (step slots s word 0 none) me) s
-      (write_allowed z slots id me s word m value pass low packed fits can)
+  pub write_here : (s word : ℕ) (m : MapWord) → is_pass x.me.0.role ≡ true → s < (device f).sectors → word ≡ map_word m → FitsMap m
+      → (value : List ℕ) × CanPlace x.me.0 s m value
+      → Asks f x s (λ _. word) (write_told (step (slots_of f) s word 0 none) x.me)
+  write_here s word m pass low packed fits can =
+      asks_sector f x h (λ _. word) (write_told (step (slots_of f) s word 0 none) x.me) s low
+      (write_allowed (device f) (slots_of f) x.id x.me s word m can.0 pass low packed fits can.1)
 
-  pub new_here : (s word : ℕ) (m : MapWord) (value : List ℕ) → is_pass me.0.role ≡ true → s < z.sectors → word ≡ map_word m → FitsMap m
-      → CanPlace me.0 s m value
-      → Allows (Ruled k) slots id me s (λ n. either (n == UNMAPPED) word n) (new_told (step slots s UNMAPPED word none) me)
-  new_here s word m value pass low packed fits can =
-      at_numbers z k same slots id me (λ n. either (n == UNMAPPED) word n) (new_told (step slots s UNMAPPED word none) me) s
-      (new_allowed z slots id me s word m value pass low packed fits can)
+  pub new_here : (s word : ℕ) (m : MapWord) → is_pass x.me.0.role ≡ true → s < (device f).sectors → word ≡ map_word m → FitsMap m
+      → (value : List ℕ) × CanPlace x.me.0 s m value
+      → Asks f x s (λ n. either (n == UNMAPPED) word n) (new_told (step (slots_of f) s UNMAPPED word none) x.me)
+  new_here s word m pass low packed fits can =
+      asks_sector f x h (λ n. either (n == UNMAPPED) word n) (new_told (step (slots_of f) s UNMAPPED word none) x.me) s low
+      (new_allowed (device f) (slots_of f) x.id x.me s word m can.0 pass low packed fits can.1)
 
-  pub test_here : (word b : ℕ) → word ≡ pin_index z b → is_player me.0.role ≡ true → b < z.blocks
-      → Allows (Ruled k) slots id me word (λ n. n) (test_told (step slots word 0 0 none) me)
-  test_here word b is player low =
-      at_place z k same slots id me (λ n. n) (λ w. test_told (step slots w 0 0 none) me) word (pin_index z b) is
-      (test_allowed z slots id me b player low)
+  -- ---- pin words
+  pub test_here : (word b : ℕ) → b < (device f).blocks → word ≡ pin_index (device f) b
+      → Asks f x word (λ n. n) (test_told (step (slots_of f) word 0 0 none) x.me)
+  test_here word b low at =
+      asks_pin f x h (λ n. n) (λ w. test_told (step (slots_of f) w 0 0 none) x.me) word b low at
+      (test_allowed (device f) (slots_of f) x.id x.me b h.player low)
 
-  pub take_here : (word b : ℕ) → word ≡ pin_index z b → is_player me.0.role ≡ true → b < z.blocks
-      → Allows (Ruled k) slots id me word (λ n. bit_or n TAKEN) (take_told (step slots word TAKEN 0 none) me)
-  take_here word b is player low =
-      at_place z k same slots id me (λ n. bit_or n TAKEN) (λ w. take_told (step slots w TAKEN 0 none) me) word (pin_index z b) is
-      (take_allowed z slots id me b player low)
+  pub take_here : (word b : ℕ) → b < (device f).blocks → word ≡ pin_index (device f) b
+      → Asks f x word (λ n. bit_or n TAKEN) (take_told (step (slots_of f) word TAKEN 0 none) x.me)
+  take_here word b low at =
+      asks_pin f x h (λ n. bit_or n TAKEN) (λ w. take_told (step (slots_of f) w TAKEN 0 none) x.me) word b low at
+      (take_allowed (device f) (slots_of f) x.id x.me b h.player low)
 
-  pub put_here : (word : ℕ) (o : Owned) (x : ℕ) → word ≡ page_index z o.block o.written + length (words_in me.0.work o) → is_player me.0.role ≡ true
-      → me.0.numbers ≡ z → CanPut me.0 o
-      → Allows (Ruled k) slots id me word (λ _. x) (λ _. put_told (step slots word x 0 none) me x)
-  put_here word o x is player numbers can =
-      at_place z k same slots id me (λ _. x) (λ w _. put_told (step slots w x 0 none) me x) word
-      (page_index z o.block o.written + length (words_in me.0.work o)) is (put_allowed z slots id me o x player numbers can)
+  pub count_here : (word : ℕ) (o : Owned) (w : Work) → o.block < (device f).blocks → word ≡ pin_index (device f) o.block → CanCount x.me.0 o w
+      → Asks f x word (λ n. (n + PAGE_WRITTEN) % 2 ^ 64) (count_told (step (slots_of f) word PAGE_WRITTEN 0 none) x.me)
+  count_here word o w low at can =
+      asks_pin f x h (λ n. (n + PAGE_WRITTEN) % 2 ^ 64) (λ i. count_told (step (slots_of f) i PAGE_WRITTEN 0 none) x.me) word o.block low at
+      (count_allowed (device f) (slots_of f) x.id x.me o w h.player h.numbers can)
 
-  pub count_here : (word : ℕ) (o : Owned) (x : Work) → word ≡ pin_index z o.block → is_player me.0.role ≡ true → me.0.numbers ≡ z → CanCount me.0 o x
-      → Allows (Ruled k) slots id me word (λ n. (n + PAGE_WRITTEN) % 2 ^ 64) (count_told (step slots word PAGE_WRITTEN 0 none) me)
-  count_here word o x is player numbers can =
-      at_place z k same slots id me (λ n. (n + PAGE_WRITTEN) % 2 ^ 64) (λ w. count_told (step slots w PAGE_WRITTEN 0 none) me) word
-      (pin_index z o.block) is (count_allowed z slots id me o x player numbers can)
+  pub close_here : (word : ℕ) (o : Owned) → o.block < (device f).blocks → word ≡ pin_index (device f) o.block → CanClose x.me.0 o
+      → Asks f x word (λ n. (n + NEXT_PHASE) % 2 ^ 64) (close_told (step (slots_of f) word NEXT_PHASE 0 none) x.me)
+  close_here word o low at can =
+      asks_pin f x h (λ n. (n + NEXT_PHASE) % 2 ^ 64) (λ w. close_told (step (slots_of f) w NEXT_PHASE 0 none) x.me) word o.block low at
+      (close_allowed (device f) (slots_of f) x.id x.me o h.numbers can)
 
-  pub close_here : (word : ℕ) (o : Owned) → word ≡ pin_index z o.block → me.0.numbers ≡ z → CanClose me.0 o
-      → Allows (Ruled k) slots id me word (λ n. (n + NEXT_PHASE) % 2 ^ 64) (close_told (step slots word NEXT_PHASE 0 none) me)
-  close_here word o is numbers can =
-      at_place z k same slots id me (λ n. (n + NEXT_PHASE) % 2 ^ 64) (λ w. close_told (step slots w NEXT_PHASE 0 none) me) word
-      (pin_index z o.block) is (close_allowed z slots id me o numbers can)
+  pub pin_here : (word : ℕ) (m : MapWord) → m.block < (device f).blocks → word ≡ pin_index (device f) m.block → is_pass x.me.0.role ≡ true
+      → (value : List ℕ) × (x.me.0.pin ≡ Candidate m value)
+      → Asks f x word (λ n. (n + READER) % 2 ^ 64) (pin_told (step (slots_of f) word READER 0 none) x.me)
+  pin_here word m low at pass can =
+      asks_pin f x h (λ n. (n + READER) % 2 ^ 64) (λ w. pin_told (step (slots_of f) w READER 0 none) x.me) word m.block low at
+      (pin_allowed (device f) (slots_of f) x.id x.me m can.0 pass can.1 low)
 
--- ---- pins
-module _ (z k : Numbers) (same : k ≡ z) (slots id : ℕ) (me : Sitter) where
-  pub pin_here : (word : ℕ) (m : MapWord) (value : List ℕ) → word ≡ pin_index z m.block → is_pass me.0.role ≡ true → me.0.pin ≡ Candidate m value
-      → m.block < z.blocks
-      → Allows (Ruled k) slots id me word (λ n. (n + READER) % 2 ^ 64) (pin_told (step slots word READER 0 none) me)
-  pin_here word m value is pass pin low =
-      at_place z k same slots id me (λ n. (n + READER) % 2 ^ 64) (λ w. pin_told (step slots w READER 0 none) me) word (pin_index z m.block) is
-      (pin_allowed z slots id me m value pass pin low)
+  pub unpin_here : (word b : ℕ) → b < (device f).blocks → word ≡ pin_index (device f) b → is_pass x.me.0.role ≡ true → IsOn x.me.0.pin b
+      → Asks f x word (λ n. (n + (2 ^ 64 - READER)) % 2 ^ 64) (unpin_told (step (slots_of f) word READER 0 none) x.me)
+  unpin_here word b low at pass on =
+      asks_pin f x h (λ n. (n + (2 ^ 64 - READER)) % 2 ^ 64) (λ w. unpin_told (step (slots_of f) w READER 0 none) x.me) word b low at
+      (unpin_allowed (device f) (slots_of f) x.id x.me b pass on low h.numbers)
 
-  pub unpin_here : (word b : ℕ) → word ≡ pin_index z b → is_pass me.0.role ≡ true → IsOn me.0.pin b → b < z.blocks → me.0.numbers ≡ z
-      → Allows (Ruled k) slots id me word (λ n. (n + (2 ^ 64 - READER)) % 2 ^ 64) (unpin_told (step slots word READER 0 none) me)
-  unpin_here word b is pass on low numbers =
-      at_place z k same slots id me (λ n. (n + (2 ^ 64 - READER)) % 2 ^ 64) (λ w. unpin_told (step slots w READER 0 none) me) word (pin_index z b) is
-      (unpin_allowed z slots id me b pass on low numbers)
+  -- ---- page words
+  pub put_here : (word : ℕ) (o : Owned) (w : ℕ) → o.block < (device f).blocks
+      → word ≡ page_index (device f) o.block o.written + length (words_in x.me.0.work o) → CanPut x.me.0 o
+      → Asks f x word (λ _. w) (λ _. put_told (step (slots_of f) word w 0 none) x.me w)
+  put_here word o w low at can =
+      asks f x h (λ _. w) (λ i _. put_told (step (slots_of f) i w 0 none) x.me w) word
+      (page_index (device f) o.block o.written + length (words_in x.me.0.work o))
+      (put_within (device f) x.me.0 o (length (words_in x.me.0.work o)) h.numbers can refl low) at
+      (put_allowed (device f) (slots_of f) x.id x.me o w h.player h.numbers can)
 
-  pub get_here : (word : ℕ) (m : MapWord) (value : List ℕ) (i : ℕ) → word ≡ page_index z m.block m.page + i → me.0.numbers ≡ z
-      → me.0.pin ≡ Accepted m value → m.block < z.blocks → m.page < z.pages → i < z.words
-      → Allows (Ruled k) slots id me word (λ n. n) (get_told (step slots word 0 0 none) me)
-  get_here word m value i is numbers pin block page low =
-      at_place z k same slots id me (λ n. n) (λ w. get_told (step slots w 0 0 none) me) word (page_index z m.block m.page + i) is
-      (get_allowed z slots id me m value i numbers pin block page low)
+  pub get_here : (word : ℕ) (m : MapWord) (i : ℕ) → m.block < (device f).blocks → m.page < (device f).pages → i < (device f).words
+      → word ≡ page_index (device f) m.block m.page + i → (value : List ℕ) × (x.me.0.pin ≡ Accepted m value)
+      → Asks f x word (λ n. n) (get_told (step (slots_of f) word 0 0 none) x.me)
+  get_here word m i block page low at can =
+      asks f x h (λ n. n) (λ w. get_told (step (slots_of f) w 0 0 none) x.me) word (page_index (device f) m.block m.page + i)
+      (page_within (device f) m.block m.page i block page (omega arith)) at
+      (get_allowed (device f) (slots_of f) x.id x.me m can.0 i h.numbers can.1 block page low)
 
--- ---- notes
-module _ (z k : Numbers) (same : k ≡ z) (id : ℕ) (v : View) (player : is_player v.role ≡ true) where
-  pub lend_here : v.whole ≡ true → v.guest ≡ None → Splits (Ruled k) id v (lender v) (lent_note v)
-  lend_here whole alone = let t = player_of v.role player in let P : Numbers → Type 0 = λ x. Splits (Ruled x) id v (lender v) (lent_note v) in
-      subst P (sym same) (lends z id v t.0 t.1 whole alone)
+  -- ---- notes
+  pub lend_here : x.me.0.whole ≡ true → x.me.0.guest ≡ None → AsksSplit f x (lender x.me.0) (lent_note x.me.0)
+  lend_here whole alone = let t = player_of x.me.0.role h.player in
+      asks_split f x h (lender x.me.0) (lent_note x.me.0) (lends (device f) x.id x.me.0 t.0 t.1 whole alone)
 
-  pub give_here : (m : Name) → v.guest ≡ Some m → ¬ (v.role ≡ Player m) → Splits (Ruled k) id v (giver v) (given_note v)
-  give_here m guest apart = let t = player_of v.role player in let P : Numbers → Type 0 = λ x. Splits (Ruled x) id v (giver v) (given_note v) in
-      subst P (sym same) (gives z id v t.0 t.1 m guest apart)
+  pub give_here : (m : Name) × (x.me.0.guest ≡ Some m) × (¬ (x.me.0.role ≡ Player m)) → AsksSplit f x (giver x.me.0) (given_note x.me.0)
+  give_here g = let t = player_of x.me.0.role h.player in
+      asks_split f x h (giver x.me.0) (given_note x.me.0) (gives (device f) x.id x.me.0 t.0 t.1 g.0 g.1 g.2)
 
-  pub take_in_here : (other : ℕ) (w : View) (c : Carried) → w.role ≡ Note → w.guest ≡ Some c.of → w.copy ≡ Some c → v.whole ≡ true
-      → Joins (Ruled k) id v other w (host_of v w) gone
-  take_in_here other w c note guest copy whole = let t = player_of v.role player in
-      let P : Numbers → Type 0 = λ x. Joins (Ruled x) id v other w (host_of v w) gone in
-      subst P (sym same) (takes_in z id other v w t.0 c.of c t.1 note guest copy whole refl)
+  pub take_in_here : (n : Note) → IsNoteOf f n → (c : Carried) × ((note_view n).copy ≡ Some c) × ((note_view n).guest ≡ Some c.of) → x.me.0.whole ≡ true
+      → AsksJoin f x n (host_of x.me.0 (note_view n))
+  take_in_here n note lent whole = let t = player_of x.me.0.role h.player in
+      asks_join f x h n (host_of x.me.0 (note_view n)) note
+      (takes_in (device f) x.id n.seat.id x.me.0 (note_view n) t.0 lent.0.of lent.0 t.1 note.role lent.2 lent.1 whole refl)
 
-  pub home_here : (other : ℕ) (w : View) (n : Name) (c : Carried) → v.role ≡ Player n → w.role ≡ Note → w.guest ≡ Some n → w.copy ≡ Some c
-      → ¬ (v.role ≡ Player c.of) → Joins (Ruled k) id v other w (home v w) gone
-  home_here other w n c role note guest copy apart = let P : Numbers → Type 0 = λ x. Joins (Ruled x) id v other w (home v w) gone in
-      subst P (sym same) (comes_home z id other v w n n c role note guest copy refl apart)
+  pub home_here : (n : Note) → IsNoteOf f n → IsBack x.me.0 (note_view n) → AsksJoin f x n (home x.me.0 (note_view n))
+  home_here n note t =
+      asks_join f x h n (home x.me.0 (note_view n)) note
+      (comes_home (device f) x.id n.seat.id x.me.0 (note_view n) t.0 t.0 t.1 t.2 note.role t.3 t.4 refl t.5)

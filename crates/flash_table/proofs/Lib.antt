@@ -1,6 +1,6 @@
 pub mod Rows
 pub mod Blocks
-pub mod AtPlace
+pub mod Asking
 pub mod Here
 pub mod HereBrooms
 pub mod Told

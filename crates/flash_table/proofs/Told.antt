@@ -1,15 +1,16 @@
--- What a step's play makes of a pass.
+-- What a step's play makes of a pass, and of any seat with an open block.
 use Rattle.std.proofs.Common.{◌≡◌, ℕ, ◌+◌, ◌<◌, Bool, true, false, List, [], ◌∷◌, ◌++◌, length, Option, Some, None, sym, refl, ap, ◌∙◌, subst, arith}
 use Rattle.geometry.specs.PinWords.{FitsPin, pin_word}
 use Rattle.geometry.specs.declared.pin_word.PinWord.{PinWord}
 use Rattle.flash_rule.specs.declared.facts.Owned.{Owned}
-use Rattle.flash_rule.specs.declared.facts.Role.{Role}
-use Rattle.flash_rule.specs.declared.facts.Role.TheVariants.{Dealer, Player, Note, Gone}
 use Rattle.flash_rule.specs.declared.view.View.{View}
-use Rattle.flash_rule.specs.Views.{is_pass, is_player, owned_at, without}
+use Rattle.flash_rule.specs.Views.{is_pass, owned_at, with_owned, without}
 use Rattle.std.specs.Bool.{MatchBool}
 use mathlib.Core.Option.{none}
 use Rattle.atomic_table.specs.Table.{step}
+use Rattle.atomic_table.specs.declared.shared.Seat.{Seat}
+use Rattle.geometry.specs.Geometry.{blocks_of, pages_of}
+use Rattle.geometry.specs.declared.geometry.Geometry.{Geometry}
 use Rattle.geometry.specs.History.{Write, WriteNew, Trim}
 use Rattle.geometry.specs.Limits.{Numbers}
 use Rattle.geometry.specs.MapWords.{map_word, FitsMap}
@@ -30,13 +31,10 @@ use Rattle.flash_table.specs.declared.flash.Flash.{Flash}
 use Rattle.flash_table.specs.declared.pass.Pass.{Pass}
 use Rattle.flash_table.specs.declared.pass.OpenBlock.{OpenBlock}
 use Rattle.flash_table.specs.Owning.{owned_of, owned_list, closed_as, closed_list}
+use Rattle.flash_table.specs.GivingUp.{closed_pass, left_closed}
+use Rattle.flash_table.specs.Steps.{CanGiveUp, IsFilled, IsNextWord}
 use Rattle.flash_table.specs.Flash.{IsPassOf, Strayed, view_of, device}
-
-pub pass_player : (r : Role) → is_pass r ≡ true → is_player r ≡ true
-pass_player (Player n) is = refl
-pass_player Dealer is = absurd (cc)
-pass_player Note is = absurd (cc)
-pass_player Gone is = absurd (cc)
+use Rattle.flash_table.proofs.Asking.{IsSeatOf, slots_of}
 
 pub stays_pass : (f : Flash) (p q : Pass) → IsPassOf f p → q.seat.table_id ≡ p.seat.table_id → (view_of q).role ≡ (view_of p).role
     → (view_of q).numbers ≡ (view_of p).numbers → IsPassOf f q
@@ -61,77 +59,79 @@ pub starts_same : (z : Numbers) (start : ℕ) (a b : OpenBlock) (x : Option Open
     → x ≡ Some b → start ≡ page_index z b.block b.written
 starts_same z start a b x at p q = at ∙ ap (λ (o : OpenBlock). page_index z o.block o.written) (same_block a b x p q)
 
-module _ (f : Flash) (p : Pass) (h : IsPassOf f p) (slots n : ℕ) (after : Sitter) where
-  -- ---- close
-  pub close_can : (o : OpenBlock) → p.opened ≡ Some o → (x : OpenBlock) × (p.opened ≡ Some x) × CanClose (view_of p) (owned_of x)
-      × (x.block < (device f).blocks) → CanClose (view_of p) (owned_of o) × (o.block < (device f).blocks)
-  close_can o is t = let P : OpenBlock → Type 0 = λ x. CanClose (view_of p) (owned_of x) × (x.block < (device f).blocks) in
-      subst P (same_block t.0 o p.opened t.1 is) (t.2, t.3)
+-- ---- what is asked of the open block, of the block that is found there
+module _ (g : Geometry) (v : View) (opened : Option OpenBlock) (o : OpenBlock) (is : opened ≡ Some o) where
+  pub put_can : (i : ℕ) → IsNextWord g v opened i → CanPut v (owned_of o) × (i ≡ length (words_in v.work (owned_of o))) × (o.block < blocks_of g)
+  put_can i t = let P : OpenBlock → Type 0 = λ x. CanPut v (owned_of x) × (i ≡ length (words_in v.work (owned_of x))) × (x.block < blocks_of g) in
+      subst P (same_block t.0 o opened t.1 is) (t.2, t.3, t.4)
 
-  pub close_view : (word : ℕ) (o : OpenBlock) → p.opened ≡ Some o → (x : OpenBlock) × (p.opened ≡ Some x) × CanClose (view_of p) (owned_of x)
-      × (x.block < (device f).blocks)
-      → word ≡ pin_index (device f) o.block → close_told (step slots word NEXT_PHASE 0 none) p.seat.me n after
-      → after.0 ≡ record (view_of p) { owns = []; work = None; ceded = (view_of p).ceded ++ closed_list p.opened }
-  close_view word o is t at told =
-      let can = close_can o is t in
-      let owns : (view_of p).owns ≡ owned_of o ∷ [] = p.owns ∙ ap owned_list is in
-      let changed = told.1 (owned_of o) can.0 (at ∙ ap (λ y. pin_index y o.block) (sym h.numbers)) in
-      let nothing : without o.block (view_of p).owns ≡ [] = ap (λ (l : List Owned). without o.block l) owns ∙ without_one (owned_of o) in
-      let closed : closed_as o ∷ [] ≡ closed_list p.opened = ap closed_list (sym is) in
-      changed ∙ (λ i. record (view_of p) { owns = nothing i; work = None; ceded = (view_of p).ceded ++ closed i })
+  pub count_can : IsFilled g v opened → (x : Work) × CanCount v (owned_of o) x × (o.written < pages_of g) × (o.block < blocks_of g)
+  count_can t = let P : OpenBlock → Type 0 = λ y. (x : Work) × CanCount v (owned_of y) x × (y.written < pages_of g) × (y.block < blocks_of g) in
+      subst P (same_block t.0 o opened t.2 is) (t.1, t.3, t.4, t.5)
 
-  -- ---- count
-  pub count_can : (o : OpenBlock) → p.opened ≡ Some o
-      → (y : OpenBlock) × (x : Work) × (p.opened ≡ Some y) × CanCount (view_of p) (owned_of y) x × (y.written < (device f).pages)
-      × (y.block < (device f).blocks)
-      → (x : Work) × CanCount (view_of p) (owned_of o) x × (o.written < (device f).pages) × (o.block < (device f).blocks)
-  count_can o is t =
-      let P : OpenBlock → Type 0 = λ y. (x : Work) × CanCount (view_of p) (owned_of y) x × (y.written < (device f).pages)
-      × (y.block < (device f).blocks) in subst P (same_block t.0 o p.opened t.2 is) (t.1, t.3, t.4, t.5)
+  pub close_can : CanGiveUp g v opened → CanClose v (owned_of o) × (o.block < blocks_of g)
+  close_can t = let P : OpenBlock → Type 0 = λ x. CanClose v (owned_of x) × (x.block < blocks_of g) in subst P (same_block t.0 o opened t.1 is) (t.2, t.3)
 
-  pub count_view : (word : ℕ) (o : OpenBlock) (x : Work) → p.opened ≡ Some o → CanCount (view_of p) (owned_of o) x
-      → word ≡ pin_index (device f) o.block → count_told (step slots word PAGE_WRITTEN 0 none) p.seat.me n after
-      → after.0 ≡ record (view_of p) { programs = (view_of p).programs ++ x.page ∷ []; owns = owned_of (record o { written = o.written + 1 }) ∷ [] }
-  count_view word o x is can at told =
-      let owns : (view_of p).owns ≡ owned_of o ∷ [] = p.owns ∙ ap owned_list is in
-      let changed = told.1 (owned_of o) x can (at ∙ ap (λ y. pin_index y o.block) (sym h.numbers)) in
-      changed ∙ ap (λ (l : List Owned).
-      record (view_of p) { programs = (view_of p).programs ++ x.page ∷ []; owns = owned_of (record o { written = o.written + 1 }) ∷ l })
-      (ap (λ (l : List Owned). without o.block l) owns ∙ without_one (owned_of o))
-
-  -- ---- put
-  pub put_can : (o : OpenBlock) (i : ℕ) → p.opened ≡ Some o → (x : OpenBlock) × (p.opened ≡ Some x) × CanPut (view_of p) (owned_of x)
-      × (i ≡ length (words_in (view_of p).work (owned_of x))) × (x.block < (device f).blocks)
-      → CanPut (view_of p) (owned_of o) × (i ≡ length (words_in (view_of p).work (owned_of o))) × (o.block < (device f).blocks)
-  put_can o i is t =
-      let P : OpenBlock → Type 0 = λ x. CanPut (view_of p) (owned_of x) × (i ≡ length (words_in (view_of p).work (owned_of x)))
-      × (x.block < (device f).blocks) in subst P (same_block t.0 o p.opened t.1 is) (t.2, t.3, t.4)
-
-  pub put_view : (word i x : ℕ) (o : OpenBlock) → CanPut (view_of p) (owned_of o) → i ≡ length (words_in (view_of p).work (owned_of o))
-      → word ≡ page_index (device f) o.block o.written + i
-      → put_told (step slots word x 0 none) p.seat.me n after
-      → after.0 ≡ record (view_of p) { work = Some (record { page = next_page (owned_of o); words = words_in (view_of p).work (owned_of o) ++ x ∷ [] }) }
-  put_view word i x o can here at told =
+-- ---- what a step on it makes of the seat of a pass or a broom
+module _ (f : Flash) (x : Seat (Unit {0}) View) (h : IsSeatOf f x) (n : ℕ) (after : Sitter) (word : ℕ) (o : OpenBlock) where
+  pub put_view : (i w : ℕ) → CanPut x.me.0 (owned_of o) → i ≡ length (words_in x.me.0.work (owned_of o)) → word ≡ page_index (device f) o.block o.written + i
+      → put_told (step (slots_of f) word w 0 none) x.me n after
+      → after.0 ≡ record x.me.0 { work = Some (record { page = next_page (owned_of o); words = words_in x.me.0.work (owned_of o) ++ w ∷ [] }) }
+  put_view i w can here at told =
       told.1 (owned_of o) can (at ∙ (ap (λ k. page_index (device f) o.block o.written + k) here
-      ∙ ap (λ y. page_index y o.block o.written + length (words_in (view_of p).work (owned_of o))) (sym h.numbers)))
+      ∙ ap (λ y. page_index y o.block o.written + length (words_in x.me.0.work (owned_of o))) (sym h.numbers)))
 
+  pub count_view : (w : Work) → CanCount x.me.0 (owned_of o) w → word ≡ pin_index (device f) o.block
+      → count_told (step (slots_of f) word PAGE_WRITTEN 0 none) x.me n after
+      → after.0 ≡ record x.me.0 {
+        programs = x.me.0.programs ++ w.page ∷ [];
+        owns = with_owned (owned_of (record o { written = o.written + 1 })) x.me.0.owns;
+      }
+  count_view w can at told = told.1 (owned_of o) w can (at ∙ ap (λ y. pin_index y o.block) (sym h.numbers))
+
+  pub close_view : CanClose x.me.0 (owned_of o) → word ≡ pin_index (device f) o.block
+      → close_told (step (slots_of f) word NEXT_PHASE 0 none) x.me n after → after.0 ≡ left_closed x.me.0 o
+  close_view can at told = told.1 (owned_of o) can (at ∙ ap (λ y. pin_index y o.block) (sym h.numbers))
+
+-- ---- a pass owns no other block
+module _ (p : Pass) (o : OpenBlock) (is : p.opened ≡ Some o) where
+  alone : without o.block (view_of p).owns ≡ []
+  alone = ap (λ (l : List Owned). without o.block l) (p.owns ∙ ap owned_list is) ∙ without_one (owned_of o)
+
+  pub pass_counted : (w : View) (page : MapWord)
+      → w ≡ record (view_of p) {
+        programs = (view_of p).programs ++ page ∷ [];
+        owns = with_owned (owned_of (record o { written = o.written + 1 })) (view_of p).owns;
+      }
+      → w ≡ record (view_of p) { programs = (view_of p).programs ++ page ∷ []; owns = owned_of (record o { written = o.written + 1 }) ∷ [] }
+  pass_counted w page changed =
+      changed ∙ ap (λ (l : List Owned).
+      record (view_of p) { programs = (view_of p).programs ++ page ∷ []; owns = owned_of (record o { written = o.written + 1 }) ∷ l }) alone
+
+  pub pass_closed : (w : View) → w ≡ left_closed (view_of p) o → w ≡ closed_pass (view_of p) p.opened
+  pass_closed w changed =
+      let closed : closed_as o ∷ [] ≡ closed_list p.opened = ap closed_list (sym is) in
+      changed ∙ (λ i. record (view_of p) { owns = alone i; work = None; ceded = (view_of p).ceded ++ closed i })
+
+-- ---- what a step makes of a pass
+module _ (f : Flash) (p : Pass) (h : IsPassOf f p) (n : ℕ) (after : Sitter) where
   -- ---- place
-  pub trim_changed : (s : ℕ) → trim_told (step slots s 0 0 none) p.seat.me n after → (t : ℕ) × Placed (view_of p) (Trim t s) s n after.0
+  pub trim_changed : (s : ℕ) → trim_told (step (slots_of f) s 0 0 none) p.seat.me n after → (t : ℕ) × Placed (view_of p) (Trim t s) s n after.0
   trim_changed s told = let t = pass_of (view_of p).role h.role in (t.0, told.1 t.0 t.1)
 
   pub write_changed : (s word : ℕ) (m : MapWord) → word ≡ map_word m → FitsMap m → (value : List ℕ) × CanPlace (view_of p) s m value
-      → write_told (step slots s word 0 none) p.seat.me n after
+      → write_told (step (slots_of f) s word 0 none) p.seat.me n after
       → (t : ℕ) × (value : List ℕ) × Placed (view_of p) (Write t s value) s n after.0
   write_changed s word m packed fits can told = let t = pass_of (view_of p).role h.role in (t.0, can.0, told.1 t.0 m can.0 t.1 packed fits can.1)
 
   pub new_changed : (s word : ℕ) (m : MapWord) → word ≡ map_word m → FitsMap m → (value : List ℕ) × CanPlace (view_of p) s m value
-      → new_told (step slots s UNMAPPED word none) p.seat.me n after
+      → new_told (step (slots_of f) s UNMAPPED word none) p.seat.me n after
       → (t : ℕ) × (value : List ℕ) × Placed (view_of p) (WriteNew t s value) s n after.0
   new_changed s word m packed fits can told = let t = pass_of (view_of p).role h.role in (t.0, can.0, told.1 t.0 m can.0 t.1 refl packed fits can.1)
 
   -- ---- pin
   pub pin_pinned : (word : ℕ) (m : MapWord) (value : List ℕ) → (view_of p).pin ≡ Candidate m value → word ≡ pin_index (device f) m.block
-      → pin_told (step slots word READER 0 none) p.seat.me n after → Pinned (view_of p) m value n after.0
+      → pin_told (step (slots_of f) word READER 0 none) p.seat.me n after → Pinned (view_of p) m value n after.0
   pin_pinned word m value pin at told = told.1 m value pin (at ∙ ap (λ y. pin_index y m.block) (sym h.numbers))
 
   pub pin_yes : (m : MapWord) (value : List ℕ) (w : View) → Pinned (view_of p) m value n w → (state : PinWord) × FitsPin state × (pin_word state ≡ n)
@@ -148,10 +148,10 @@ module _ (f : Flash) (p : Pass) (h : IsPassOf f p) (slots n : ℕ) (after : Sitt
       record { changed = told.changed ∙ (λ i. record (view_of p) { pin = a.0 i; known = w.known }); rises = a.1; bounded = told.bounded }
 
   pub unpin_view : (word b : ℕ) → IsOn (view_of p).pin b → word ≡ pin_index (device f) b
-      → unpin_told (step slots word READER 0 none) p.seat.me n after → after.0 ≡ record (view_of p) { pin = Clear }
+      → unpin_told (step (slots_of f) word READER 0 none) p.seat.me n after → after.0 ≡ record (view_of p) { pin = Clear }
   unpin_view word b on at told = told.1 b on (at ∙ ap (λ y. pin_index y b) (sym h.numbers))
 
   pub get_value : (word i : ℕ) (m : MapWord) (value : List ℕ) → (view_of p).pin ≡ Accepted m value → i < (device f).words
-      → word ≡ page_index (device f) m.block m.page + i → get_told (step slots word 0 0 none) p.seat.me n after → n ≡ data_word value i
+      → word ≡ page_index (device f) m.block m.page + i → get_told (step (slots_of f) word 0 0 none) p.seat.me n after → n ≡ data_word value i
   get_value word i m value pin low at told = let words : (view_of p).numbers.words ≡ (device f).words = ap (λ (y : Numbers). y.words) h.numbers in
       told.1 m value i pin (omega arith) (at ∙ ap (λ y. page_index y m.block m.page + i) (sym h.numbers))

@@ -3,7 +3,7 @@ use Rattle.std.specs.Prelude.{◌&&◌, Bool, false}
 use Rattle.flash_rule.specs.BroomPlays.{Inspected, is_page_of}
 use Rattle.flash_table.specs.Inspecting.{InspectTold}
 use Rattle.std.proofs.Common.{◌≡◌, ℕ, ◌+◌, ◌<◌, ◌≤◌, ◌⊎◌, inl, inr, ⊎_elim, ◌==◌, eq-eqb, ne_eqb, true, [], ◌∷◌, ◌++◌, List}
-use Rattle.std.proofs.Common.{length, Option, None, Some, IfSome, IfNone, sym, refl, ap, ◌∙◌, subst, arith}
+use Rattle.std.proofs.Common.{Option, None, Some, IfSome, IfNone, sym, refl, ap, ◌∙◌, subst, arith}
 use Rattle.std.specs.Bool.{MatchBool}
 use mathlib.Core.Option.{none}
 use mathlib.Core.Logic.{dite}
@@ -18,13 +18,12 @@ use Rattle.geometry.specs.TableOrder.{pin_index, page_index}
 use Rattle.geometry.specs.declared.pin_word.PinWord.{PinWord}
 use Rattle.geometry.specs.declared.pin_word.Phase.{Phase}
 use Rattle.geometry.specs.declared.pin_word.Phase.TheVariants.{Free, Open, Closed, Victim, Drained, Erasing, Retired}
-use Rattle.geometry.specs.declared.pin_word.TheConstants.{NEXT_PHASE, PAGE_WRITTEN}
+use Rattle.geometry.specs.declared.pin_word.TheConstants.{NEXT_PHASE}
 use Rattle.flash_rule.specs.declared.facts.Owned.{Owned}
 use Rattle.flash_rule.specs.declared.facts.Source.{Source}
-use Rattle.flash_rule.specs.declared.facts.Work.{Work}
 use Rattle.flash_rule.specs.declared.view.View.{View}
-use Rattle.flash_rule.specs.Views.{is_broom, is_player, with_owned}
-use Rattle.flash_rule.specs.Plays.{Sitter, CanPut, CanCount, CanClose, words_in, next_page, put_told, count_told, close_told}
+use Rattle.flash_rule.specs.Views.{is_broom}
+use Rattle.flash_rule.specs.Plays.{Sitter}
 use Rattle.flash_rule.specs.BroomPlays.{GotStamp, CanGetStamp, CanMove, Moved, stamp_told, source_told, move_told, Loaded}
 use Rattle.flash_rule.specs.BroomPlays.{IsLastLoaded, IsInspected, CanClaim, Claimed, CanDrain, state_told, claim_told, drain_told}
 use Rattle.flash_rule.specs.World.{data_word, sector_word}
@@ -34,13 +33,12 @@ use Rattle.flash_table.specs.declared.broom_seat.BroomSeat.{BroomSeat}
 use Rattle.flash_table.specs.declared.broom_seat.ReclaimedBlock.{ReclaimedBlock}
 use Rattle.flash_table.specs.declared.broom_seat.Reclaiming.{Reclaiming}
 use Rattle.flash_table.specs.declared.broom_seat.Reclaiming.TheVariants as reclaiming
-use Rattle.flash_table.specs.declared.pass.OpenBlock.{OpenBlock}
-use Rattle.flash_table.specs.Owning.{owned_of, reclaimed_as}
-use Rattle.flash_table.specs.GivingUp.{left_closed, left_drained}
+use Rattle.flash_table.specs.Owning.{reclaimed_as}
+use Rattle.flash_table.specs.GivingUp.{left_drained}
 use Rattle.flash_table.specs.Steps.{HasInspected, IsCleared}
 use Rattle.flash_table.specs.Flash.{IsBroomOf, broom_view, own_blocks, device, geometry_of}
 use Rattle.flash_table.proofs.Blocks.{all_open, draining_at}
-use Rattle.flash_table.proofs.Told.{same_block}
+use Rattle.flash_table.proofs.Asking.{slots_of}
 
 -- a map word that was found is that of what it was unpacked to
 pub unpacked : (r : Option MapWord) (n : ℕ) → IfSome r (λ p. FitsMap p × (map_word p ≡ n)) → IfNone r (n < MAPPED)
@@ -79,59 +77,9 @@ inspected_changed v w b generation s n h = by_test (is_page_of b generation h.fo
   by_test true is = let e = h.stopped is in e ∙ (λ i. record v { named = (sym e i).named; inspection = (sym e i).inspection })
   by_test false is = let e = h.passed is in e ∙ (λ i. record v { named = (sym e i).named; inspection = (sym e i).inspection })
 
-pub broom_player : (f : Flash) (s : BroomSeat) → IsBroomOf f s → is_player (broom_view s).role ≡ true
-broom_player f s h = ap is_player h.role.1
-
 pub stays_broom : (f : Flash) (s t : BroomSeat) → IsBroomOf f s → t.seat.table_id ≡ s.seat.table_id → (broom_view t).role ≡ (broom_view s).role
     → (broom_view t).numbers ≡ (broom_view s).numbers → IsBroomOf f t
 stays_broom f s t h table role numbers = record { table = table ∙ h.table; role = (h.role.0, role ∙ h.role.1); numbers = numbers ∙ h.numbers }
-
-module _ (f : Flash) (s : BroomSeat) (h : IsBroomOf f s) (o : OpenBlock) (is : (own_blocks s).destination ≡ Some o) where
-  -- ---- what is asked of the destination, of the block that is found there
-  pub put_can : (i : ℕ) → (x : OpenBlock) × ((own_blocks s).destination ≡ Some x) × CanPut (broom_view s) (owned_of x)
-      × (i ≡ length (words_in (broom_view s).work (owned_of x))) × (x.block < (device f).blocks)
-      → CanPut (broom_view s) (owned_of o) × (i ≡ length (words_in (broom_view s).work (owned_of o))) × (o.block < (device f).blocks)
-  put_can i t =
-      let P : OpenBlock → Type 0 = λ x. CanPut (broom_view s) (owned_of x) × (i ≡ length (words_in (broom_view s).work (owned_of x)))
-      × (x.block < (device f).blocks) in
-      subst P (same_block t.0 o (own_blocks s).destination t.1 is) (t.2, t.3, t.4)
-
-  pub count_can : (y : OpenBlock) × (x : Work) × ((own_blocks s).destination ≡ Some y) × CanCount (broom_view s) (owned_of y) x
-      × (y.written < (device f).pages) × (y.block < (device f).blocks)
-      → (x : Work) × CanCount (broom_view s) (owned_of o) x × (o.written < (device f).pages) × (o.block < (device f).blocks)
-  count_can t =
-      let P : OpenBlock → Type 0 = λ y. (x : Work) × CanCount (broom_view s) (owned_of y) x × (y.written < (device f).pages) × (y.block < (device f).blocks) in
-      subst P (same_block t.0 o (own_blocks s).destination t.2 is) (t.1, t.3, t.4, t.5)
-
-  pub close_can : (x : OpenBlock) × ((own_blocks s).destination ≡ Some x) × CanClose (broom_view s) (owned_of x) × (x.block < (device f).blocks)
-      → CanClose (broom_view s) (owned_of o) × (o.block < (device f).blocks)
-  close_can t =
-      let P : OpenBlock → Type 0 = λ x. CanClose (broom_view s) (owned_of x) × (x.block < (device f).blocks) in
-      subst P (same_block t.0 o (own_blocks s).destination t.1 is) (t.2, t.3)
-
-module _ (f : Flash) (s : BroomSeat) (h : IsBroomOf f s) (slots n : ℕ) (after : Sitter) where
-  pub put_view : (word i x : ℕ) (o : OpenBlock) → CanPut (broom_view s) (owned_of o) → i ≡ length (words_in (broom_view s).work (owned_of o))
-      → word ≡ page_index (device f) o.block o.written + i
-      → put_told (step slots word x 0 none) s.seat.me n after
-      → after.0 ≡ record (broom_view s) {
-        work = Some (record { page = next_page (owned_of o); words = words_in (broom_view s).work (owned_of o) ++ x ∷ [] });
-      }
-  put_view word i x o can here at told =
-      told.1 (owned_of o) can (at ∙ (ap (λ k. page_index (device f) o.block o.written + k) here
-      ∙ ap (λ y. page_index y o.block o.written + length (words_in (broom_view s).work (owned_of o))) (sym h.numbers)))
-
-  pub count_view : (word : ℕ) (o : OpenBlock) (x : Work) → CanCount (broom_view s) (owned_of o) x → word ≡ pin_index (device f) o.block
-      → count_told (step slots word PAGE_WRITTEN 0 none) s.seat.me n after
-      → after.0 ≡ record (broom_view s) {
-        programs = (broom_view s).programs ++ x.page ∷ [];
-        owns = with_owned (owned_of (record o { written = o.written + 1 })) (broom_view s).owns;
-      }
-  count_view word o x can at told = told.1 (owned_of o) x can (at ∙ ap (λ y. pin_index y o.block) (sym h.numbers))
-
-  pub close_view : (word : ℕ) (o : OpenBlock) → CanClose (broom_view s) (owned_of o) → word ≡ pin_index (device f) o.block
-      → close_told (step slots word NEXT_PHASE 0 none) s.seat.me n after
-      → after.0 ≡ left_closed (broom_view s) o
-  close_view word o can at told = told.1 (owned_of o) can (at ∙ ap (λ y. pin_index y o.block) (sym h.numbers))
 
 -- ---- the block that a broom drains or erases is one
 draining_one : (a b : ReclaimedBlock) → reclaiming.Draining a ≡ reclaiming.Draining b → a ≡ b
@@ -191,21 +139,21 @@ module _ (f : Flash) (s : BroomSeat) (h : IsBroomOf f s) where
       (its.0, record { own = draining_at (own_blocks s) (broom_view s).owns s.owns o is; victim = refl; emptied = its.1 })
 
 -- ---- and what it makes of the seat
-module _ (f : Flash) (s : BroomSeat) (h : IsBroomOf f s) (slots n : ℕ) (after : Sitter) where
+module _ (f : Flash) (s : BroomSeat) (h : IsBroomOf f s) (n : ℕ) (after : Sitter) where
   pin_there : (word b : ℕ) → word ≡ pin_index (device f) b → word ≡ pin_index (broom_view s).numbers b
   pin_there word b at = at ∙ ap (λ y. pin_index y b) (sym h.numbers)
 
-  pub loaded_view : (word b : ℕ) → b < (device f).blocks → word ≡ pin_index (device f) b → state_told (step slots word 0 0 none) s.seat.me n after
+  pub loaded_view : (word b : ℕ) → b < (device f).blocks → word ≡ pin_index (device f) b → state_told (step (slots_of f) word 0 0 none) s.seat.me n after
       → Loaded (broom_view s) b n after.0
   loaded_view word b low at told = told.1 b (low_here f s h b low) (pin_there word b at)
 
   pub claimed_view : (word b old : ℕ) (p : PinWord) → CanClaim (broom_view s) b p → word ≡ pin_index (device f) b → old ≡ pin_word p
-      → claim_told (step slots word old (old + NEXT_PHASE) none) s.seat.me n after
+      → claim_told (step (slots_of f) word old (old + NEXT_PHASE) none) s.seat.me n after
       → Claimed (broom_view s) b p n after.0
   claimed_view word b old p can at packed told = told.1 b p can (pin_there word b at) packed
 
   pub drained_view : (word : ℕ) (o : ReclaimedBlock) → CanDrain (broom_view s) (reclaimed_as Victim o) → word ≡ pin_index (device f) o.block
-      → drain_told (step slots word NEXT_PHASE 0 none) s.seat.me n after
+      → drain_told (step (slots_of f) word NEXT_PHASE 0 none) s.seat.me n after
       → after.0 ≡ left_drained (broom_view s) o
   drained_view word o can at told = told.1 (reclaimed_as Victim o) can (pin_there word o.block at)
 
@@ -226,10 +174,10 @@ module _ (f : Flash) (s : BroomSeat) (h : IsBroomOf f s) where
   stamp_can o page is below cleared =
       record { own = draining_at (own_blocks s) (broom_view s).owns s.owns o is; victim = refl; written = subst (λ k. k < o.written) cleared below }
 
-module _ (f : Flash) (s : BroomSeat) (h : IsBroomOf f s) (slots n : ℕ) (after : Sitter) where
+module _ (f : Flash) (s : BroomSeat) (h : IsBroomOf f s) (n : ℕ) (after : Sitter) where
   pub stamp_view : (word page : ℕ) (o : ReclaimedBlock) → CanGetStamp (broom_view s) (reclaimed_as Victim o) → page ≡ (broom_view s).cleared
       → word ≡ page_index (device f) o.block page + (device f).words
-      → stamp_told (step slots word 0 0 none) s.seat.me n after → GotStamp (broom_view s) (reclaimed_as Victim o) n after.0
+      → stamp_told (step (slots_of f) word 0 0 none) s.seat.me n after → GotStamp (broom_view s) (reclaimed_as Victim o) n after.0
   stamp_view word page o can cleared at told =
       told.1 (reclaimed_as Victim o) can
       (at ∙ (ap (λ k. page_index (device f) o.block k + (device f).words) cleared
@@ -237,14 +185,14 @@ module _ (f : Flash) (s : BroomSeat) (h : IsBroomOf f s) (slots n : ℕ) (after 
 
   pub source_value : (word i : ℕ) (page : MapWord) (x : Source) (value : List ℕ) → (broom_view s).source ≡ Some x → x.page ≡ page
       → x.value ≡ Some value → i < (device f).words → word ≡ page_index (device f) page.block page.page + i
-      → source_told (step slots word 0 0 none) s.seat.me n after → n ≡ data_word value i
+      → source_told (step (slots_of f) word 0 0 none) s.seat.me n after → n ≡ data_word value i
   source_value word i page x value is same live low at told =
       told.1 x value i is live (subst (λ (y : Numbers). i < y.words) (sym h.numbers) low)
       (at ∙ (λ j. page_index (sym h.numbers j) (sym same j).block (sym same j).page + i))
 
   pub moved_view : (sector old new : ℕ) (x : Source) (from to : MapWord) → CanMove (broom_view s) x to → FitsMap from × FitsMap to → x.page ≡ from
       → x.stamp ≡ sector → old ≡ map_word from → new ≡ map_word to
-      → move_told (step slots sector old new none) s.seat.me n after → Moved (broom_view s) x n after.0
+      → move_told (step (slots_of f) sector old new none) s.seat.me n after → Moved (broom_view s) x n after.0
   moved_view sector old new x from to can fits same stamp packed copy told =
       told.1 x to can (subst FitsMap (sym same) fits.0) fits.1 (sym stamp) (packed ∙ ap map_word (sym same)) copy
 

@@ -24,6 +24,7 @@ use Rattle.flash_table.specs.GivingUp.{left_free, left_retired}
 use Rattle.flash_table.specs.Owning.{owned_of, reclaimed_as}
 use Rattle.flash_table.specs.Flash.{IsBroomOf, broom_view, own_blocks, device}
 use Rattle.flash_table.specs.Erasing.{IsUnread, CanLiveOn, IsLastErase, words_in_block}
+use Rattle.flash_table.proofs.Asking.{slots_of}
 use Rattle.flash_table.proofs.Blocks.{all_open, erasing_at}
 
 -- a broom erases one block
@@ -94,30 +95,30 @@ module _ (f : Flash) (s : BroomSeat) (h : IsBroomOf f s) where
   pub last_erase : (o : ReclaimedBlock) → (own_blocks s).reclaiming ≡ reclaiming.Erasing o → (x : ReclaimedBlock) × IsLastErase f s x → IsLastErase f s o
   last_erase o is some = of_erased (λ x. IsLastErase f s x) o is some.0 some.1.erases.its some.1
 
-module _ (f : Flash) (s : BroomSeat) (h : IsBroomOf f s) (slots n : ℕ) (after : Sitter) where
+module _ (f : Flash) (s : BroomSeat) (h : IsBroomOf f s) (n : ℕ) (after : Sitter) where
   -- ---- what a step's play makes of the seat
   pub condemned : (word b old : ℕ) (p : PinWord) → word ≡ pin_index (device f) b → old ≡ pin_word p → CanCondemn (broom_view s) b p
-      → condemn_told (step slots word old (old + NEXT_PHASE) none) s.seat.me n after → Condemned (broom_view s) b p n after.0
+      → condemn_told (step (slots_of f) word old (old + NEXT_PHASE) none) s.seat.me n after → Condemned (broom_view s) b p n after.0
   condemned word b old p at packed can told = told.1 b p can (at ∙ ap (λ y. pin_index y b) (sym h.numbers)) packed
 
   pub wipe_view : (word i : ℕ) (o : ReclaimedBlock) → CanWipe (broom_view s) (reclaimed_as Erasing o) → i ≡ (broom_view s).wiped
       → word ≡ page_index (device f) o.block 0 + i
-      → wipe_told (step slots word blank_word 0 none) s.seat.me n after → after.0 ≡ record (broom_view s) { wiped = i + 1 }
+      → wipe_told (step (slots_of f) word blank_word 0 none) s.seat.me n after → after.0 ≡ record (broom_view s) { wiped = i + 1 }
   wipe_view word i o can next at told =
       told.1 (reclaimed_as Erasing o) can (at ∙ λ j. page_index (sym h.numbers j) o.block 0 + next j) refl
       ∙ ap (λ k. record (broom_view s) { wiped = k + 1 }) (sym next)
 
   pub freed_view : (word added : ℕ) (o : ReclaimedBlock) → CanLiveOn f s o → word ≡ pin_index (device f) o.block
-      → freed_told (step slots word added 0 none) s.seat.me n after → after.0 ≡ left_free (broom_view s) o
+      → freed_told (step (slots_of f) word added 0 none) s.seat.me n after → after.0 ≡ left_free (broom_view s) o
   freed_view word added o lives at told = told.1 (reclaimed_as Erasing o) (can_renew f s h o lives) (at ∙ ap (λ y. pin_index y o.block) (sym h.numbers))
 
   pub kept_view : (word added : ℕ) (o : ReclaimedBlock) → CanLiveOn f s o → word ≡ pin_index (device f) o.block
-      → kept_told (step slots word added 0 none) s.seat.me n after
+      → kept_told (step (slots_of f) word added 0 none) s.seat.me n after
       → after.0 ≡ record (broom_view s) {
         owns = with_owned (owned_of (record { block = o.block; generation = o.generation + 1; written = 0 })) (broom_view s).owns;
       }
   kept_view word added o lives at told = told.1 (reclaimed_as Erasing o) (can_renew f s h o lives) (at ∙ ap (λ y. pin_index y o.block) (sym h.numbers))
 
   pub retired_view : (word : ℕ) (o : ReclaimedBlock) → IsLastErase f s o → word ≡ pin_index (device f) o.block
-      → retired_told (step slots word NEXT_PHASE 0 none) s.seat.me n after → after.0 ≡ left_retired (broom_view s) o
+      → retired_told (step (slots_of f) word NEXT_PHASE 0 none) s.seat.me n after → after.0 ≡ left_retired (broom_view s) o
   retired_view word o last at told = told.1 (reclaimed_as Erasing o) (can_retire f s h o last) (at ∙ ap (λ y. pin_index y o.block) (sym h.numbers))

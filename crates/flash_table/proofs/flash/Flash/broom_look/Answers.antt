@@ -1,24 +1,17 @@
 use Rattle.std.proofs.Common.{ap, ◌∙◌, subst, arith}
-use Rattle.geometry.specs.Geometry.{numbers_of}
 use Rattle.flash_rule.specs.declared.view.View.{View}
 use Rattle.flash_rule.specs.BroomPlays.{Named}
-use Rattle.flash_table.specs.Flash.{broom_view, device}
+use Rattle.flash_table.specs.Flash.{broom_view}
+use Rattle.flash_table.proofs.Asking.{of_broom}
 use Rattle.flash_table.proofs.Rows.{just_now}
 use Rattle.flash_table.proofs.HereBrooms.{broom_look_here}
-use Rattle.flash_table.proofs.ToldBrooms.{broom_player, stays_broom, unpacked}
+use Rattle.flash_table.proofs.ToldBrooms.{stays_broom, unpacked}
 use Rattle.std.proofs.lemmas.Grind.{common_steps}
 use Rattle.flash_table.proofs.flash.Flash.broom_look.Goals as goal
 
 pub load-found-requires : goal.load-found-requires
 load-found-requires c =
-    let f = c.args.self.now in
-    let size = f.size in
-    let below = c.requires.sector in (
-      c.requires.broom.table,
-      omega arith,
-      broom_look_here (device f) (numbers_of f.table.shared.key) (ap numbers_of f.key) _ _ _ c.args.sector
-          (broom_player f c.args.broom.now c.requires.broom) below,
-    )
+    let s = c.args.broom.now in broom_look_here c.args.self.now s.seat (of_broom c.args.self.now s c.requires.broom) c.args.sector c.requires.sector
 
 pub invariant_of-broom : goal.invariant_of-broom
 invariant_of-broom c =

@@ -1,60 +1,51 @@
-use Rattle.std.proofs.Common.{ap, ◌∙◌, arith}
-use Rattle.geometry.specs.Geometry.{numbers_of}
-use Rattle.geometry.specs.TableOrder.{pin_index}
+use Rattle.std.proofs.Common.{◌≡◌, ap, ◌∙◌}
 use Rattle.flash_rule.specs.declared.view.View.{View}
-use Rattle.flash_rule.proofs.Places.{pin_within}
-use Rattle.flash_table.specs.Flash.{device, broom_view, own_blocks}
+use Rattle.flash_table.specs.Flash.{broom_view, own_blocks}
+use Rattle.flash_table.specs.GivingUp.{left_closed}
 use Rattle.flash_table.specs.Owning.{owned_of}
-use Rattle.flash_table.specs.declared.pass.OpenBlock.{OpenBlock}
+use Rattle.flash_table.proofs.Asking.{of_broom}
 use Rattle.flash_table.proofs.Here.{close_here}
 use Rattle.flash_table.proofs.Blocks.{closed_just}
 use Rattle.flash_table.proofs.Rows.{just_now}
-use Rattle.flash_table.proofs.Told.{same_block}
-use Rattle.flash_table.proofs.ToldBrooms.{stays_broom, close_can, close_view}
+use Rattle.flash_table.proofs.Told.{same_block, close_can, close_view}
+use Rattle.flash_table.proofs.ToldBrooms.{stays_broom}
 use Rattle.flash_table.proofs.flash.Flash.close_destination.Goals as goal
+use Rattle.flash_table.proofs.flash.Flash.close_destination.Goals.{After-fetch_add}
 
 pub fetch_add-requires : goal.fetch_add-requires
 fetch_add-requires c =
     let f = c.args.self.now in
     let s = c.args.broom.now in
-    let o = c.in-Some.opened in
-    let can = close_can f s c.requires.broom o c.in-Some.is c.requires.settled in
-    let low = pin_within (device f) o.block can.1 in
-    let at = c.pin_at-word.ensures in
-    let size = f.size in (
-      c.requires.broom.table,
-      omega arith,
-      close_here (device f) (numbers_of f.table.shared.key) (ap numbers_of f.key) _ _ _ c.pin_at-word.result (owned_of o) at c.requires.broom.numbers can.0,
-    )
+    let can = close_can f.geometry (broom_view s) (own_blocks s).destination c.in-Some.opened c.in-Some.is c.requires.settled in
+    close_here f s.seat (of_broom f s c.requires.broom) c.pin_at-word.result (owned_of c.in-Some.opened) can.1 c.pin_at-word.ensures can.0
 
-pub invariant_of-broom : goal.invariant_of-broom
-invariant_of-broom c =
+closed : (c : After-fetch_add) → c.fetch_add.new.seat.me.0 ≡ left_closed (broom_view c.args.broom.now) c.in-Some.opened
+closed c =
     let f = c.args.self.now in
     let s = c.args.broom.now in
     let o = c.in-Some.opened in
-    let can = close_can f s c.requires.broom o c.in-Some.is c.requires.settled in
-    let changed = close_view f s c.requires.broom f.table.shared.table_id.slots c.fetch_add.result c.fetch_add.new.seat.me c.pin_at-word.result o
-    can.0 c.pin_at-word.ensures c.fetch_add.ensures.2 in
+    let can = close_can f.geometry (broom_view s) (own_blocks s).destination o c.in-Some.is c.requires.settled in
+    close_view f s.seat (of_broom f s c.requires.broom) c.fetch_add.result c.fetch_add.new.seat.me c.pin_at-word.result o can.0 c.pin_at-word.ensures
+    c.fetch_add.ensures.2
+
+pub invariant_of-broom : goal.invariant_of-broom
+invariant_of-broom c =
+    let s = c.args.broom.now in
+    let changed = closed (goal.at.invariant_of-broom c).After-fetch_add in
     record {
       bare = c.fetch_add.ensures.2.0 ∙ s.bare;
-      owns = just_now _ _ _ (ap (λ (w : View). w.owns) changed) (closed_just (own_blocks s) (broom_view s).owns s.owns o c.in-Some.is);
+      owns = just_now _ _ _ (ap (λ (w : View). w.owns) changed)
+          (closed_just (own_blocks s) (broom_view s).owns s.owns c.in-Some.opened c.in-Some.is);
     }
 
 pub returns-clause-closed : goal.returns-clause-closed
 returns-clause-closed c o is =
-    let f = c.args.self.now in
     let s = c.args.broom.now in
-    let can = close_can f s c.requires.broom o is c.requires.settled in
-    let same = same_block c.in-Some.opened o (own_blocks s).destination c.in-Some.is is in
-    close_view f s c.requires.broom f.table.shared.table_id.slots c.fetch_add.result c.fetch_add.new.seat.me c.pin_at-word.result o can.0
-    (c.pin_at-word.ensures ∙ ap (λ (y : OpenBlock). pin_index (device f) y.block) same) c.fetch_add.ensures.2
+    closed (goal.at.returns-clause-closed c).After-fetch_add
+    ∙ ap (left_closed (broom_view s)) (same_block c.in-Some.opened o (own_blocks s).destination c.in-Some.is is)
 
 pub returns-clause-broom : goal.returns-clause-broom
 returns-clause-broom c =
-    let f = c.args.self.now in
-    let s = c.args.broom.now in
-    let o = c.in-Some.opened in
-    let can = close_can f s c.requires.broom o c.in-Some.is c.requires.settled in
-    let changed = close_view f s c.requires.broom f.table.shared.table_id.slots c.fetch_add.result c.fetch_add.new.seat.me c.pin_at-word.result o
-    can.0 c.pin_at-word.ensures c.fetch_add.ensures.2 in
-    stays_broom f s _ c.requires.broom c.fetch_add.ensures.0 (ap (λ (w : View). w.role) changed) (ap (λ (w : View). w.numbers) changed)
+    let changed = closed (goal.at.returns-clause-broom c).After-fetch_add in
+    stays_broom c.args.self.now c.args.broom.now _ c.requires.broom c.fetch_add.ensures.0 (ap (λ (w : View). w.role) changed)
+    (ap (λ (w : View). w.numbers) changed)

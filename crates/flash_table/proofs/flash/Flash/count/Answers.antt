@@ -1,54 +1,52 @@
-use Rattle.std.proofs.Common.{ap, ◌∙◌, arith}
-use Rattle.geometry.specs.Geometry.{numbers_of}
+use Rattle.std.proofs.Common.{◌≡◌, ◌+◌, ◌∷◌, ◌++◌, [], Some, ap, ◌∙◌}
+use Rattle.flash_rule.specs.declared.facts.Work.{Work}
 use Rattle.flash_rule.specs.declared.view.View.{View}
-use Rattle.flash_rule.proofs.Places.{pin_within}
-use Rattle.flash_table.specs.Flash.{device}
-use Rattle.flash_table.specs.Owning.{owned_of}
-use Rattle.flash_table.proofs.Here.{count_here}
+use Rattle.flash_rule.specs.Plays.{CanCount}
 use Rattle.geometry.specs.TableOrder.{pin_index}
+use Rattle.flash_table.specs.Flash.{device, view_of}
+use Rattle.flash_table.specs.Owning.{owned_of}
 use Rattle.flash_table.specs.declared.pass.OpenBlock.{OpenBlock}
-use Rattle.flash_table.proofs.Told.{same_block, pass_player, stays_pass, count_can, count_view}
+use Rattle.flash_table.proofs.Asking.{of_pass}
+use Rattle.flash_table.proofs.Here.{count_here}
+use Rattle.flash_table.proofs.Told.{same_block, stays_pass, count_can, count_view, pass_counted}
 use Rattle.flash_table.proofs.flash.Flash.count.Goals as goal
+use Rattle.flash_table.proofs.flash.Flash.count.Goals.{After-fetch_add}
 
 pub fetch_add-requires : goal.fetch_add-requires
 fetch_add-requires c =
     let f = c.args.self.now in
     let p = c.args.pass.now in
     let o = c.in-Some.opened in
-    let can = count_can f p c.requires.pass 0 0 p.seat.me o c.in-Some.is c.requires.filled in
-    let low = pin_within (device f) o.block can.3 in
-    let at = c.pin_at-word.ensures in
-    let size = f.size in (
-      c.requires.pass.table,
-      omega arith,
-      count_here (device f) (numbers_of f.table.shared.key) (ap numbers_of f.key) _ _ _ c.pin_at-word.result
-          (owned_of o) can.0 at (pass_player _ c.requires.pass.role) c.requires.pass.numbers can.1,
-    )
+    let can = count_can f.geometry (view_of p) p.opened o c.in-Some.is c.requires.filled in
+    count_here f p.seat (of_pass f p c.requires.pass) c.pin_at-word.result (owned_of o) can.0 can.3 c.pin_at-word.ensures can.1
 
-pub invariant_of-pass : goal.invariant_of-pass
-invariant_of-pass c =
-    let f = c.args.self.now in
-    let p = c.args.pass.now in
-    let o = c.in-Some.opened in
-    let can = count_can f p c.requires.pass 0 0 p.seat.me o c.in-Some.is c.requires.filled in
-    let changed = count_view f p c.requires.pass c.args.self.now.table.shared.table_id.slots c.fetch_add.result c.fetch_add.new.seat.me
-    c.pin_at-word.result o can.0 c.in-Some.is can.1 c.pin_at-word.ensures c.fetch_add.ensures.2 in
-    record { bare = c.fetch_add.ensures.2.0 ∙ p.bare; owns = ap (λ (w : View). w.owns) changed }
-
-pub returns-clause-told : goal.returns-clause-told
-returns-clause-told c o x is can =
+counted : (c : After-fetch_add) (o : OpenBlock) (x : Work) → c.args.pass.now.opened ≡ Some o → CanCount (view_of c.args.pass.now) (owned_of o) x
+    → c.fetch_add.new.seat.me.0 ≡ record (view_of c.args.pass.now) {
+      programs = (view_of c.args.pass.now).programs ++ x.page ∷ [];
+      owns = owned_of (record o { written = o.written + 1 }) ∷ [];
+    }
+counted c o x is can =
     let f = c.args.self.now in
     let p = c.args.pass.now in
     let same = same_block c.in-Some.opened o p.opened c.in-Some.is is in
-    count_view f p c.requires.pass c.args.self.now.table.shared.table_id.slots c.fetch_add.result c.fetch_add.new.seat.me c.pin_at-word.result o x is
-    can (c.pin_at-word.ensures ∙ ap (λ (y : OpenBlock). pin_index (device f) y.block) same) c.fetch_add.ensures.2
+    pass_counted p o is c.fetch_add.new.seat.me.0 x.page
+    (count_view f p.seat (of_pass f p c.requires.pass) c.fetch_add.result c.fetch_add.new.seat.me c.pin_at-word.result o x can
+    (c.pin_at-word.ensures ∙ ap (λ (y : OpenBlock). pin_index (device f) y.block) same) c.fetch_add.ensures.2)
+
+pub invariant_of-pass : goal.invariant_of-pass
+invariant_of-pass c =
+    let p = c.args.pass.now in
+    let can = count_can c.args.self.now.geometry (view_of p) p.opened c.in-Some.opened c.in-Some.is c.requires.filled in
+    let changed = counted (goal.at.invariant_of-pass c).After-fetch_add c.in-Some.opened can.0 c.in-Some.is can.1 in
+    record { bare = c.fetch_add.ensures.2.0 ∙ p.bare; owns = ap (λ (w : View). w.owns) changed }
+
+pub returns-clause-told : goal.returns-clause-told
+returns-clause-told c = counted (goal.at.returns-clause-told c).After-fetch_add
 
 pub returns-clause-pass : goal.returns-clause-pass
 returns-clause-pass c =
     let f = c.args.self.now in
     let p = c.args.pass.now in
-    let o = c.in-Some.opened in
-    let can = count_can f p c.requires.pass 0 0 p.seat.me o c.in-Some.is c.requires.filled in
-    let changed = count_view f p c.requires.pass c.args.self.now.table.shared.table_id.slots c.fetch_add.result c.fetch_add.new.seat.me
-    c.pin_at-word.result o can.0 c.in-Some.is can.1 c.pin_at-word.ensures c.fetch_add.ensures.2 in
+    let can = count_can f.geometry (view_of p) p.opened c.in-Some.opened c.in-Some.is c.requires.filled in
+    let changed = counted (goal.at.returns-clause-pass c).After-fetch_add c.in-Some.opened can.0 c.in-Some.is can.1 in
     stays_pass f p _ c.requires.pass c.fetch_add.ensures.0 (ap (λ (w : View). w.role) changed) (ap (λ (w : View). w.numbers) changed)

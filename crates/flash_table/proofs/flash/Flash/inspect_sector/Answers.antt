@@ -1,7 +1,6 @@
-use Rattle.std.proofs.Common.{ap, ◌∙◌, arith}
-use Rattle.geometry.specs.Geometry.{numbers_of}
+use Rattle.std.proofs.Common.{ap, ◌∙◌}
 use Rattle.flash_rule.specs.declared.view.View.{View}
-use Rattle.flash_table.specs.Flash.{device}
+use Rattle.flash_table.proofs.Asking.{of_broom}
 use Rattle.flash_table.proofs.Rows.{just_now}
 use Rattle.flash_table.proofs.HereBrooms.{inspect_here}
 use Rattle.flash_table.proofs.ToldBrooms.{is_a_broom, stays_broom, inspected_by, inspected_changed}
@@ -10,13 +9,9 @@ use Rattle.flash_table.proofs.flash.Flash.inspect_sector.Goals as goal
 pub load-found-requires : goal.load-found-requires
 load-found-requires c =
     let f = c.args.self.now in
-    let size = f.size in
-    let below = c.requires.sector in (
-      c.requires.broom.table,
-      omega arith,
-      inspect_here (device f) (numbers_of f.table.shared.key) (ap numbers_of f.key) _ _ _ c.args.block c.args.sector c.args.state
-          (is_a_broom f c.args.broom.now c.requires.broom) c.requires.next below,
-    )
+    let s = c.args.broom.now in
+    inspect_here f s.seat (of_broom f s c.requires.broom) c.args.block c.args.sector c.args.state c.requires.sector (is_a_broom f s c.requires.broom)
+    c.requires.next
 
 pub invariant_of-broom : goal.invariant_of-broom
 invariant_of-broom c =

@@ -1,37 +1,33 @@
-use Rattle.std.proofs.Common.{ap, ◌∙◌, arith}
-use Rattle.geometry.specs.Geometry.{numbers_of}
+use Rattle.std.proofs.Common.{◌≡◌, ℕ, List, ap, ◌∙◌}
+use Rattle.flash_rule.specs.declared.facts.Pin.TheVariants.{Candidate}
 use Rattle.flash_rule.specs.declared.view.View.{View}
-use Rattle.flash_rule.proofs.Places.{pin_within}
-use Rattle.flash_table.specs.Flash.{device}
+use Rattle.flash_rule.specs.Plays.{Pinned}
+use Rattle.flash_table.specs.Flash.{view_of}
+use Rattle.flash_table.proofs.Asking.{of_pass}
 use Rattle.flash_table.proofs.Here.{pin_here}
 use Rattle.flash_table.proofs.Told.{stays_pass, by_outcome, pin_pinned, pin_yes, pin_no}
 use Rattle.flash_table.proofs.flash.Flash.pin.Goals as goal
+use Rattle.flash_table.proofs.flash.Flash.pin.Goals.{After-fetch_add-found}
 
 pub fetch_add-found-requires : goal.fetch_add-found-requires
 fetch_add-found-requires c =
-    let f = c.args.self.now in
-    let low = pin_within (device f) c.args.page.block c.requires.block in
-    let at = c.pin_at-word.ensures in
-    let size = f.size in
-    let can = c.requires.candidate in (
-      c.requires.pass.table,
-      omega arith,
-      pin_here (device f) (numbers_of f.table.shared.key) (ap numbers_of f.key) _ _ _ c.pin_at-word.result c.args.page can.0 at c.requires.pass.role
-          can.1 c.requires.block,
-    )
+    let p = c.args.pass.now in
+    pin_here c.args.self.now p.seat (of_pass c.args.self.now p c.requires.pass) c.pin_at-word.result c.args.page c.requires.block c.pin_at-word.ensures
+    c.requires.pass.role c.requires.candidate
+
+pinned : (c : After-fetch_add-found) (value : List ℕ) → (view_of c.args.pass.now).pin ≡ Candidate c.args.page value
+    → Pinned (view_of c.args.pass.now) c.args.page value c.fetch_add-found.result c.fetch_add-found.new.seat.me.0
+pinned c value pin = pin_pinned c.args.self.now c.args.pass.now c.requires.pass c.fetch_add-found.result c.fetch_add-found.new.seat.me c.pin_at-word.result
+    c.args.page value pin c.pin_at-word.ensures c.fetch_add-found.ensures.2
 
 pub invariant_of-pass : goal.invariant_of-pass
 invariant_of-pass c =
-    let told = pin_pinned c.args.self.now c.args.pass.now c.requires.pass c.args.self.now.table.shared.table_id.slots c.fetch_add-found.result
-    c.fetch_add-found.new.seat.me c.pin_at-word.result c.args.page c.requires.candidate.0 c.requires.candidate.1 c.pin_at-word.ensures
-    c.fetch_add-found.ensures.2 in
+    let told = pinned (goal.at.invariant_of-pass c).After-fetch_add-found c.requires.candidate.0 c.requires.candidate.1 in
     record { bare = c.fetch_add-found.ensures.2.0 ∙ c.args.pass.now.bare; owns = ap (λ (w : View). w.owns) told.changed ∙ c.args.pass.now.owns }
 
 pub returns-clause-pass : goal.returns-clause-pass
 returns-clause-pass c =
-    let told = pin_pinned c.args.self.now c.args.pass.now c.requires.pass c.args.self.now.table.shared.table_id.slots c.fetch_add-found.result
-    c.fetch_add-found.new.seat.me c.pin_at-word.result c.args.page c.requires.candidate.0 c.requires.candidate.1 c.pin_at-word.ensures
-    c.fetch_add-found.ensures.2 in
+    let told = pinned (goal.at.returns-clause-pass c).After-fetch_add-found c.requires.candidate.0 c.requires.candidate.1 in
     stays_pass c.args.self.now c.args.pass.now _ c.requires.pass c.fetch_add-found.ensures.0 (ap (λ (w : View). w.role) told.changed)
     (ap (λ (w : View). w.numbers) told.changed)
 
@@ -41,7 +37,6 @@ returns-clause-told c value pin =
     let p = c.args.pass.now in
     let w = c.fetch_add-found.new.seat.me in
     let n = c.fetch_add-found.result in
-    let told = pin_pinned f p c.requires.pass c.args.self.now.table.shared.table_id.slots n w c.pin_at-word.result c.args.page value pin
-    c.pin_at-word.ensures c.fetch_add-found.ensures.2 in
-    by_outcome c.finds_intact.result _ _ _ _ (pin_yes f p c.requires.pass c.args.self.now.table.shared.table_id.slots n w c.args.page value w.0 told)
-    (pin_no f p c.requires.pass c.args.self.now.table.shared.table_id.slots n w c.args.page value w.0 told) c.finds_intact.ensures
+    let told = pinned (goal.at.returns-clause-told c).After-fetch_add-found value pin in
+    by_outcome c.finds_intact.result _ _ _ _ (pin_yes f p c.requires.pass n w c.args.page value w.0 told)
+    (pin_no f p c.requires.pass n w c.args.page value w.0 told) c.finds_intact.ensures

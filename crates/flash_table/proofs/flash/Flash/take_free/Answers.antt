@@ -1,23 +1,16 @@
-use Rattle.std.proofs.Common.{ap, ◌∙◌, arith}
-use Rattle.geometry.specs.Geometry.{numbers_of}
+use Rattle.std.proofs.Common.{ap, ◌∙◌}
 use Rattle.flash_rule.specs.declared.view.View.{View}
 use Rattle.flash_rule.specs.Views.{is_player}
-use Rattle.flash_rule.proofs.Places.{pin_within}
 use Rattle.flash_table.specs.Flash.{device}
+use Rattle.flash_table.proofs.Asking.{IsSeatOf}
 use Rattle.flash_table.proofs.Here.{take_here, test_here}
 use Rattle.flash_table.proofs.ToldTaking.{tested_free, tested_taken, took_by}
 use Rattle.flash_table.proofs.flash.Flash.take_free.Goals as goal
 
 pub load-seen-requires : goal.load-seen-requires
 load-seen-requires c =
-    let f = c.args.self.now in
-    let low = pin_within (device f) c.args.block c.requires.block in
-    let at = c.pin_at-word.ensures in
-    let size = f.size in (
-      c.requires.table,
-      omega arith,
-      test_here (device f) (numbers_of f.table.shared.key) (ap numbers_of f.key) _ _ _ c.pin_at-word.result c.args.block at c.requires.player c.requires.block,
-    )
+    let seat : IsSeatOf c.args.self.now c.args.seat.now = record { table = c.requires.table; player = c.requires.player; numbers = c.requires.numbers } in
+    test_here c.args.self.now c.args.seat.now seat c.pin_at-word.result c.args.block c.requires.block c.pin_at-word.ensures
 
 pub returns-in_err-generation_if_free-clause-told : goal.returns-in_err-generation_if_free-clause-told
 returns-in_err-generation_if_free-clause-told c =
@@ -29,16 +22,13 @@ returns-in_err-generation_if_free-clause-told c =
 pub fetch_or-found-requires : goal.fetch_or-found-requires
 fetch_or-found-requires c =
     let f = c.args.self.now in
-    let low = pin_within (device f) c.args.block c.requires.block in
-    let at = c.pin_at-word.ensures in
-    let size = f.size in
     let same = tested_free (device f) c.args.seat.now.me c.requires.numbers f.table.shared.table_id.slots c.load-seen.result c.load-seen.new.seat.me
-    c.pin_at-word.result c.args.block c.requires.block at _ c.load-seen.ensures.2 c.in_ok-generation_if_free.ensures.some in (
-      c.load-seen.ensures.0 ∙ c.requires.table,
-      omega arith,
-      take_here (device f) (numbers_of f.table.shared.key) (ap numbers_of f.key) _ _ _ c.pin_at-word.result c.args.block at
-          (ap (λ (w : View). is_player w.role) same ∙ c.requires.player) c.requires.block,
-    )
+    c.pin_at-word.result c.args.block c.requires.block c.pin_at-word.ensures _ c.load-seen.ensures.2 c.in_ok-generation_if_free.ensures.some in
+    let seat : IsSeatOf f c.load-seen.new.seat = record {
+      table = c.load-seen.ensures.0 ∙ c.requires.table;
+      player = ap (λ (w : View). is_player w.role) same ∙ c.requires.player;
+      numbers = ap (λ (w : View). w.numbers) same ∙ c.requires.numbers;
+    } in take_here f c.load-seen.new.seat seat c.pin_at-word.result c.args.block c.requires.block c.pin_at-word.ensures
 
 pub returns-clause-told : goal.returns-clause-told
 returns-clause-told c =

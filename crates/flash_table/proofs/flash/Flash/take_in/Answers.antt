@@ -1,20 +1,8 @@
-use Rattle.std.proofs.Common.{ap, arith}
-use Rattle.geometry.specs.Geometry.{numbers_of}
-use Rattle.flash_table.specs.Flash.{device, view_of, note_view}
+use Rattle.flash_table.proofs.Asking.{of_pass}
 use Rattle.flash_table.proofs.Here.{take_in_here}
-use Rattle.flash_table.proofs.Told.{pass_player}
 use Rattle.flash_table.proofs.flash.Flash.take_in.Goals as goal
 
 pub join_seat-requires : goal.join_seat-requires
 join_seat-requires c =
-    let f = c.args.self.now in
-    let size = f.size in
-    let some_sector = f.geometry.in_limits.sectors_low in
-    let t = c.requires.lent in (
-      c.requires.pass.table,
-      c.requires.note.table,
-      c.args.note.bare,
-      omega arith,
-      take_in_here (device f) (numbers_of f.table.shared.key) (ap numbers_of f.key) c.args.pass.now.seat.id (view_of c.args.pass.now)
-          (pass_player _ c.requires.pass.role) c.args.note.seat.id (note_view c.args.note) t.0 c.requires.note.role t.2 t.1 c.requires.whole,
-    )
+    let p = c.args.pass.now in
+    take_in_here c.args.self.now p.seat (of_pass c.args.self.now p c.requires.pass) c.args.note c.requires.note c.requires.lent c.requires.whole

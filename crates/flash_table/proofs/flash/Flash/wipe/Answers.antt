@@ -1,12 +1,12 @@
-use Rattle.std.proofs.Common.{◌≡◌, ◌+◌, ap, ◌∙◌, arith, refl}
-use Rattle.geometry.specs.Geometry.{numbers_of}
+use Rattle.std.proofs.Common.{◌≡◌, ◌+◌, ap, ◌∙◌, arith, refl, subst}
 use Rattle.geometry.specs.TableOrder.{page_index}
 use Rattle.flash_rule.specs.declared.view.View.{View}
 use Rattle.flash_rule.specs.World.{blank_word}
 use Rattle.flash_table.specs.Flash.{device, broom_view}
+use Rattle.flash_table.proofs.Asking.{IsPlace, of_broom}
 use Rattle.flash_table.proofs.HereErasing.{wipe_here}
 use Rattle.flash_table.proofs.Rows.{just_now}
-use Rattle.flash_table.proofs.ToldBrooms.{broom_player, stays_broom}
+use Rattle.flash_table.proofs.ToldBrooms.{stays_broom}
 use Rattle.flash_table.proofs.ToldErasing.{can_wipe, wiped_within, wipe_view}
 use Rattle.flash_table.proofs.flash.Flash.wipe.Goals as goal
 use Rattle.flash_table.proofs.flash.Flash.wipe.Goals.{After-store}
@@ -24,16 +24,12 @@ store-requires c =
     let f = c.args.self.now in
     let s = c.args.broom.now in
     let t = c.requires.erasing in
+    let next = c.requires.next in
     let start = c.requires.start t.0 t.1.its in
     let low = wiped_within (device f) t.0.block c.args.i t.1.low c.requires.word in
-    let next = c.requires.next in
-    let here : c.args.start + c.args.i ≡ page_index (device f) t.0.block 0 + (broom_view s).wiped = omega arith in
-    let size = f.size in (
-      c.requires.broom.table,
-      omega arith,
-      wipe_here (device f) (numbers_of f.table.shared.key) (ap numbers_of f.key) _ _ _ (c.args.start + c.args.i) _ here
-          (broom_player f s c.requires.broom) c.requires.broom.numbers (can_wipe f s c.requires.broom t.0 c.args.i t.1.its next c.requires.word),
-    )
+    wipe_here f s.seat (of_broom f s c.requires.broom) (c.args.start + c.args.i) _
+    (subst (λ k. IsPlace f (page_index (device f) t.0.block 0 + k)) next low) (omega arith)
+    (can_wipe f s c.requires.broom t.0 c.args.i t.1.its next c.requires.word)
 
 -- the broom has wiped one word more, and nothing else has changed
 changed : (c : After-store) → c.store.new.seat.me.0 ≡ record (broom_view c.args.broom.now) { wiped = c.args.i + 1 }
@@ -43,8 +39,7 @@ changed c =
     let t = c.requires.erasing in
     let can = can_wipe f s c.requires.broom t.0 c.args.i t.1.its c.requires.next c.requires.word in
     let at : c.args.start + c.args.i ≡ page_index (device f) t.0.block 0 + c.args.i = ap (λ n. n + c.args.i) (c.requires.start t.0 t.1.its) in
-    wipe_view f s c.requires.broom f.table.shared.table_id.slots blank_word c.store.new.seat.me
-    (c.args.start + c.args.i) c.args.i t.0 can c.requires.next at c.store.ensures.2
+    wipe_view f s c.requires.broom blank_word c.store.new.seat.me (c.args.start + c.args.i) c.args.i t.0 can c.requires.next at c.store.ensures.2
 
 pub invariant_of-broom : goal.invariant_of-broom
 invariant_of-broom c =
