@@ -9,3 +9,5 @@ pub mod Frees
 pub mod Promises
 pub mod Noting
 pub mod Reserves
+pub mod Subsequences
+pub mod Exact

@@ -275,7 +275,7 @@ readable_renumbered f t old new acked begun renumbered same is = record {
 readable_on : (f : Flash) (old new : Device) (acked begun : List Update) → new ≡ old → IsReadable f old acked begun → IsReadable f new acked begun
 readable_on f old new acked begun same = subst (λ (d : Device). IsReadable f d acked begun) (sym same)
 
-remounts : (f : Flash) (device : Device) (new : Core) (acked begun : List Update) → IsMountedFrom f new → device_of new ≡ device
+pub remounts : (f : Flash) (device : Device) (new : Core) (acked begun : List Update) → IsMountedFrom f new → device_of new ≡ device
     → IsReadable f device acked begun
     → IsConsistent f new acked begun
 remounts f device new acked begun from same is =

@@ -1,8 +1,8 @@
 -- Whole runs: commands that succeed, commands that fail, and power cuts inside a command or between two. A mount follows each failure and each cut.
-use Rattle.std.specs.Prelude.{◌≡◌, ◌+◌, ℕ, List, [], ◌∷◌}
+use Rattle.std.specs.Prelude.{◌≡◌, ◌+◌, ℕ, Bool, true, false, List, [], ◌∷◌, if◌then◌else◌}
 use Rattle.durable.specs.Updates.{Update}
 use Rattle.durable.specs.Flash.{Flash, IsErased}
-use Rattle.durable.specs.Commands.{Completes, CutLeaves, updates_with}
+use Rattle.durable.specs.Commands.{Completes, CutLeaves, is_program, updates_with}
 use Rattle.durable.specs.Device.{device_of, device_in}
 use Rattle.durable.specs.Failures.{Changes, IsRenumbered, IsSameFlashOf, IsSwapped}
 use Rattle.durable.specs.Calls.{IsSafe, SurvivesCut, Acknowledges, HasNoted, Remounts}
@@ -53,6 +53,14 @@ begun_in (Completed update command ∷ events) = updates_with command update (be
 begun_in (Failed update command ∷ events) = update ∷ begun_in events
 begun_in (CutInside update command ∷ events) = update ∷ begun_in events
 begun_in (CutBetween ∷ events) = begun_in events
+
+-- the calls of a run, the newest first, and whether each was acknowledged: its program has succeeded, or its command failed or was cut
+abbrev pub outcomes_in : List Event → List (Update × Bool)
+outcomes_in [] = []
+outcomes_in (Completed update command ∷ events) = if is_program command then (update, true) ∷ outcomes_in events else outcomes_in events
+outcomes_in (Failed update command ∷ events) = (update, false) ∷ outcomes_in events
+outcomes_in (CutInside update command ∷ events) = (update, false) ∷ outcomes_in events
+outcomes_in (CutBetween ∷ events) = outcomes_in events
 
 -- how many commands of a run have failed
 abbrev pub failures_in : List Event → ℕ

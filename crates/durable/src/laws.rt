@@ -15,8 +15,8 @@ ghost use Rattle.durable.specs.Memory.{IsMappedTo, map_entry};
 ghost use Rattle.durable.specs.Mounting.{IsStampOf, next_in, after_in};
 ghost use Rattle.durable.specs.Promise.{IsConsistent, IsReadable, IsRecoverable, KeepsAcknowledged};
 ghost use Rattle.durable.specs.Runs.{Completed, CutBetween, CutInside, Event, Failed, IsMountedFrom, Runs, RunsOnReserve};
-ghost use Rattle.durable.specs.Runs.{acknowledged_in, begun_in, failures_in};
-ghost use Rattle.durable.specs.Updates.{IsSubsequence, Update, array_after, changed};
+ghost use Rattle.durable.specs.Runs.{acknowledged_in, begun_in, outcomes_in, failures_in};
+ghost use Rattle.durable.specs.Updates.{AreMade, IsSubsequence, Makes, Update, array_after, changed};
 ghost use Rattle.durable.specs.declared.command.Command.TheVariants as command;
 ghost use Rattle.durable.specs.declared.fault.MountFault.TheVariants.{NoFreeBlock};
 ghost use Rattle.durable.specs.declared.memory.Core.{Core as Layer};
@@ -31,6 +31,15 @@ pub fn arrays()
     ensures some { (u v : Update) → IsSubsequence (v ∷ []) (u ∷ v ∷ []) }
     ensures more { (u : Update) → ¬ IsSubsequence (u ∷ []) [] }
     ensures order { (u v : Update) → u ≢ v → ¬ IsSubsequence (u ∷ v ∷ []) (v ∷ u ∷ []) }
+    ensures done { (u : Update) (before after : List Update) → Makes true u before after → after ≡ u ∷ before }
+    ensures before { (u : Update) → Makes false u [] [] }
+    ensures after { (u : Update) → Makes false u [] (u ∷ []) }
+    ensures no_other { (u v : Update) → u ≢ v → ¬ Makes false u [] (v ∷ []) }
+    ensures no_call { (updates : List Update) → AreMade [] updates → updates ≡ [] }
+    ensures in_order { (u v : Update) (updates : List Update) → AreMade ((u, true) ∷ (v, true) ∷ []) updates → updates ≡ u ∷ v ∷ [] }
+    ensures cut_short { (u v : Update) → AreMade ((u, false) ∷ (v, true) ∷ []) (v ∷ []) }
+    ensures cut_late { (u v : Update) → AreMade ((u, false) ∷ (v, true) ∷ []) (u ∷ v ∷ []) }
+    ensures kept { (u v : Update) → u ≢ v → ¬ AreMade ((u, true) ∷ (v, false) ∷ []) (v ∷ []) }
 {}
 
 /// What is read of a sector with two versions, and of one with none.
@@ -293,6 +302,10 @@ pub fn runs()
         → IsMountedFrom t new }
     ensures failed_same { (events : List Event) (t : Flash) (new : Layer) (u : Update) → Runs (Failed u (command.Erase 1) ∷ events) t new
         → (f : Flash) × (old : Layer) × Runs events f old × IsSameFlashOf (device_of old) (device_of new) }
+    ensures call { (u v : Update) → outcomes_in (Completed u (command.Program (record { block = 1; page = 2 }) 5) ∷ Failed v (command.Erase 1) ∷ [])
+        ≡ (u, true) ∷ (v, false) ∷ [] }
+    ensures no_call { (u : Update) → outcomes_in (Completed u (command.Erase 1) ∷ CutBetween ∷ []) ≡ [] }
+    ensures cut_call { (u : Update) → outcomes_in (CutInside u (command.Program (record { block = 1; page = 2 }) 5) ∷ []) ≡ (u, false) ∷ [] }
     ensures counted { (u : Update) → failures_in (Failed u (command.Erase 1) ∷ Completed u (command.Erase 1) ∷ Failed u (command.Erase 2) ∷ []) ≡ 2 }
     ensures not_counted { (u : Update) → failures_in (CutInside u (command.Erase 1) ∷ CutBetween ∷ []) ≡ 0 }
 {}

@@ -1,15 +1,15 @@
 ghost use Rattle.std.specs.Prelude.{◌≡◌, ◌<◌, ◌≤◌, ◌+◌, ℕ, List, [], ◌∷◌};
-ghost use Rattle.durable.specs.Flash.{Flash, IsErased};
+ghost use Rattle.durable.specs.Flash.{Flash, IsErased, Recovers};
 ghost use Rattle.durable.specs.Device.{Device, device_of, NamesOn};
 ghost use Rattle.durable.specs.Commands.{CutLeaves};
 ghost use Rattle.durable.specs.Calls.{IsSafe, SurvivesCut};
 ghost use Rattle.durable.specs.Failures.{Changes, HasVersionlessBlock, HoldsNoVersion, IsRenumbered, IsSameFlashOf, IsSwapped};
 ghost use Rattle.geometry.specs.Sectors.{Sector};
-ghost use Rattle.durable.specs.Updates.{Update};
+ghost use Rattle.durable.specs.Updates.{AreMade, Update, array_after};
 ghost use Rattle.durable.specs.declared.command.Command.{Command as Next};
 ghost use Rattle.durable.specs.declared.memory.Core.{Core as Layer};
 ghost use Rattle.durable.specs.Promise.{KeepsAcknowledged, IsReadable, IsRecoverable, IsConsistent};
-ghost use Rattle.durable.specs.Runs.{Event, Runs, RunsOnReserve, acknowledged_in, begun_in, failures_in};
+ghost use Rattle.durable.specs.Runs.{Event, Runs, RunsOnReserve, acknowledged_in, begun_in, outcomes_in, failures_in};
 
 /// After any run of commands with any number of power cuts, each inside a command or between two, and with any number of commands that fail, a mount
 /// reads every acknowledged update.
@@ -20,6 +20,10 @@ pub fn keeps_acknowledged()
         → KeepsAcknowledged f (device_of layer).sectors (acknowledged_in events) (begun_in events) }
     ensures consistent { (events : List Event) (f : Flash) (layer : Layer) → Runs events f layer
         → IsConsistent f layer (acknowledged_in events) (begun_in events) }
+
+    // Told call by call: each acknowledged call has made its update, each other one has made it or not, and nothing else has.
+    ensures each { (events : List Event) (f : Flash) (layer : Layer) → Runs events f layer
+        → (updates : List Update) × AreMade (outcomes_in events) updates × Recovers f (device_of layer).sectors (array_after updates) }
 {}
 
 /// What a command that fails leaves can be mounted, if the blocks are numbered so that one without versions comes in use: one in reserve, since no

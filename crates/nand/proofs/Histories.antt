@@ -2,56 +2,63 @@
 use Rattle.std.proofs.Common.{◌≡◌, ◌⊎◌, ◌∙◌, inl, inr, ◌+◌, ◌<◌, ℕ, zero, suc, Bool, false, List, [], ◌∷◌, ◌++◌, length, Result, Ok, Err, IfOk, IfErr}
 use Rattle.std.proofs.Common.{get_or, set, refl, sym, ap, subst, arith}
 use Rattle.durable.specs.Flash.{Flash}
-use Rattle.durable.specs.Promise.{IsRecoverable}
-use Rattle.durable.specs.Updates.{Update}
+use Rattle.durable.specs.Promise.{IsReadable}
+use Rattle.durable.specs.Updates.{Makes, Update}
 use Rattle.nand.specs.declared.failure.Failure.{Failure}
 use Rattle.nand.specs.declared.flash.Shape.{Shape}
 use Rattle.nand.specs.declared.history.Change.{Change}
 use Rattle.nand.specs.declared.layer.Durable.{Durable}
 use Rattle.nand.specs.declared.layer.NotOpened.{NotOpened}
-use Rattle.nand.specs.Histories.{Makes, Leads, update_by}
-use Rattle.nand.specs.Opened.{CanOpen, Fails, IsOpenLayer, device_on, layer_sectors}
+use Rattle.nand.specs.Histories.{Leads, update_by}
+use Rattle.nand.specs.Opened.{CanFreeGood, CanOpen, Fails, IsOpenLayer, device_on, layer_sectors}
 
-module _ {N : Type 0} (flash : N → Flash) (shape : N → Shape) (update : Update) (before : List Update) where
+-- the same as `CanOpen`, of what a chip holds
+abbrev Opens : ℕ → List Update → Flash → Shape → List Bool → Type 0
+Opens sectors updates f shape bad = IsReadable f (device_on shape bad sectors) updates updates × CanFreeGood f bad shape.blocks sectors
+
+-- a chip that holds the same can be opened too
+pub same_chip : {N : Type 0} (flash : N → Flash) (shape : N → Shape) (bad : N → List Bool) (nand back : N) (sectors : ℕ) (updates : List Update)
+    → (flash back ≡ flash nand) × (shape back ≡ shape nand) × (bad back ≡ bad nand) → CanOpen flash shape bad nand sectors updates
+    → CanOpen flash shape bad back sectors updates
+same_chip {N} flash shape bad nand back sectors updates same is =
+    subst (λ (f : Flash). Opens sectors updates f (shape back) (bad back)) (sym same.0)
+    (subst (λ (s : Shape). Opens sectors updates (flash nand) s (bad back)) (sym same.1)
+    (subst (λ (m : List Bool). Opens sectors updates (flash nand) (shape nand) m) (sym same.2) is))
+
+module _ {N : Type 0} (flash : N → Flash) (shape : N → Shape) (bad : N → List Bool) (update : Update) (before : List Update) where
   abbrev pub LeavesOpen : Bool → Durable N → Type 0
-  LeavesOpen acknowledged layer = (after : List Update) × Makes acknowledged update before after × IsOpenLayer flash shape layer after
+  LeavesOpen acknowledged layer = (after : List Update) × Makes acknowledged update before after × IsOpenLayer flash shape bad layer after
 
   abbrev pub LeavesChip : Bool → ℕ → NotOpened N → Type 0
   LeavesChip acknowledged sectors refused =
-      (after : List Update) × Makes acknowledged update before after × CanOpen flash shape refused.nand sectors after
+      (after : List Update) × Makes acknowledged update before after × CanOpen flash shape bad refused.nand sectors after
 
   -- the chip is opened after a call that was cut short
   pub opens : (nand : N) (sectors : ℕ) (result : Result (Durable N) (NotOpened N))
-      → CanOpen flash shape nand sectors before ⊎ CanOpen flash shape nand sectors (update ∷ before)
-      → ((updates : List Update) → CanOpen flash shape nand sectors updates → IfOk result (λ layer. IsOpenLayer flash shape layer updates))
+      → CanOpen flash shape bad nand sectors before ⊎ CanOpen flash shape bad nand sectors (update ∷ before)
+      → ((updates : List Update) → CanOpen flash shape bad nand sectors updates → IfOk result (λ layer. IsOpenLayer flash shape bad layer updates))
       → IfOk result (LeavesOpen false)
   opens nand sectors (Err refused) left again = tt
   opens nand sectors (Ok layer) (inl left) again = (before, inl refl, again before left)
   opens nand sectors (Ok layer) (inr left) again = (update ∷ before, inr refl, again (update ∷ before) left)
 
   -- or it comes back
-  same_chip : (nand back : N) (sectors : ℕ) (updates : List Update) → flash back ≡ flash nand → shape back ≡ shape nand
-      → CanOpen flash shape nand sectors updates → CanOpen flash shape back sectors updates
-  same_chip nand back sectors updates same sized is =
-      subst (λ (f : Flash). IsRecoverable f (device_on (shape back) sectors) updates updates) (sym same)
-      (subst (λ (s : Shape). IsRecoverable (flash nand) (device_on s sectors) updates updates) (sym sized) is)
-
   pub comes_back : (nand : N) (sectors : ℕ) (result : Result (Durable N) (NotOpened N))
-      → CanOpen flash shape nand sectors before ⊎ CanOpen flash shape nand sectors (update ∷ before)
-      → IfErr result (λ refused. (flash refused.nand ≡ flash nand) × (shape refused.nand ≡ shape nand))
+      → CanOpen flash shape bad nand sectors before ⊎ CanOpen flash shape bad nand sectors (update ∷ before)
+      → IfErr result (λ refused. (flash refused.nand ≡ flash nand) × (shape refused.nand ≡ shape nand) × (bad refused.nand ≡ bad nand))
       → IfErr result (LeavesChip false sectors)
   comes_back nand sectors (Ok layer) left back = tt
-  comes_back nand sectors (Err refused) (inl left) back = (before, inl refl, same_chip nand refused.nand sectors before back.0 back.1 left)
+  comes_back nand sectors (Err refused) (inl left) back = (before, inl refl, same_chip flash shape bad nand refused.nand sectors before back left)
   comes_back nand sectors (Err refused) (inr left) back =
-      (update ∷ before, inr refl, same_chip nand refused.nand sectors (update ∷ before) back.0 back.1 left)
+      (update ∷ before, inr refl, same_chip flash shape bad nand refused.nand sectors (update ∷ before) back left)
 
 -- what a failed call leaves can be opened, for as many sectors
-pub reopens : {N : Type 0} (flash : N → Flash) (shape : N → Shape) (old new : Durable N) (nand : N) (update : Update) (updates : List Update)
-    (cause : Failure) (sectors : ℕ) → sectors ≡ layer_sectors old → nand ≡ new.nand → Fails flash shape old new update updates cause
-    → CanOpen flash shape nand sectors updates ⊎ CanOpen flash shape nand sectors (update ∷ updates)
-reopens {N} flash shape old new nand update updates cause sectors size chip fails =
-    subst (λ (x : N). CanOpen flash shape x sectors updates ⊎ CanOpen flash shape x sectors (update ∷ updates)) (sym chip)
-    (subst (λ (n : ℕ). CanOpen flash shape new.nand n updates ⊎ CanOpen flash shape new.nand n (update ∷ updates)) (sym size) fails.reopens)
+pub reopens : {N : Type 0} (flash : N → Flash) (shape : N → Shape) (bad : N → List Bool) (old new : Durable N) (nand : N) (update : Update)
+    (updates : List Update) (cause : Failure) (sectors : ℕ) → sectors ≡ layer_sectors old → nand ≡ new.nand → Fails flash shape bad old new update updates cause
+    → CanOpen flash shape bad nand sectors updates ⊎ CanOpen flash shape bad nand sectors (update ∷ updates)
+reopens {N} flash shape bad old new nand update updates cause sectors size chip fails =
+    subst (λ (x : N). CanOpen flash shape bad x sectors updates ⊎ CanOpen flash shape bad x sectors (update ∷ updates)) (sym chip)
+    (subst (λ (n : ℕ). CanOpen flash shape bad new.nand n updates ⊎ CanOpen flash shape bad new.nand n (update ∷ updates)) (sym size) fails.reopens)
 
 -- the last outcome is set
 pub set_last : (outcomes : List Bool) (old new : Bool) (n : ℕ) → length outcomes ≡ n → set (outcomes ++ old ∷ []) n new ≡ outcomes ++ new ∷ []

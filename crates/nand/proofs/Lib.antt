@@ -1,5 +1,5 @@
-pub mod Subsequences
 pub mod Histories
+pub mod Orders
 pub mod Steps
 pub mod Mounted
 pub mod Readings

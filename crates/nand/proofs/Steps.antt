@@ -1,5 +1,5 @@
 -- The commands of one call.
-use Rattle.std.proofs.Common.{◌≡◌, ◌≢◌, ◌⊎◌, ◌∙◌, inl, inr, ⊎_elim, ◌<◌, ℕ, true, false, List, ◌∷◌, None, Some, Result, Ok, Err, OnOk, IfErr, sym, refl}
+use Rattle.std.proofs.Common.{◌≡◌, ◌≢◌, ◌⊎◌, ◌∙◌, inl, inr, ⊎_elim, ◌<◌, ℕ, Bool, true, false, List, ◌∷◌, None, Some, Result, Ok, Err, OnOk, IfErr, sym, refl}
 use Rattle.std.proofs.Common.{ap, subst, arith}
 use Rattle.std.proofs.lemmas.Bool.{cases_eq, false≢true}
 use Rattle.std.proofs.lemmas.Bool.Decides.{nat_tests}
@@ -11,10 +11,11 @@ use Rattle.durable.specs.declared.memory.Core.{Core}
 use Rattle.durable.specs.Choice.{Spends, number_after}
 use Rattle.durable.specs.Commands.{is_program, updates_with}
 use Rattle.durable.specs.Device.{Device, device_of}
-use Rattle.durable.specs.Flash.{Flash, Recovers}
-use Rattle.durable.specs.Promise.{IsConsistent, IsRecoverable, KeepsAcknowledged}
+use Rattle.durable.specs.Flash.{Flash}
+use Rattle.durable.specs.Promise.{IsConsistent, IsReadable, IsRecoverable}
 use Rattle.durable.specs.Memory.{Represents}
 use Rattle.durable.specs.Updates.{Update, array_after, changed}
+use Rattle.durable.proofs.Exact.{before_or_after}
 use Rattle.durable.proofs.Promises.{survives_idle_cut}
 use Rattle.nand.specs.declared.failure.Failure.{Failure}
 use Rattle.nand.specs.declared.failure.Failure.TheVariants as failure
@@ -22,8 +23,10 @@ use Rattle.nand.specs.declared.flash.Fault.{Fault}
 use Rattle.nand.specs.declared.flash.Fault.TheVariants as fault
 use Rattle.nand.specs.declared.flash.Shape.{Shape}
 use Rattle.nand.specs.declared.layer.Durable.{Durable}
-use Rattle.nand.specs.Opened.{CanOpen, Fails, IsOpenLayer, IsRefusal, IsTrueCause, device_on, failure_of, layer_sectors, number_of, update_of}
-use Rattle.nand.proofs.Subsequences.{all_of, between_next, between_same}
+use Rattle.nand.specs.Numbers.{IsOrder, numbered}
+use Rattle.nand.specs.Opened.{CanFreeGood, CanOpen, Fails, IsOpenLayer, IsRefusal, IsTrueCause, device_on, failure_of, layer_sectors, number_of, update_of}
+use Rattle.nand.proofs.Orders.{openable}
+use Rattle.durable.proofs.Subsequences.{all_of, between_same}
 
 -- the program adds its update, and no other command does
 pub adds : (m : Command) (update : Update) (was : List Update) → is_program m ≡ true → updates_with m update was ≡ update ∷ was
@@ -51,27 +54,15 @@ nearer (Copy k from to) pages old new spends is goes = omega (arith, spends.1)
 nearer (Erase b) pages old new spends is goes = omega (arith, spends.0, spends.1)
 nearer Refused pages old new spends is goes = absurd (goes refl)
 
--- the updates that a flash keeps, told exactly
-exact : (f : Flash) (sectors : ℕ) (updates found : List Update) → found ≡ updates → Recovers f sectors (array_after found)
-    → KeepsAcknowledged f sectors updates updates
-exact f sectors updates found is recovers = subst (λ (us : List Update). KeepsAcknowledged f sectors us us) is
-    (record { updates = found; includes = all_of found; included = all_of found; recovers = recovers })
-
--- what a power cut inside an update leaves has the array from before it, or the one from after it
-pub before_or_after : (f : Flash) (device : Device) (update : Update) (updates : List Update) → IsRecoverable f device updates (update ∷ updates)
-    → IsRecoverable f device updates updates ⊎ IsRecoverable f device (update ∷ updates) (update ∷ updates)
-before_or_after f device update updates is = ⊎_elim
-    (λ before. inl (record {
-      keeps = exact f device.sectors updates is.keeps.updates before is.keeps.recovers;
-      written = is.written;
-      spare = is.spare;
-    }))
-    (λ after. inr (record {
-      keeps = exact f device.sectors (update ∷ updates) is.keeps.updates after is.keeps.recovers;
-      written = is.written;
-      spare = is.spare;
-    }))
-    (between_next update updates is.keeps.updates is.keeps.includes is.keeps.included)
+-- what a power cut inside an update leaves on the chip has the array from before it, or the one from after it
+pub opens_before_or_after : (f : Flash) (shape : Shape) (bad : List Bool) (numbers : List ℕ) (sectors : ℕ) (update : Update) (updates : List Update)
+    → IsOrder numbers bad shape.blocks → IsRecoverable (numbered numbers f) (device_on shape bad sectors) updates (update ∷ updates)
+    → (IsReadable f (device_on shape bad sectors) updates updates × CanFreeGood f bad shape.blocks sectors)
+    ⊎ (IsReadable f (device_on shape bad sectors) (update ∷ updates) (update ∷ updates) × CanFreeGood f bad shape.blocks sectors)
+opens_before_or_after f shape bad numbers sectors update updates order is = ⊎_elim
+    (λ before. inl (openable f shape bad numbers sectors order updates before))
+    (λ after. inr (openable f shape bad numbers sectors order (update ∷ updates) after))
+    (before_or_after (numbered numbers f) (device_on shape bad sectors) update updates is)
 
 -- an open layer's map is that of the array after its updates
 pub array_is : (f : Flash) (core : Core) (updates : List Update) (is : IsConsistent f core updates updates) (s : ℕ)
@@ -79,45 +70,64 @@ pub array_is : (f : Flash) (core : Core) (updates : List Update) (is : IsConsist
 array_is f core updates is s = ap (λ (us : List Update). array_after us s) (between_same updates is.updates is.includes is.included)
 
 -- the device is the chip's as before
-pub moved : (old new : Core) (a b : Shape) → device_of new ≡ device_of old → device_of old ≡ device_on a (device_of old).sectors → b ≡ a
-    → device_of new ≡ device_on b (device_of new).sectors
-moved old new a b same is chip = same ∙ (is ∙ (ap (λ (x : Shape). device_on x (device_of old).sectors) (sym chip)
-    ∙ ap (λ (d : Device). device_on b d.sectors) (sym same)))
+pub moved : (old new : Core) (a b : Shape) (x y : List Bool) → device_of new ≡ device_of old → device_of old ≡ device_on a x (device_of old).sectors
+    → b ≡ a → y ≡ x → device_of new ≡ device_on b y (device_of new).sectors
+moved old new a b x y same is chip marks = same ∙ (is ∙ (ap (λ (s : Shape). device_on s x (device_of old).sectors) (sym chip)
+    ∙ (ap (λ (m : List Bool). device_on b m (device_of old).sectors) (sym marks) ∙ ap (λ (d : Device). device_on b y d.sectors) (sym same))))
+
+pub device_there : (core : Core) (a b : Shape) (x y : List Bool) (sectors : ℕ) → device_of core ≡ device_on a x sectors → b ≡ a → y ≡ x
+    → device_of core ≡ device_on b y (device_of core).sectors
+device_there core a b x y sectors is chip marks = is ∙ (ap (λ (s : Shape). device_on s x sectors) (sym chip)
+    ∙ (ap (λ (m : List Bool). device_on b m sectors) (sym marks) ∙ ap (λ (d : Device). device_on b y d.sectors) (sym is)))
+
+-- what a mount needs, of a chip after something that changed nothing
+pub recoverable_after : (f g : Flash) {d e : Device} (numbers : List ℕ) (updates : List Update) → g ≡ f → e ≡ d
+    → IsRecoverable (numbered numbers f) d updates updates → IsRecoverable (numbered numbers g) e updates updates
+recoverable_after f g {d} {e} numbers updates same device is = subst (λ (x : Flash). IsRecoverable (numbered numbers x) e updates updates) (sym same)
+    (subst (λ (x : Device). IsRecoverable (numbered numbers f) x updates updates) (sym device) is)
+
+-- the order is that of the chip as before
+pub same_order : (numbers : List ℕ) (a b : Shape) (x y : List Bool) → b ≡ a → y ≡ x → IsOrder numbers x a.blocks → IsOrder numbers y b.blocks
+same_order numbers a b x y chip marks is = subst (λ (m : List Bool). IsOrder numbers m b.blocks) (sym marks)
+    (subst (λ (s : Shape). IsOrder numbers x s.blocks) (sym chip) is)
 
 -- a power cut between two calls
-pub left_open : {N : Type 0} (flash : N → Flash) (shape : N → Shape) (layer : Durable N) (updates : List Update) → IsOpenLayer flash shape layer updates
-    → CanOpen flash shape layer.nand (layer_sectors layer) updates
-left_open {N} flash shape layer updates is = subst (λ (d : Device). IsRecoverable (flash layer.nand) d updates updates) is.device
-    (survives_idle_cut layer.core (flash layer.nand) updates updates is.consistent)
+pub left_open : {N : Type 0} (flash : N → Flash) (shape : N → Shape) (bad : N → List Bool) (layer : Durable N) (updates : List Update)
+    → IsOpenLayer flash shape bad layer updates → CanOpen flash shape bad layer.nand (layer_sectors layer) updates
+left_open {N} flash shape bad layer updates is =
+    let numbers = layer.numbers.items in
+    let f = numbered numbers (flash layer.nand) in
+    openable (flash layer.nand) (shape layer.nand) (bad layer.nand) numbers (layer_sectors layer) is.order updates
+    (subst (λ (d : Device). IsRecoverable f d updates updates) is.device (survives_idle_cut layer.core f updates updates is.consistent))
 
 -- an update that failed before its first command
-pub fails_open : {N : Type 0} (flash : N → Flash) (shape : N → Shape) (old new : Durable N) (update : Update) (updates : List Update) (cause : Failure)
-    → IsOpenLayer flash shape new updates → layer_sectors new ≡ layer_sectors old → cause ≢ failure.Lost
-    → Fails flash shape old new update updates cause
-fails_open {N} flash shape old new update updates cause is sectors readable = record {
-  reopens = inl (subst (λ (n : ℕ). CanOpen flash shape new.nand n updates) sectors (left_open flash shape new updates is));
+pub fails_open : {N : Type 0} (flash : N → Flash) (shape : N → Shape) (bad : N → List Bool) (old new : Durable N) (update : Update)
+    (updates : List Update) (cause : Failure) → IsOpenLayer flash shape bad new updates → layer_sectors new ≡ layer_sectors old → cause ≢ failure.Lost
+    → Fails flash shape bad old new update updates cause
+fails_open {N} flash shape bad old new update updates cause is sectors readable = record {
+  reopens = inl (subst (λ (n : ℕ). CanOpen flash shape bad new.nand n updates) sectors (left_open flash shape bad new updates is));
   refused = λ _. is;
   stays = inl is;
   readable = readable;
 }
 
 -- an update that failed after something that changed nothing
-pub fails_after : {N : Type 0} (flash : N → Flash) (shape : N → Shape) (old mid new : Durable N) (update : Update) (updates : List Update)
-    (cause : Failure) → layer_sectors mid ≡ layer_sectors old → Fails flash shape mid new update updates cause
-    → Fails flash shape old new update updates cause
-fails_after {N} flash shape old mid new update updates cause sectors fails = record {
-  reopens = subst (λ (n : ℕ). CanOpen flash shape new.nand n updates ⊎ CanOpen flash shape new.nand n (update ∷ updates)) sectors fails.reopens;
+pub fails_after : {N : Type 0} (flash : N → Flash) (shape : N → Shape) (bad : N → List Bool) (old mid new : Durable N) (update : Update) (updates : List Update)
+    (cause : Failure) → layer_sectors mid ≡ layer_sectors old → Fails flash shape bad mid new update updates cause
+    → Fails flash shape bad old new update updates cause
+fails_after {N} flash shape bad old mid new update updates cause sectors fails = record {
+  reopens = subst (λ (n : ℕ). CanOpen flash shape bad new.nand n updates ⊎ CanOpen flash shape bad new.nand n (update ∷ updates)) sectors fails.reopens;
   refused = fails.refused;
   stays = fails.stays;
   readable = fails.readable;
 }
 
-pub if_fails_after : {N : Type 0} (flash : N → Flash) (shape : N → Shape) (old mid new : Durable N) (update : Update) (updates : List Update)
-    (result : Result (Unit {0}) Failure) → layer_sectors mid ≡ layer_sectors old → IfErr result (Fails flash shape mid new update updates)
-    → IfErr result (Fails flash shape old new update updates)
-if_fails_after {N} flash shape old mid new update updates (Ok v) sectors fails = tt
-if_fails_after {N} flash shape old mid new update updates (Err cause) sectors fails =
-    fails_after flash shape old mid new update updates cause sectors fails
+pub if_fails_after : {N : Type 0} (flash : N → Flash) (shape : N → Shape) (bad : N → List Bool) (old mid new : Durable N) (update : Update)
+    (updates : List Update) (result : Result (Unit {0}) Failure) → layer_sectors mid ≡ layer_sectors old
+    → IfErr result (Fails flash shape bad mid new update updates) → IfErr result (Fails flash shape bad old new update updates)
+if_fails_after {N} flash shape bad old mid new update updates (Ok v) sectors fails = tt
+if_fails_after {N} flash shape bad old mid new update updates (Err cause) sectors fails =
+    fails_after flash shape bad old mid new update updates cause sectors fails
 
 -- a cause that is true of a layer, after something that changed nothing
 pub true_after : {N : Type 0} (faults : N → Fault → ℕ) (old mid new : Durable N) (cause : Failure) → mid.mounted ≡ old.mounted
@@ -169,16 +179,17 @@ trimmed_at array s empty k = ⊎_elim
     (λ differs. grind (arith, nat_tests))
     (cases_eq k s)
 
-pub trims_nothing : {N : Type 0} (flash : N → Flash) (shape : N → Shape) (layer : Durable N) (s : ℕ) (updates : List Update)
-    → IsOpenLayer flash shape layer updates → was_of (array_after updates s) ≡ was.Empty → IsOpenLayer flash shape layer (update_of s None ∷ updates)
-trims_nothing {N} flash shape layer s updates is empty =
+pub trims_nothing : {N : Type 0} (flash : N → Flash) (shape : N → Shape) (bad : N → List Bool) (layer : Durable N) (s : ℕ) (updates : List Update)
+    → IsOpenLayer flash shape bad layer updates → was_of (array_after updates s) ≡ was.Empty → IsOpenLayer flash shape bad layer (update_of s None ∷ updates)
+trims_nothing {N} flash shape bad layer s updates is empty =
     let more = update_of s None ∷ updates in
-    let f = flash layer.nand in
+    let f = numbered layer.numbers.items (flash layer.nand) in
     let same : array_after is.consistent.updates ≡ array_after more = λ i k.
     (array_is f layer.core updates is.consistent k
     ∙ sym (trimmed_at (array_after updates) s (no_value (array_after updates s) empty) k)) i in
     record {
       mounted = is.mounted;
+      order = is.order;
       device = is.device;
       consistent = record {
         updates = more;

@@ -1,6 +1,6 @@
 -- Calls in order, each acknowledged or not, and the array that they leave. It knows no page, block or number.
-use Rattle.std.specs.Prelude.{◌≡◌, ◌⊎◌, ◌<◌, ℕ, Bool, true, false, List, [], ◌∷◌, length, None, Some, slice_index_or}
-use Rattle.durable.specs.Updates.{Update}
+use Rattle.std.specs.Prelude.{◌≡◌, ◌<◌, ℕ, Bool, List, [], ◌∷◌, length, None, Some}
+use Rattle.durable.specs.Updates.{Makes, Update}
 use Rattle.nand.specs.declared.history.Change.{Change}
 use Rattle.nand.specs.declared.history.Change.TheVariants.{Trim, Write}
 
@@ -13,11 +13,6 @@ update_by (Trim sector) = record { sector = sector; value = None }
 abbrev pub IsFor : ℕ → ℕ → Change → Type 0
 IsFor sectors page_bytes (Write sector bytes) = (sector < sectors) × (length bytes.items ≡ page_bytes)
 IsFor sectors page_bytes (Trim sector) = sector < sectors
-
--- a call that was acknowledged has made its update, and one that was cut short has made it or not
-abbrev pub Makes : Bool → Update → List Update → List Update → Type 0
-Makes true update before after = after ≡ update ∷ before
-Makes false update before after = (after ≡ before) ⊎ (after ≡ update ∷ before)
 
 -- the calls were made in order, each on what the one before it had left; as many as there are outcomes
 abbrev pub Leads : List Change → List Bool → List Update → List Update → Type 0

@@ -1,4 +1,5 @@
 pub mod Nand
+pub mod Numbers
 pub mod Opened
 pub mod Cells
 pub mod Chip

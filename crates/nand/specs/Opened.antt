@@ -1,11 +1,12 @@
 -- What an open layer holds, and what a call that was cut short leaves.
-use Rattle.std.specs.Prelude.{◌≡◌, ◌≢◌, ◌⊎◌, ◌≤◌, ◌+◌, ◌^◌, ℕ, true, false, List, ◌∷◌, None, Some}
+use Rattle.std.specs.Prelude.{◌≡◌, ◌≢◌, ◌⊎◌, ◌<◌, ◌≤◌, ◌+◌, ◌^◌, ℕ, Bool, true, false, List, ◌∷◌, None, Some}
 use Rattle.geometry.specs.Sectors.{Sector}
 use Rattle.geometry.specs.declared.answer.Got.{Got}
 use Rattle.geometry.specs.declared.answer.Got.TheVariants as got
 use Rattle.durable.specs.Flash.{Flash}
 use Rattle.durable.specs.Device.{Device, device_of, next_number_of}
-use Rattle.durable.specs.Promise.{IsConsistent, IsRecoverable}
+use Rattle.durable.specs.Promise.{IsConsistent, IsReadable}
+use Rattle.durable.specs.Spare.{IsDuplicated}
 use Rattle.durable.specs.Updates.{Update}
 use Rattle.nand.specs.declared.flash.Fault.{Fault}
 use Rattle.nand.specs.declared.flash.Fault.TheVariants as fault
@@ -13,10 +14,15 @@ use Rattle.nand.specs.declared.flash.Shape.{Shape}
 use Rattle.nand.specs.declared.failure.Failure.{Failure}
 use Rattle.nand.specs.declared.failure.Failure.TheVariants as failure
 use Rattle.nand.specs.declared.layer.Durable.{Durable}
+use Rattle.nand.specs.Numbers.{IsOrder, good_before, is_marked, numbered}
 
--- the sizes of a device on a chip
-abbrev pub device_on : Shape → ℕ → Device
-device_on shape sectors = record { blocks = shape.blocks; read_blocks = shape.blocks; pages = shape.pages; sectors = sectors }
+-- the sizes of a device on a chip of which so many blocks are in use
+abbrev pub device_using : ℕ → Shape → ℕ → Device
+device_using used shape sectors = record { blocks = used; read_blocks = shape.blocks; pages = shape.pages; sectors = sectors }
+
+-- the same where the blocks that aren't marked bad are in use
+abbrev pub device_on : Shape → List Bool → ℕ → Device
+device_on shape bad sectors = device_using (good_before bad shape.blocks) shape sectors
 
 -- how many sectors the layer has
 abbrev pub layer_sectors : {N : Type 0} → Durable N → ℕ
@@ -30,24 +36,33 @@ number_of {N} layer = next_number_of layer.core
 abbrev pub update_of : ℕ → Sector → Update
 update_of s value = record { sector = s; value = value }
 
--- the chip can be opened, and a mount finds the array after these updates, the newest first
-abbrev pub CanOpen : {N : Type 0} → (N → Flash) → (N → Shape) → N → ℕ → List Update → Type 0
-CanOpen {N} flash shape nand sectors updates = IsRecoverable (flash nand) (device_on (shape nand) sectors) updates updates
+-- a good block can be freed, since all of its newest versions are elsewhere too
+abbrev pub CanFreeGood : Flash → List Bool → ℕ → ℕ → Type 0
+CanFreeGood f bad blocks sectors = (b : ℕ) × (b < blocks) × (is_marked bad b ≡ false) × IsDuplicated f sectors b
 
--- the layer is open, and holds the array after these updates, the newest first
-pub record IsOpenLayer {N : Type 0} (flash : N → Flash) (shape : N → Shape) (layer : Durable N) (updates : List Update) : Type 0 where
+-- the chip can be opened, and a mount finds the array after these updates, the newest first
+abbrev pub CanOpen : {N : Type 0} → (N → Flash) → (N → Shape) → (N → List Bool) → N → ℕ → List Update → Type 0
+CanOpen {N} flash shape bad nand sectors updates =
+    IsReadable (flash nand) (device_on (shape nand) (bad nand) sectors) updates updates
+    × CanFreeGood (flash nand) (bad nand) (shape nand).blocks sectors
+
+-- the layer is open, uses no bad block, and holds the array after these updates, the newest first
+pub record IsOpenLayer {N : Type 0} (flash : N → Flash) (shape : N → Shape) (bad : N → List Bool) (layer : Durable N) (updates : List Update)
+    : Type 0 where
   pub mounted : layer.mounted ≡ true
-  pub device : device_of layer.core ≡ device_on (shape layer.nand) (layer_sectors layer)
-  pub consistent : IsConsistent (flash layer.nand) layer.core updates updates
+  pub order : IsOrder layer.numbers.items (bad layer.nand) (shape layer.nand).blocks
+  pub device : device_of layer.core ≡ device_on (shape layer.nand) (bad layer.nand) (layer_sectors layer)
+  pub consistent : IsConsistent (numbered layer.numbers.items (flash layer.nand)) layer.core updates updates
 
 -- a command of the layer has failed, and its chip was not opened again
 abbrev pub IsClosed : {N : Type 0} → Durable N → Type 0
 IsClosed {N} layer = layer.mounted ≡ false
 
--- the layer has as many sectors as before, and its chip is as large
-pub record IsSameDevice {N : Type 0} (shape : N → Shape) (old new : Durable N) : Type 0 where
+-- the layer has as many sectors as before, and its chip is as large and has the same bad blocks
+pub record IsSameDevice {N : Type 0} (shape : N → Shape) (bad : N → List Bool) (old new : Durable N) : Type 0 where
   pub sectors : layer_sectors new ≡ layer_sectors old
   pub chip : shape new.nand ≡ shape old.nand
+  pub marks : bad new.nand ≡ bad old.nand
 
 -- the call is refused, and the array stays as it was
 abbrev pub IsRefusal : Failure → Type 0
@@ -60,11 +75,11 @@ IsRefusal failure.Lost = ⊥
 
 -- an update that failed: the chip can be opened, with the array from before it or the one from after it; after a refusal the layer holds
 -- the array from before it; otherwise it holds that, or it is closed
-pub record Fails {N : Type 0} (flash : N → Flash) (shape : N → Shape) (old new : Durable N) (update : Update) (updates : List Update) (cause : Failure)
-    : Type 0 where
-  pub reopens : CanOpen flash shape new.nand (layer_sectors old) updates ⊎ CanOpen flash shape new.nand (layer_sectors old) (update ∷ updates)
-  pub refused : IsRefusal cause → IsOpenLayer flash shape new updates
-  pub stays : IsOpenLayer flash shape new updates ⊎ IsClosed new
+pub record Fails {N : Type 0} (flash : N → Flash) (shape : N → Shape) (bad : N → List Bool) (old new : Durable N) (update : Update)
+    (updates : List Update) (cause : Failure) : Type 0 where
+  pub reopens : CanOpen flash shape bad new.nand (layer_sectors old) updates ⊎ CanOpen flash shape bad new.nand (layer_sectors old) (update ∷ updates)
+  pub refused : IsRefusal cause → IsOpenLayer flash shape bad new updates
+  pub stays : IsOpenLayer flash shape bad new updates ⊎ IsClosed new
   pub readable : cause ≢ failure.Lost
 
 -- the cause that a call tells is the true one: the chip has counted the fault, the layer was closed, or the numbers have run out

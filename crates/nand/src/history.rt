@@ -1,6 +1,6 @@
 ghost use Rattle.std.specs.Prelude.{◌≡◌, All, List, ◌∷◌, [], length, Ok, Err, OnOk, IfOk, IfErr};
-ghost use Rattle.durable.specs.Updates.{Update};
-ghost use Rattle.nand.specs.Histories.{Makes, IsFor, Leads, update_by};
+ghost use Rattle.durable.specs.Updates.{Makes, Update};
+ghost use Rattle.nand.specs.Histories.{IsFor, Leads, update_by};
 ghost use Rattle.nand.specs.Opened.{CanOpen, Fails, IsClosed, IsOpenLayer, IsSameDevice, IsTrueCause, layer_sectors};
 ghost use Rattle.nand.specs.declared.failure.Failure.TheVariants as failure;
 
@@ -21,13 +21,13 @@ impl<N: Nand> Durable<N> {
     /// Writes or trims a sector.
     pub fn make(&mut self, change: &Change) -> Result<(), Failure>
         requires { IsFor (layer_sectors self.old) (N.shape self.old.nand).page_bytes change.now }
-        ensures acknowledged { (updates : List Update) → IsOpenLayer N.flash N.shape self.old updates
-            → OnOk result (IsOpenLayer N.flash N.shape self.new (update_by change.now ∷ updates)) }
-        ensures fails { (updates : List Update) → IsOpenLayer N.flash N.shape self.old updates
-            → IfErr result (Fails N.flash N.shape self.old self.new (update_by change.now) updates) }
+        ensures acknowledged { (updates : List Update) → IsOpenLayer N.flash N.shape N.bad self.old updates
+            → OnOk result (IsOpenLayer N.flash N.shape N.bad self.new (update_by change.now ∷ updates)) }
+        ensures fails { (updates : List Update) → IsOpenLayer N.flash N.shape N.bad self.old updates
+            → IfErr result (Fails N.flash N.shape N.bad self.old self.new (update_by change.now) updates) }
         ensures cause { IfErr result (IsTrueCause N.faults self.old self.new) }
         ensures closed { IsClosed self.old → result ≡ Err failure.Closed }
-        ensures device { IsSameDevice N.shape self.old self.new }
+        ensures device { IsSameDevice N.shape N.bad self.old self.new }
     {
         match change {
             Change::Write(sector, bytes) => self.write(*sector, bytes),
@@ -49,12 +49,12 @@ impl<N: Nand> Durable<N> {
     ) -> Result<Durable<N>, NotOpened<N>>
         requires changes { All (IsFor sectors (N.shape nand).page_bytes) changes.now }
         requires none { acknowledged.old.items ≡ [] }
-        ensures array { (before : List Update) → CanOpen N.flash N.shape nand sectors before
+        ensures array { (before : List Update) → CanOpen N.flash N.shape N.bad nand sectors before
             → IfOk result (λ layer. (after : List Update) × Leads changes.now acknowledged.new.items before after
-            × IsOpenLayer N.flash N.shape layer after) }
-        ensures back { (before : List Update) → CanOpen N.flash N.shape nand sectors before
+            × IsOpenLayer N.flash N.shape N.bad layer after) }
+        ensures back { (before : List Update) → CanOpen N.flash N.shape N.bad nand sectors before
             → IfErr result (λ refused. (after : List Update) × Leads changes.now acknowledged.new.items before after
-            × CanOpen N.flash N.shape refused.nand sectors after) }
+            × CanOpen N.flash N.shape N.bad refused.nand sectors after) }
         ensures all { OnOk result (length acknowledged.new.items ≡ length changes.now) }
         ensures device { IfOk result (λ layer. (layer_sectors layer ≡ sectors) × (N.shape layer.nand ≡ N.shape nand)) }
     {
@@ -82,12 +82,12 @@ impl<N: Nand> Durable<N> {
         acknowledged: &mut bool,
     ) -> Result<Durable<N>, NotOpened<N>>
         requires { IsFor (layer_sectors self) (N.shape self.nand).page_bytes change.now }
-        ensures open { (updates : List Update) → IsOpenLayer N.flash N.shape self updates
+        ensures open { (updates : List Update) → IsOpenLayer N.flash N.shape N.bad self updates
             → IfOk result (λ layer. (after : List Update) × Makes acknowledged.new (update_by change.now) updates after
-            × IsOpenLayer N.flash N.shape layer after) }
-        ensures back { (updates : List Update) → IsOpenLayer N.flash N.shape self updates
+            × IsOpenLayer N.flash N.shape N.bad layer after) }
+        ensures back { (updates : List Update) → IsOpenLayer N.flash N.shape N.bad self updates
             → IfErr result (λ refused. (after : List Update) × Makes acknowledged.new (update_by change.now) updates after
-            × CanOpen N.flash N.shape refused.nand (layer_sectors self) after) }
+            × CanOpen N.flash N.shape N.bad refused.nand (layer_sectors self) after) }
         ensures device { IfOk result (λ layer. (layer_sectors layer ≡ layer_sectors self) × (N.shape layer.nand ≡ N.shape self.nand)) }
     {
         let mut layer = self;

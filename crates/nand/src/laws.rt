@@ -1,18 +1,20 @@
 //! Laws of the definitions: each function has no code, and its clauses say on small values where a definition holds and where not.
-ghost use Rattle.std.specs.Prelude.{◌≡◌, ◌≢◌, ◌<◌, ◌-◌, ◌^◌, ℕ, List, [], ◌∷◌, None, Some, Ok, Err, Vec, true, false};
+ghost use Rattle.std.specs.Prelude.{◌≡◌, ◌≢◌, ◌<◌, ◌-◌, ◌^◌, ℕ, Bool, List, [], ◌∷◌, None, Some, Ok, Err, Vec, true, false};
 ghost use Rattle.std.specs.declared.alloc.Global.{Global as OnHeap};
 ghost use Rattle.geometry.specs.Sectors.{Sector};
 ghost use Rattle.geometry.specs.declared.answer.Got.TheVariants as got;
 ghost use Rattle.durable.specs.Device.{device_of, next_number_of};
 ghost use Rattle.durable.specs.Flash.{Erased, Flash, IsErased, SetsPage, Torn, Version};
 ghost use Rattle.durable.specs.Promise.{KeepsAcknowledged};
+ghost use Rattle.durable.specs.Spare.{IsDuplicated};
 ghost use Rattle.durable.specs.Updates.{Update};
 ghost use Rattle.durable.specs.declared.command.Command.TheVariants as command;
 ghost use Rattle.nand.specs.Cells.{IsWiped, contents_of, flash_in};
 ghost use Rattle.nand.specs.Chip.{Ends, HasSame, after_command, chip_bad, chip_erases, chip_faults, chip_flash, chip_shape, coming, schedule_of};
-ghost use Rattle.nand.specs.Histories.{Makes, IsFor, Leads, update_by};
+ghost use Rattle.nand.specs.Histories.{IsFor, Leads, update_by};
 ghost use Rattle.nand.specs.Nand.{CountsCut, CountsFault, Performs, ReadsMain, ReadsStamp, noted_of, value_with};
-ghost use Rattle.nand.specs.Opened.{CanOpen, Fails, IsClosed, IsOpenLayer, IsRefusal, IsSameDevice, IsTrueCause, ReadsSector};
+ghost use Rattle.nand.specs.Numbers.{IsOrder, chip_block, chip_page, good_before, is_marked, numbered};
+ghost use Rattle.nand.specs.Opened.{CanFreeGood, CanOpen, Fails, IsClosed, IsOpenLayer, IsRefusal, IsSameDevice, IsTrueCause, ReadsSector};
 ghost use Rattle.nand.specs.Opened.{device_on, failure_of, layer_sectors, number_of, update_of};
 ghost use Rattle.nand.specs.declared.chip.Chip.{Chip as Modelled};
 ghost use Rattle.nand.specs.declared.chip.Cut.TheVariants as cut;
@@ -161,26 +163,49 @@ pub fn failures()
 
 /// An open layer on a modelled chip, and a chip that can be opened.
 pub fn opened()
-    ensures blocks { (shape : Numbers) → shape.blocks ≡ 3 → ((device_on shape 8).blocks ≡ 3) × ((device_on shape 8).read_blocks ≡ 3) }
-    ensures pages { (shape : Numbers) → shape.pages ≡ 4 → (device_on shape 8).pages ≡ 4 }
-    ensures sectors { (shape : Numbers) → (device_on shape 8).sectors ≡ 8 }
+    ensures blocks { (shape : Numbers) → shape.blocks ≡ 3 → ((device_on shape [] 8).blocks ≡ 3) × ((device_on shape [] 8).read_blocks ≡ 3) }
+    ensures bad_block { (shape : Numbers) → shape.blocks ≡ 3
+        → ((device_on shape (false ∷ true ∷ []) 8).blocks ≡ 2) × ((device_on shape (false ∷ true ∷ []) 8).read_blocks ≡ 3) }
+    ensures pages { (shape : Numbers) → shape.pages ≡ 4 → (device_on shape [] 8).pages ≡ 4 }
+    ensures sectors { (shape : Numbers) → (device_on shape [] 8).sectors ≡ 8 }
     ensures sector { (update_of 7 None).sector ≡ 7 }
     ensures value { (update_of 7 (Some (5 ∷ []))).value ≡ Some (5 ∷ []) }
     ensures size { (layer : Layer Modelled) → (device_of layer.core).sectors ≡ 8 → layer_sectors layer ≡ 8 }
     ensures number { (layer : Layer Modelled) → next_number_of layer.core ≡ 5 → number_of layer ≡ 5 }
     ensures is_closed { (layer : Layer Modelled) → layer.mounted ≡ false → IsClosed layer }
-    ensures closed { (layer : Layer Modelled) (updates : List Update) → IsClosed layer → ¬ IsOpenLayer chip_flash chip_shape layer updates }
-    ensures other_chip { (layer : Layer Modelled) (updates : List Update) → (chip_shape layer.nand).blocks ≡ 3 → (device_of layer.core).blocks ≡ 4
-        → ¬ IsOpenLayer chip_flash chip_shape layer updates }
-    ensures numbered { (layer : Layer Modelled) (v : Sector) (updates : List Update) → IsOpenLayer chip_flash chip_shape layer updates
+    ensures closed { (layer : Layer Modelled) (updates : List Update) → IsClosed layer → ¬ IsOpenLayer chip_flash chip_shape chip_bad layer updates }
+    ensures other_chip { (layer : Layer Modelled) (updates : List Update) → (chip_shape layer.nand).blocks ≡ 3 → (device_of layer.core).read_blocks ≡ 4
+        → ¬ IsOpenLayer chip_flash chip_shape chip_bad layer updates }
+    ensures numbered { (layer : Layer Modelled) (v : Sector) (updates : List Update) → IsOpenLayer chip_flash chip_shape chip_bad layer updates
         → chip_flash layer.nand 0 0 ≡ Version 7 5 v → 5 < next_number_of layer.core }
-    ensures keeps { (chip : Modelled) (updates : List Update) → CanOpen chip_flash chip_shape chip 8 updates
+    ensures bad_unused { (layer : Layer Modelled) (updates : List Update) → IsOpenLayer chip_flash chip_shape chip_bad layer updates
+        → chip_bad layer.nand ≡ true ∷ [] → 0 < (device_of layer.core).blocks → chip_block layer.numbers.items 0 ≢ 0 }
+    ensures frees { (chip : Modelled) (updates : List Update) → (chip_shape chip).blocks ≡ 1 → chip_bad chip ≡ true ∷ []
+        → ¬ CanOpen chip_flash chip_shape chip_bad chip 8 updates }
+    ensures freed { (f : Flash) → CanFreeGood f (true ∷ false ∷ []) 2 8 → IsDuplicated f 8 1 }
+    ensures keeps { (chip : Modelled) (updates : List Update) → CanOpen chip_flash chip_shape chip_bad chip 8 updates
         → KeepsAcknowledged (chip_flash chip) 8 updates updates }
-    ensures erased { (chip : Modelled) → IsErased (chip_flash chip) → 0 < (chip_shape chip).blocks → CanOpen chip_flash chip_shape chip 8 [] }
-    ensures on_chip { (chip : Modelled) (v : Sector) (updates : List Update) → CanOpen chip_flash chip_shape chip 8 updates
+    ensures erased { (chip : Modelled) → IsErased (chip_flash chip) → 0 < good_before (chip_bad chip) (chip_shape chip).blocks
+        → CanOpen chip_flash chip_shape chip_bad chip 8 [] }
+    ensures on_chip { (chip : Modelled) (v : Sector) (updates : List Update) → CanOpen chip_flash chip_shape chip_bad chip 8 updates
         → chip_flash chip 3 0 ≡ Version 7 5 v → 3 < (chip_shape chip).blocks }
     ensures no_sector { (chip : Modelled) (v : Sector) (updates : List Update) → chip_flash chip 3 0 ≡ Version 8 5 v
-        → ¬ CanOpen chip_flash chip_shape chip 8 updates }
+        → ¬ CanOpen chip_flash chip_shape chip_bad chip 8 updates }
+{}
+
+/// The order of a chip's blocks.
+pub fn orders()
+    ensures good { (is_marked (false ∷ true ∷ []) 0 ≡ false) × (is_marked (false ∷ true ∷ []) 1 ≡ true) × (is_marked (false ∷ true ∷ []) 2 ≡ false) }
+    ensures counted { (good_before (true ∷ false ∷ []) 1 ≡ 0) × (good_before (true ∷ false ∷ []) 2 ≡ 1) × (good_before (true ∷ false ∷ []) 3 ≡ 2) }
+    ensures block { (chip_block (2 ∷ 0 ∷ 1 ∷ []) 0 ≡ 2) × (chip_block (2 ∷ 0 ∷ 1 ∷ []) 3 ≡ 3) }
+    ensures page { chip_page (2 ∷ 0 ∷ 1 ∷ []) (record { block = 0; page = 4 }) ≡ record { block = 2; page = 4 } }
+    ensures numbers { (f : Flash) → numbered (2 ∷ 0 ∷ 1 ∷ []) f 0 4 ≡ f 2 4 }
+    ensures first { (numbers : List ℕ) → IsOrder numbers (true ∷ false ∷ []) 2 → chip_block numbers 0 ≢ 0 }
+    ensures last { (numbers : List ℕ) → IsOrder numbers (false ∷ true ∷ []) 2 → chip_block numbers 1 ≡ 1 }
+    ensures once { (numbers : List ℕ) (bad : List Bool) → IsOrder numbers bad 2 → chip_block numbers 0 ≢ chip_block numbers 1 }
+    ensures every { (numbers : List ℕ) (bad : List Bool) → IsOrder numbers bad 2 → (c : ℕ) × (c < 2) × (chip_block numbers c ≡ 1) }
+    ensures lies { (numbers : List ℕ) (bad : List Bool) → IsOrder numbers bad 2 → chip_block numbers 1 < 2 }
+    ensures in_order { IsOrder [] [] 2 }
 {}
 
 /// How updates fail, and which causes are true.
@@ -192,15 +217,16 @@ pub fn failing()
     ensures open { (old new : Layer Modelled) → old.mounted ≡ true → ¬ IsTrueCause chip_faults old new failure.Closed }
     ensures number { (old new : Layer Modelled) → number_of old ≡ 5 → ¬ IsTrueCause chip_faults old new failure.NoNumber }
     ensures last_number { (old new : Layer Modelled) → number_of old ≡ 2 ^ 64 - 1 → IsTrueCause chip_faults old new failure.NoNumber }
-    ensures sectors { (old new : Layer Modelled) → layer_sectors old ≡ 8 → layer_sectors new ≡ 7 → ¬ IsSameDevice chip_shape old new }
-    ensures chip { (old new : Layer Modelled) → (chip_shape old.nand).pages ≡ 4 → (chip_shape new.nand).pages ≡ 5 → ¬ IsSameDevice chip_shape old new }
-    ensures lost { (old new : Layer Modelled) (u : Update) (updates : List Update) → ¬ Fails chip_flash chip_shape old new u updates failure.Lost }
+    ensures sectors { (old new : Layer Modelled) → layer_sectors old ≡ 8 → layer_sectors new ≡ 7 → ¬ IsSameDevice chip_shape chip_bad old new }
+    ensures chip { (old new : Layer Modelled) → (chip_shape old.nand).pages ≡ 4 → (chip_shape new.nand).pages ≡ 5 → ¬ IsSameDevice chip_shape chip_bad old new }
+    ensures marks { (old new : Layer Modelled) → chip_bad old.nand ≡ [] → chip_bad new.nand ≡ true ∷ [] → ¬ IsSameDevice chip_shape chip_bad old new }
+    ensures lost { (old new : Layer Modelled) (u : Update) (updates : List Update) → ¬ Fails chip_flash chip_shape chip_bad old new u updates failure.Lost }
     ensures written { (old new : Layer Modelled) (u : Update) (updates : List Update) → new.mounted ≡ false
-        → ¬ Fails chip_flash chip_shape old new u updates failure.Written }
-    ensures stays { (old new : Layer Modelled) (u : Update) (updates : List Update) → Fails chip_flash chip_shape old new u updates failure.PowerGone
-        → new.mounted ≡ true → (device_of new.core).blocks ≡ (chip_shape new.nand).blocks }
+        → ¬ Fails chip_flash chip_shape chip_bad old new u updates failure.Written }
+    ensures stays { (old new : Layer Modelled) (u : Update) (updates : List Update) → Fails chip_flash chip_shape chip_bad old new u updates failure.PowerGone
+        → new.mounted ≡ true → (device_of new.core).read_blocks ≡ (chip_shape new.nand).blocks }
     ensures reopens { (old new : Layer Modelled) (u : Update) (updates : List Update) (v : Sector) → chip_flash new.nand 3 0 ≡ Version 8 5 v
-        → layer_sectors old ≡ 8 → ¬ Fails chip_flash chip_shape old new u updates failure.PowerGone }
+        → layer_sectors old ≡ 8 → ¬ Fails chip_flash chip_shape chip_bad old new u updates failure.PowerGone }
 {}
 
 /// What calls leave that were acknowledged or cut short.
@@ -212,11 +238,6 @@ pub fn histories()
     ensures short { (bytes : Vec ℕ OnHeap) → bytes.items ≡ [] → ¬ IsFor 8 1 (Write 7 bytes) }
     ensures last { IsFor 8 1 (Trim 7) }
     ensures past { ¬ IsFor 8 1 (Trim 8) }
-    ensures done { (u v : Update) → Makes true u (v ∷ []) (u ∷ v ∷ []) }
-    ensures lost { (u : Update) → ¬ Makes true u [] [] }
-    ensures before { (u : Update) → Makes false u [] [] }
-    ensures after { (u : Update) → Makes false u [] (u ∷ []) }
-    ensures other { (u v : Update) → u ≢ v → ¬ Makes false u [] (v ∷ []) }
     ensures in_order { (a b : Call) (u : Update) → Leads (a ∷ b ∷ []) (true ∷ true ∷ []) (u ∷ []) (update_by b ∷ update_by a ∷ u ∷ []) }
     ensures only { (a b : Call) (updates : List Update) → Leads (a ∷ b ∷ []) (true ∷ true ∷ []) [] updates → updates ≡ update_by b ∷ update_by a ∷ [] }
     ensures not_made { (a b : Call) (updates : List Update) → Leads (a ∷ b ∷ []) (true ∷ []) [] updates → updates ≡ update_by a ∷ [] }

@@ -8,6 +8,7 @@ ghost use Rattle.durable.specs.declared.fault.MountFault.TheVariants as mount_fa
 ghost use Rattle.nand.specs.Nand.{Performs, CountsFault, value_with};
 ghost use Rattle.durable.specs.Device.{IsWrittenOn};
 ghost use Rattle.durable.specs.Flash.{IsErased};
+ghost use Rattle.nand.specs.Numbers.{IsOrder, good_before, numbered};
 ghost use Rattle.nand.specs.Opened.{CanOpen, Fails, IsClosed, IsOpenLayer, IsSameDevice, IsTrueCause, ReadsSector};
 ghost use Rattle.nand.specs.Opened.{device_on, layer_sectors, number_of, update_of};
 ghost use Rattle.nand.specs.declared.failure.Failure.TheVariants as failure;
@@ -19,6 +20,7 @@ ghost use Rattle.nand.specs.declared.flash.Fault.TheVariants as fault;
 use crate::failure::{Failure, OpenFailure};
 use crate::flash::{Fault, Nand, PowerGone, Reading, Stamp};
 use crate::mounting::mount;
+use crate::numbers::{chip_block, chip_page};
 use durable::{Command, Core};
 use geometry::{Got, Was};
 use std::alloc::Global;
@@ -27,6 +29,8 @@ use std::alloc::Global;
 #[derive(Drop)]
 pub struct Durable<N: Nand> {
     nand: N,
+    // The chip's block of each of the core's.
+    numbers: Vec<u32>,
     core: Core,
     // No command has failed since the chip was opened.
     mounted: bool,
@@ -63,14 +67,17 @@ fn found(reading: Reading, sector: u32) -> Result<Was, Failure>
 // Has the chip do a command.
 fn perform<N: Nand>(
     nand: &mut N,
+    numbers: &[u32],
     command: Command,
     sector: u32,
     trimmed: bool,
     main: &[u8],
 ) -> Result<(), Fault>
     requires { trimmed ≡ false → length main.now ≡ (N.shape nand.old).page_bytes }
-    ensures does { Performs command sector (value_with trimmed main.now) result (N.flash nand.old) (N.flash nand.new) }
+    ensures does { (bad : List Bool) (blocks : ℕ) → IsOrder numbers.now bad blocks → Performs command sector (value_with trimmed main.now) result
+        (numbered numbers.now (N.flash nand.old)) (numbered numbers.now (N.flash nand.new)) }
     ensures shape { N.shape nand.new ≡ N.shape nand.old }
+    ensures bad { N.bad nand.new ≡ N.bad nand.old }
     ensures cause { CountsFault (N.faults nand.old) (N.faults nand.new) result }
 {
     match command {
@@ -80,10 +87,13 @@ fn perform<N: Nand>(
                 number,
                 trimmed,
             };
-            nand.program(at, stamp, main)
+            nand.program(chip_page(numbers, at), stamp, main)
         }
-        Command::Copy(_, from, to) => nand.copyback(from, to),
-        Command::Erase(block) => nand.erase(block),
+        Command::Copy(_, from, to) => nand.copyback(
+            chip_page(numbers, from),
+            chip_page(numbers, to),
+        ),
+        Command::Erase(number) => nand.erase(chip_block(numbers, number)),
         Command::Refused => Ok(()),
     }
 }
@@ -91,29 +101,32 @@ fn perform<N: Nand>(
 impl<N: Nand> Durable<N> {
     /// Opens a chip: reads each page's stamp. A chip that was never written is an empty device. A chip that isn't opened comes back.
     pub fn open(alloc: Global, nand: N, sectors: u32) -> Result<Durable<N>, NotOpened<N>>
-        ensures open { (updates : List Update) → CanOpen N.flash N.shape nand sectors updates
-            → IfOk result (λ layer. IsOpenLayer N.flash N.shape layer updates) }
-        ensures new { IsErased (N.flash nand) → IfOk result (λ layer. IsOpenLayer N.flash N.shape layer []) }
-        ensures chip { IfOk result (λ layer. (N.flash layer.nand ≡ N.flash nand) × (N.shape layer.nand ≡ N.shape nand) × (layer_sectors layer ≡ sectors)) }
-        ensures capacity { OnOk result (HasCapacity sectors (N.shape nand).blocks (N.shape nand).pages) }
-        ensures back { IfErr result (λ refused. (N.flash refused.nand ≡ N.flash nand) × (N.shape refused.nand ≡ N.shape nand)) }
+        ensures open { (updates : List Update) → CanOpen N.flash N.shape N.bad nand sectors updates
+            → IfOk result (λ layer. IsOpenLayer N.flash N.shape N.bad layer updates) }
+        ensures new { IsErased (N.flash nand) → IfOk result (λ layer. IsOpenLayer N.flash N.shape N.bad layer []) }
+        ensures chip { IfOk result (λ layer. (N.flash layer.nand ≡ N.flash nand) × (N.shape layer.nand ≡ N.shape nand)
+            × (N.bad layer.nand ≡ N.bad nand) × (layer_sectors layer ≡ sectors)) }
+        ensures capacity { OnOk result (HasCapacity sectors (good_before (N.bad nand) (N.shape nand).blocks) (N.shape nand).pages) }
+        ensures back { IfErr result (λ refused. (N.flash refused.nand ≡ N.flash nand) × (N.shape refused.nand ≡ N.shape nand)
+            × (N.bad refused.nand ≡ N.bad nand)) }
 
         // It is refused only if the sectors are too many, if the flash is none that this layer leaves, or without memory or power.
-        ensures room { HasCapacity sectors (N.shape nand).blocks (N.shape nand).pages
+        ensures room { HasCapacity sectors (good_before (N.bad nand) (N.shape nand).blocks) (N.shape nand).pages
             → IfErr result (λ refused. refused.why ≢ why.Refused mount_fault.TooManySectors) }
-        ensures foreign { IsWrittenOn (device_on (N.shape nand) sectors) (N.flash nand)
+        ensures foreign { IsWrittenOn (device_on (N.shape nand) (N.bad nand) sectors) (N.flash nand)
             → IfErr result (λ refused. refused.why ≢ why.Refused mount_fault.ForeignStamp) }
-        ensures frees { (updates : List Update) → CanOpen N.flash N.shape nand sectors updates
+        ensures frees { (updates : List Update) → CanOpen N.flash N.shape N.bad nand sectors updates
             → IfErr result (λ refused. refused.why ≢ why.Refused mount_fault.NoFreeBlock) }
-        ensures begins { IsErased (N.flash nand) → HasCapacity sectors (N.shape nand).blocks (N.shape nand).pages
+        ensures begins { IsErased (N.flash nand) → HasCapacity sectors (good_before (N.bad nand) (N.shape nand).blocks) (N.shape nand).pages
             → IfErr result (λ refused. (refused.why ≡ why.PowerGone) ⊎ (refused.why ≡ why.Refused mount_fault.OutOfMemory)) }
         ensures power { IfErr result (λ refused. refused.why ≡ why.PowerGone → N.faults refused.nand fault.PowerGone ≢ N.faults nand fault.PowerGone) }
     {
         let mut nand = nand;
         match mount(alloc, &mut nand, sectors) {
-            Ok(core) => Ok(Durable {
+            Ok(mounted) => Ok(Durable {
                 nand,
-                core,
+                numbers: mounted.numbers,
+                core: mounted.core,
                 mounted: true,
             }),
             Err(why) => Err(NotOpened { nand, why }),
@@ -123,7 +136,8 @@ impl<N: Nand> Durable<N> {
     /// Gives the chip back.
     pub fn into_nand(self) -> N
         ensures chip { result ≡ self.nand }
-        ensures left { (updates : List Update) → IsOpenLayer N.flash N.shape self updates → CanOpen N.flash N.shape result (layer_sectors self) updates }
+        ensures left { (updates : List Update) → IsOpenLayer N.flash N.shape N.bad self updates
+            → CanOpen N.flash N.shape N.bad result (layer_sectors self) updates }
     {
         self.nand
     }
@@ -146,16 +160,16 @@ impl<N: Nand> Durable<N> {
     pub fn read(&mut self, sector: u32, out: &mut [u8]) -> Result<Got, Failure>
         requires sector { sector < layer_sectors self.old }
         requires page { length out.old ≡ (N.shape self.old.nand).page_bytes }
-        ensures gives { (updates : List Update) → IsOpenLayer N.flash N.shape self.old updates
+        ensures gives { (updates : List Update) → IsOpenLayer N.flash N.shape N.bad self.old updates
             → IfOk result (λ got. ReadsSector (array_after updates sector) got out.new) }
 
         // It changes nothing, and fails only without power.
-        ensures open { (updates : List Update) → IsOpenLayer N.flash N.shape self.old updates → IsOpenLayer N.flash N.shape self.new updates }
-        ensures only { (updates : List Update) → IsOpenLayer N.flash N.shape self.old updates → OnErr result (result ≡ Err failure.PowerGone) }
+        ensures open { (updates : List Update) → IsOpenLayer N.flash N.shape N.bad self.old updates → IsOpenLayer N.flash N.shape N.bad self.new updates }
+        ensures only { (updates : List Update) → IsOpenLayer N.flash N.shape N.bad self.old updates → OnErr result (result ≡ Err failure.PowerGone) }
         ensures cause { IfErr result (IsTrueCause N.faults self.old self.new) }
         ensures closed { IsClosed self.old → result ≡ Err failure.Closed }
         ensures flash { N.flash self.new.nand ≡ N.flash self.old.nand }
-        ensures device { IsSameDevice N.shape self.old self.new }
+        ensures device { IsSameDevice N.shape N.bad self.old self.new }
     {
         if !self.mounted {
             return Err(Failure::Closed);
@@ -163,7 +177,7 @@ impl<N: Nand> Durable<N> {
         let Some(at) = self.core.page(sector) else {
             return Ok(Got::Empty);
         };
-        match self.nand.read(at, out) {
+        match self.nand.read(chip_page(&self.numbers, at), out) {
             Ok(reading) => match found(reading, sector) {
                 Ok(Was::Empty) => Ok(Got::Empty),
                 Ok(Was::Written) => Ok(Got::Data),
@@ -177,15 +191,15 @@ impl<N: Nand> Durable<N> {
     pub fn write(&mut self, sector: u32, bytes: &[u8]) -> Result<(), Failure>
         requires sector { sector < layer_sectors self.old }
         requires page { length bytes.now ≡ (N.shape self.old.nand).page_bytes }
-        ensures acknowledged { (updates : List Update) → IsOpenLayer N.flash N.shape self.old updates
-            → OnOk result (IsOpenLayer N.flash N.shape self.new (update_of sector (Some bytes.now) ∷ updates)) }
+        ensures acknowledged { (updates : List Update) → IsOpenLayer N.flash N.shape N.bad self.old updates
+            → OnOk result (IsOpenLayer N.flash N.shape N.bad self.new (update_of sector (Some bytes.now) ∷ updates)) }
 
         // It fails only if the chip does, or if the numbers have run out.
-        ensures fails { (updates : List Update) → IsOpenLayer N.flash N.shape self.old updates
-            → IfErr result (Fails N.flash N.shape self.old self.new (update_of sector (Some bytes.now)) updates) }
+        ensures fails { (updates : List Update) → IsOpenLayer N.flash N.shape N.bad self.old updates
+            → IfErr result (Fails N.flash N.shape N.bad self.old self.new (update_of sector (Some bytes.now)) updates) }
         ensures cause { IfErr result (IsTrueCause N.faults self.old self.new) }
         ensures closed { IsClosed self.old → result ≡ Err failure.Closed }
-        ensures device { IsSameDevice N.shape self.old self.new }
+        ensures device { IsSameDevice N.shape N.bad self.old self.new }
         ensures overwrites { result ≢ Err failure.Written }
     {
         self.update(sector, false, bytes)
@@ -195,19 +209,19 @@ impl<N: Nand> Durable<N> {
     pub fn write_new(&mut self, sector: u32, bytes: &[u8]) -> Result<(), Failure>
         requires sector { sector < layer_sectors self.old }
         requires page { length bytes.now ≡ (N.shape self.old.nand).page_bytes }
-        ensures acknowledged { (updates : List Update) → IsOpenLayer N.flash N.shape self.old updates
-            → OnOk result (IsOpenLayer N.flash N.shape self.new (update_of sector (Some bytes.now) ∷ updates)) }
-        ensures empty { (updates : List Update) → IsOpenLayer N.flash N.shape self.old updates
+        ensures acknowledged { (updates : List Update) → IsOpenLayer N.flash N.shape N.bad self.old updates
+            → OnOk result (IsOpenLayer N.flash N.shape N.bad self.new (update_of sector (Some bytes.now) ∷ updates)) }
+        ensures empty { (updates : List Update) → IsOpenLayer N.flash N.shape N.bad self.old updates
             → OnOk result (was_of (array_after updates sector) ≡ was.Empty) }
 
         // It fails only if the sector is written, if the chip fails, or if the numbers have run out.
-        ensures written { (updates : List Update) → IsOpenLayer N.flash N.shape self.old updates
+        ensures written { (updates : List Update) → IsOpenLayer N.flash N.shape N.bad self.old updates
             → result ≡ Err failure.Written → was_of (array_after updates sector) ≡ was.Written }
-        ensures fails { (updates : List Update) → IsOpenLayer N.flash N.shape self.old updates
-            → IfErr result (Fails N.flash N.shape self.old self.new (update_of sector (Some bytes.now)) updates) }
+        ensures fails { (updates : List Update) → IsOpenLayer N.flash N.shape N.bad self.old updates
+            → IfErr result (Fails N.flash N.shape N.bad self.old self.new (update_of sector (Some bytes.now)) updates) }
         ensures cause { IfErr result (IsTrueCause N.faults self.old self.new) }
         ensures closed { IsClosed self.old → result ≡ Err failure.Closed }
-        ensures device { IsSameDevice N.shape self.old self.new }
+        ensures device { IsSameDevice N.shape N.bad self.old self.new }
     {
         match self.was(sector) {
             Ok(Was::Empty) => self.update(sector, false, bytes),
@@ -219,17 +233,18 @@ impl<N: Nand> Durable<N> {
     /// Empties a sector, and returns what it was. If it was empty, nothing is programmed.
     pub fn trim(&mut self, sector: u32) -> Result<Was, Failure>
         requires { sector < layer_sectors self.old }
-        ensures was { (updates : List Update) → IsOpenLayer N.flash N.shape self.old updates → IfOk result (λ had. had ≡ was_of (array_after updates sector)) }
-        ensures acknowledged { (updates : List Update) → IsOpenLayer N.flash N.shape self.old updates
-            → OnOk result (IsOpenLayer N.flash N.shape self.new (update_of sector None ∷ updates)) }
+        ensures was { (updates : List Update) → IsOpenLayer N.flash N.shape N.bad self.old updates
+            → IfOk result (λ had. had ≡ was_of (array_after updates sector)) }
+        ensures acknowledged { (updates : List Update) → IsOpenLayer N.flash N.shape N.bad self.old updates
+            → OnOk result (IsOpenLayer N.flash N.shape N.bad self.new (update_of sector None ∷ updates)) }
         ensures nothing { result ≡ Ok was.Empty → N.flash self.new.nand ≡ N.flash self.old.nand }
 
         // It fails only if the chip does, or if the numbers have run out.
-        ensures fails { (updates : List Update) → IsOpenLayer N.flash N.shape self.old updates
-            → IfErr result (Fails N.flash N.shape self.old self.new (update_of sector None) updates) }
+        ensures fails { (updates : List Update) → IsOpenLayer N.flash N.shape N.bad self.old updates
+            → IfErr result (Fails N.flash N.shape N.bad self.old self.new (update_of sector None) updates) }
         ensures cause { IfErr result (IsTrueCause N.faults self.old self.new) }
         ensures closed { IsClosed self.old → result ≡ Err failure.Closed }
-        ensures device { IsSameDevice N.shape self.old self.new }
+        ensures device { IsSameDevice N.shape N.bad self.old self.new }
         ensures trims { result ≢ Err failure.Written }
     {
         match self.was(sector) {
@@ -244,11 +259,11 @@ impl<N: Nand> Durable<N> {
 
     /// Returns once what was acknowledged is durable.
     pub fn flush(&mut self) -> Result<(), Failure>
-        ensures open { (updates : List Update) → IsOpenLayer N.flash N.shape self.old updates → IsOpenLayer N.flash N.shape self.new updates }
+        ensures open { (updates : List Update) → IsOpenLayer N.flash N.shape N.bad self.old updates → IsOpenLayer N.flash N.shape N.bad self.new updates }
         ensures only { OnErr result (result ≡ Err failure.PowerGone) }
         ensures cause { IfErr result (IsTrueCause N.faults self.old self.new) }
         ensures flash { N.flash self.new.nand ≡ N.flash self.old.nand }
-        ensures device { IsSameDevice N.shape self.old self.new }
+        ensures device { IsSameDevice N.shape N.bad self.old self.new }
     {
         match self.nand.sync() {
             Ok(()) => Ok(()),
@@ -259,10 +274,10 @@ impl<N: Nand> Durable<N> {
     // Whether a sector is empty or written.
     fn was(&mut self, sector: u32) -> Result<Was, Failure>
         requires { sector < layer_sectors self.old }
-        ensures gives { (updates : List Update) → IsOpenLayer N.flash N.shape self.old updates
+        ensures gives { (updates : List Update) → IsOpenLayer N.flash N.shape N.bad self.old updates
             → IfOk result (λ had. had ≡ was_of (array_after updates sector)) }
-        ensures open { (updates : List Update) → IsOpenLayer N.flash N.shape self.old updates → IsOpenLayer N.flash N.shape self.new updates }
-        ensures only { (updates : List Update) → IsOpenLayer N.flash N.shape self.old updates → OnErr result (result ≡ Err failure.PowerGone) }
+        ensures open { (updates : List Update) → IsOpenLayer N.flash N.shape N.bad self.old updates → IsOpenLayer N.flash N.shape N.bad self.new updates }
+        ensures only { (updates : List Update) → IsOpenLayer N.flash N.shape N.bad self.old updates → OnErr result (result ≡ Err failure.PowerGone) }
         ensures cause { IfErr result (IsTrueCause N.faults self.old self.new) }
         ensures failed { (result ≢ Err failure.Failed) × (result ≢ Err failure.NoNumber) × (result ≢ Err failure.Written) }
         ensures closed { IsClosed self.old → result ≡ Err failure.Closed }
@@ -270,7 +285,7 @@ impl<N: Nand> Durable<N> {
         ensures faults { OnOk result ((cause : Cause) → N.faults self.new.nand cause ≡ N.faults self.old.nand cause) }
         ensures number { number_of self.new ≡ number_of self.old }
         ensures flash { N.flash self.new.nand ≡ N.flash self.old.nand }
-        ensures device { IsSameDevice N.shape self.old self.new }
+        ensures device { IsSameDevice N.shape N.bad self.old self.new }
     {
         if !self.mounted {
             return Err(Failure::Closed);
@@ -278,7 +293,7 @@ impl<N: Nand> Durable<N> {
         let Some(at) = self.core.page(sector) else {
             return Ok(Was::Empty);
         };
-        match self.nand.stamp(at) {
+        match self.nand.stamp(chip_page(&self.numbers, at)) {
             Ok(reading) => found(reading, sector),
             Err(PowerGone) => Err(Failure::PowerGone),
         }
@@ -288,13 +303,13 @@ impl<N: Nand> Durable<N> {
     fn update(&mut self, sector: u32, trimmed: bool, main: &[u8]) -> Result<(), Failure>
         requires sector { sector < layer_sectors self.old }
         requires page { trimmed ≡ false → length main.now ≡ (N.shape self.old.nand).page_bytes }
-        ensures acknowledged { (updates : List Update) → IsOpenLayer N.flash N.shape self.old updates
-            → OnOk result (IsOpenLayer N.flash N.shape self.new (update_of sector (value_with trimmed main.now) ∷ updates)) }
-        ensures fails { (updates : List Update) → IsOpenLayer N.flash N.shape self.old updates
-            → IfErr result (Fails N.flash N.shape self.old self.new (update_of sector (value_with trimmed main.now)) updates) }
+        ensures acknowledged { (updates : List Update) → IsOpenLayer N.flash N.shape N.bad self.old updates
+            → OnOk result (IsOpenLayer N.flash N.shape N.bad self.new (update_of sector (value_with trimmed main.now) ∷ updates)) }
+        ensures fails { (updates : List Update) → IsOpenLayer N.flash N.shape N.bad self.old updates
+            → IfErr result (Fails N.flash N.shape N.bad self.old self.new (update_of sector (value_with trimmed main.now)) updates) }
         ensures cause { IfErr result (IsTrueCause N.faults self.old self.new) }
         ensures closed { IsClosed self.old → result ≡ Err failure.Closed }
-        ensures device { IsSameDevice N.shape self.old self.new }
+        ensures device { IsSameDevice N.shape N.bad self.old self.new }
         ensures overwrites { result ≢ Err failure.Written }
     {
         if !self.mounted {
@@ -305,7 +320,14 @@ impl<N: Nand> Durable<N> {
             if matches!(command, Command::Refused) {
                 return Err(Failure::NoNumber);
             }
-            if let Err(fault) = perform(&mut self.nand, command, sector, trimmed, main) {
+            if let Err(fault) = perform(
+                &mut self.nand,
+                &self.numbers,
+                command,
+                sector,
+                trimmed,
+                main,
+            ) {
                 self.mounted = false;
                 return Err(fault.into());
             }

@@ -9,6 +9,7 @@ mod history;
 mod laws;
 mod layer;
 mod mounting;
+mod numbers;
 
 pub use chip::{Chip, Cut};
 pub use durable::MountFault;

@@ -1,58 +1,76 @@
-use Rattle.std.proofs.Common.{◌∙◌, Option, Err, IfSome, sym, ap, subst, arith}
-use Rattle.geometry.specs.declared.page_addr.PageAddr.{PageAddr}
+use Rattle.std.proofs.Common.{◌≡◌, ◌∙◌, ℕ, List, Err, ap, subst, sym}
+use Rattle.durable.specs.Collecting.{HasCapacity}
 use Rattle.durable.specs.Device.{Device, IsWrittenOn}
 use Rattle.durable.specs.Flash.{Flash}
-use Rattle.durable.specs.Mounting.{IsStampOf}
-use Rattle.durable.specs.Promise.{IsRecoverable}
-use Rattle.nand.specs.Nand.{ReadsStamp}
-use Rattle.nand.proofs.Mounted.{noted, falls}
+use Rattle.durable.specs.Promise.{IsConsistent, IsRecoverable}
+use Rattle.durable.specs.declared.fault.MountFault.TheVariants as mount_fault
+use Rattle.nand.specs.declared.failure.OpenFailure.TheVariants as why
+use Rattle.nand.specs.declared.flash.Shape.{Shape}
+use Rattle.nand.specs.Numbers.{numbered}
+use Rattle.nand.specs.Opened.{device_using}
+use Rattle.nand.proofs.Orders.{mountable, written_in_order}
+use Rattle.nand.proofs.Steps.{recoverable_after}
 use Rattle.nand.proofs.mounting.mount.Goals as goal
 
-pub returns-in-Err-note-clause-foreign : goal.returns-in-Err-note-clause-foreign
-returns-in-Err-note-clause-foreign g c is =
-    let inv = c.loop-at.invariant in
-    let f = g.N.Nand.flash c.args.nand.now in
-    let at = c.in-Some.at in
-    let next = sym c.next_page.ensures ∙ c.in-Some.is in
-    let reads = subst (λ (k : Flash). ReadsStamp (k at.block at.page) c.in-Ok-stamp.reading) inv.flash c.in-Ok-stamp.ensures.stamp in
-    let stamp = subst (IsStampOf f at.block at.page) (sym c.noted.ensures) (noted f at.block at.page c.in-Ok-stamp.reading reads) in
-    let there = subst (λ (x : Option PageAddr). IfSome x (λ a. IsStampOf f a.block a.page c.noted.result)) (sym next) stamp in
-    let accepted = c.note.ensures.accepts f (subst (λ (d : Device). IsWrittenOn d f) (sym inv.device) is) there in
-    absurd (cc (sym accepted ∙ c.in-Err-note.is))
+pub returns-in-Ok-clause-device : goal.returns-in-Ok-clause-device
+returns-in-Ok-clause-device g c =
+    c.in-Ok.ensures.device ∙ (ap (λ (s : Shape). device_using c.in_ok-order.order.good s c.args.sectors) c.order_of.ensures.shape
+    ∙ ap (λ (n : ℕ). device_using n (g.N.Nand.shape c.args.nand.now) c.args.sectors) c.in_ok-order.ensures.good)
 
-pub loop-at-smaller : goal.loop-at-smaller
-loop-at-smaller g c =
-    let less = falls c.loop-at.mount c.note.new.self c.in-Some.at
-    (sym c.next_page.ensures ∙ c.in-Some.is) c.note.ensures.device c.in_default-note.ensures.next in
-    omega (arith, less)
+pub returns-in-Ok-clause-consistent : goal.returns-in-Ok-clause-consistent
+returns-in-Ok-clause-consistent g c updates is =
+    let was = c.args.nand.now in
+    let order = c.in_ok-order.order in
+    let found = c.in_ok-order.ensures in
+    let device = ap (λ (s : Shape). device_using order.good s c.args.sectors) c.order_of.ensures.shape
+    ∙ ap (λ (n : ℕ). device_using n (g.N.Nand.shape was) c.args.sectors) found.good in
+    let there = mountable (g.N.Nand.flash was) (g.N.Nand.shape was) (g.N.Nand.bad was) order.numbers.items c.args.sectors found.order updates is.0 is.1 in
+    let before = recoverable_after (g.N.Nand.flash was) (g.N.Nand.flash c.order_of.new.nand) order.numbers.items updates c.order_of.ensures.flash
+    device there in
+    let same = c.deref.ensures.value in
+    let flash = g.N.Nand.flash c.order_of.new.nand in
+    let given = subst (λ (ns : List ℕ). IsRecoverable (numbered ns flash)
+    (device_using order.good (g.N.Nand.shape c.order_of.new.nand) c.args.sectors) updates updates) (sym same) before in
+    subst (λ (f : Flash). IsConsistent (numbered order.numbers.items f) c.in-Ok.core updates updates) c.order_of.ensures.flash
+    (subst (λ (ns : List ℕ). IsConsistent (numbered ns flash) c.in-Ok.core updates updates) same
+    (c.in-Ok.ensures.consistent updates (record { keeps = given.keeps; written = given.written })))
 
-pub loop-at-preserved : goal.loop-at-preserved
-loop-at-preserved g c =
-    let inv = c.loop-at.invariant in
-    let f = g.N.Nand.flash c.args.nand.now in
-    let at = c.in-Some.at in
-    let next = sym c.next_page.ensures ∙ c.in-Some.is in
-    let reads = subst (λ (k : Flash). ReadsStamp (k at.block at.page) c.in-Ok-stamp.reading) inv.flash c.in-Ok-stamp.ensures.stamp in
-    let stamp = subst (IsStampOf f at.block at.page) (sym c.noted.ensures) (noted f at.block at.page c.in-Ok-stamp.reading reads) in
-    let there = subst (λ (x : Option PageAddr). IfSome x (λ a. IsStampOf f a.block a.page c.noted.result)) (sym next) stamp in
-    record {
-      device = c.note.ensures.device ∙ inv.device;
-      flash = c.stamp.ensures.flash ∙ inv.flash;
-      shape = c.stamp.ensures.shape ∙ inv.shape;
-      faults = λ cause. c.in-Ok-stamp.ensures.cause.0 cause ∙ inv.faults cause;
-      noted = c.in_default-note.ensures.notes f inv.noted there;
-    }
+pub returns-in-Ok-clause-capacity : goal.returns-in-Ok-clause-capacity
+returns-in-Ok-clause-capacity g c =
+    subst (λ (n : ℕ). HasCapacity c.args.sectors n (g.N.Nand.shape c.args.nand.now).pages) c.in_ok-order.ensures.good
+    (subst (λ (s : Shape). HasCapacity c.args.sectors c.in_ok-order.order.good s.pages) c.order_of.ensures.shape c.in-Ok.ensures.capacity)
 
-pub returns-in-Err-NoFreeBlock-clause-frees : goal.returns-in-Err-NoFreeBlock-clause-frees
-returns-in-Err-NoFreeBlock-clause-frees g c updates is =
-    let inv = c.loop-at.invariant in
-    let f = g.N.Nand.flash c.args.nand.now in
-    absurd (c.finish.ensures.frees f updates updates inv.noted (subst (λ (d : Device). IsRecoverable f d updates updates) (sym inv.device) is)
-    (c.in-Err-NoFreeBlock.is ∙ ap Err c.in-Err-NoFreeBlock.field-0-is))
+pub returns-in-Err-clause-refused : goal.returns-in-Err-clause-refused
+returns-in-Err-clause-refused g c capacity =
+    let here = subst (λ (n : ℕ). HasCapacity c.args.sectors n (g.N.Nand.shape c.args.nand.now).pages) (sym c.in_ok-order.ensures.good) capacity in
+    let there = subst (λ (s : Shape). HasCapacity c.args.sectors c.in_ok-order.order.good s.pages) (sym c.order_of.ensures.shape) here in
+    λ e. let is : c.in-Err.why ≡ why.Refused mount_fault.TooManySectors = cc e in c.mount_in_order.ensures.refused there (c.in-Err.is ∙ ap Err is)
 
-pub returns-in-Ok-finish-clause-consistent : goal.returns-in-Ok-finish-clause-consistent
-returns-in-Ok-finish-clause-consistent g c updates is =
-    let inv = c.loop-at.invariant in
-    let f = g.N.Nand.flash c.args.nand.now in
-    let there = subst (λ (d : Device). IsRecoverable f d updates updates) (sym inv.device) is in
-    c.in-Ok-finish.ensures.remounts f updates updates inv.noted (record { keeps = there.keeps; written = there.written })
+pub returns-in-Err-clause-foreign : goal.returns-in-Err-clause-foreign
+returns-in-Err-clause-foreign g c written =
+    let was = c.args.nand.now in
+    let order = c.in_ok-order.order in
+    let found = c.in_ok-order.ensures in
+    let device = ap (λ (s : Shape). device_using order.good s c.args.sectors) c.order_of.ensures.shape
+    ∙ ap (λ (n : ℕ). device_using n (g.N.Nand.shape was) c.args.sectors) found.good in
+    let here = written_in_order (g.N.Nand.flash was) (g.N.Nand.shape was) (g.N.Nand.bad was) order.numbers.items c.args.sectors found.order written in
+    let there = subst (λ (f : Flash). IsWrittenOn (device_using order.good (g.N.Nand.shape c.order_of.new.nand) c.args.sectors)
+    (numbered order.numbers.items f)) (sym c.order_of.ensures.flash)
+    (subst (λ (d : Device). IsWrittenOn d (numbered order.numbers.items (g.N.Nand.flash was))) (sym device) here) in
+    let given = subst (λ (ns : List ℕ). IsWrittenOn (device_using order.good (g.N.Nand.shape c.order_of.new.nand) c.args.sectors)
+    (numbered ns (g.N.Nand.flash c.order_of.new.nand))) (sym c.deref.ensures.value) there in
+    λ e. let is : c.in-Err.why ≡ why.Refused mount_fault.ForeignStamp = cc e in c.mount_in_order.ensures.foreign given (c.in-Err.is ∙ ap Err is)
+
+pub returns-in-Err-clause-frees : goal.returns-in-Err-clause-frees
+returns-in-Err-clause-frees g c updates is =
+    let was = c.args.nand.now in
+    let order = c.in_ok-order.order in
+    let found = c.in_ok-order.ensures in
+    let device = ap (λ (s : Shape). device_using order.good s c.args.sectors) c.order_of.ensures.shape
+    ∙ ap (λ (n : ℕ). device_using n (g.N.Nand.shape was) c.args.sectors) found.good in
+    let there = mountable (g.N.Nand.flash was) (g.N.Nand.shape was) (g.N.Nand.bad was) order.numbers.items c.args.sectors found.order updates is.0 is.1 in
+    let before = recoverable_after (g.N.Nand.flash was) (g.N.Nand.flash c.order_of.new.nand) order.numbers.items updates c.order_of.ensures.flash
+    device there in
+    let given = subst (λ (ns : List ℕ). IsRecoverable (numbered ns (g.N.Nand.flash c.order_of.new.nand))
+    (device_using order.good (g.N.Nand.shape c.order_of.new.nand) c.args.sectors) updates updates) (sym c.deref.ensures.value) before in
+    λ e. let is : c.in-Err.why ≡ why.Refused mount_fault.NoFreeBlock = cc e in c.mount_in_order.ensures.frees updates given (c.in-Err.is ∙ ap Err is)

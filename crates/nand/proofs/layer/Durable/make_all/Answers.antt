@@ -1,13 +1,14 @@
 use Rattle.std.proofs.Common.{◌∙◌, List, Bool, ℕ, refl, sym, ap, arith, subst, length}
+use Rattle.std.proofs.lemmas.Result.{err_from_is_err_and}
 use Rattle.durable.specs.Updates.{Update}
 use Rattle.nand.specs.Histories.{Leads}
 use Rattle.nand.specs.Opened.{CanOpen}
-use Rattle.nand.proofs.Histories.{leads_more, one_longer}
+use Rattle.nand.proofs.Histories.{leads_more, one_longer, same_chip}
 use Rattle.nand.proofs.layer.Durable.make_all.Goals as goal
 
 pub loop-i-init : goal.loop-i-init
 loop-i-init g c = record {
-  sectors = c.in_ok-layer.ensures.chip.2;
+  sectors = c.in_ok-layer.ensures.chip.3;
   shape = c.in_ok-layer.ensures.chip.1;
   made = ap length c.requires.none;
   leads = λ before is. (
@@ -17,13 +18,22 @@ loop-i-init g c = record {
   );
 }
 
+pub returns-in_err-layer-clause-back : goal.returns-in_err-layer-clause-back
+returns-in_err-layer-clause-back g c before is =
+    let p = err_from_is_err_and c.from_residual.result c.from_residual.ensures.1 in
+    rw (p.1, p.2) (
+      before,
+      subst (λ (outcomes : List Bool). Leads c.args.changes.now outcomes before before) (sym c.requires.none) refl,
+      same_chip g.N.Nand.flash g.N.Nand.shape g.N.Nand.bad c.args.nand _ c.args.sectors before c.in_err-layer.ensures.back is,
+    )
+
 pub returns-in-Err-clause-back : goal.returns-in-Err-clause-back
 returns-in-Err-clause-back g c before is =
     let inv = c.loop-i.invariant in
     let leads = inv.leads before is in (
       leads.0,
       subst (λ (outcomes : List Bool). Leads c.args.changes.now outcomes before leads.0) (sym c.in-Err.ensures.items) leads.1,
-      subst (λ (n : ℕ). CanOpen g.N.Nand.flash g.N.Nand.shape c.into_nand.result n leads.0) inv.sectors (c.into_nand.ensures.left leads.0 leads.2),
+      subst (λ (n : ℕ). CanOpen g.N.Nand.flash g.N.Nand.shape g.N.Nand.bad c.into_nand.result n leads.0) inv.sectors (c.into_nand.ensures.left leads.0 leads.2),
     )
 
 pub returns-in-Err-make_or_reopen-clause-back : goal.returns-in-Err-make_or_reopen-clause-back
@@ -35,7 +45,7 @@ returns-in-Err-make_or_reopen-clause-back g c before is =
       leads_more c.args.changes.now c.loop-i.acknowledged.items c.push.new.self.items c.loop-i.i c.index-changes-i.result
           c.make_or_reopen.new.acknowledged before leads.0 back.0 leads.1 c.in_default.ensures.items inv.made
           (omega (arith, c.loop-i-test.true, c.loop-i.auto.i-end)) c.index-changes-i.is back.1,
-      subst (λ (n : ℕ). CanOpen g.N.Nand.flash g.N.Nand.shape c.in-Err-make_or_reopen.refused.nand n back.0) inv.sectors back.2,
+      subst (λ (n : ℕ). CanOpen g.N.Nand.flash g.N.Nand.shape g.N.Nand.bad c.in-Err-make_or_reopen.refused.nand n back.0) inv.sectors back.2,
     )
 
 pub loop-i-preserved : goal.loop-i-preserved

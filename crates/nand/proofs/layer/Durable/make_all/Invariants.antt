@@ -9,6 +9,6 @@ invariant-loop-i g l = record {
   sectors : layer_sectors l.layer ≡ l.fn.sectors;
   shape : g.N.Nand.shape l.layer.nand ≡ g.N.Nand.shape l.fn.nand;
   made : length l.acknowledged.items ≡ l.i;
-  leads : (before : List Update) → CanOpen g.N.Nand.flash g.N.Nand.shape l.fn.nand l.fn.sectors before
-      → (after : List Update) × Leads l.fn.changes l.acknowledged.items before after × IsOpenLayer g.N.Nand.flash g.N.Nand.shape l.layer after;
+  leads : (before : List Update) → CanOpen g.N.Nand.flash g.N.Nand.shape g.N.Nand.bad l.fn.nand l.fn.sectors before
+      → (after : List Update) × Leads l.fn.changes l.acknowledged.items before after × IsOpenLayer g.N.Nand.flash g.N.Nand.shape g.N.Nand.bad l.layer after;
 }

@@ -8,7 +8,7 @@ returns-in-Ok-Empty-clause-was g c updates is = sym c.in-Ok-Empty.field-0-is ∙
 
 pub returns-in-Ok-Empty-clause-acknowledged : goal.returns-in-Ok-Empty-clause-acknowledged
 returns-in-Ok-Empty-clause-acknowledged g c updates is =
-    trims_nothing g.N.Nand.flash g.N.Nand.shape c.was.new.self c.args.sector updates (c.was.ensures.open updates is)
+    trims_nothing g.N.Nand.flash g.N.Nand.shape g.N.Nand.bad c.was.new.self c.args.sector updates (c.was.ensures.open updates is)
     (sym (c.in-Ok-Empty.ensures.gives updates is) ∙ c.in-Ok-Empty.field-0-is)
 
 pub returns-in-Ok-clause-was : goal.returns-in-Ok-clause-was
@@ -19,7 +19,7 @@ returns-in-Ok-clause-acknowledged g c updates is = c.in-Ok.ensures.acknowledged 
 
 pub returns-in-Err-update-clause-fails : goal.returns-in-Err-update-clause-fails
 returns-in-Err-update-clause-fails g c updates is =
-    fails_after g.N.Nand.flash g.N.Nand.shape c.args.self.now c.was.new.self c.update.new.self (update_of c.args.sector None) updates
+    fails_after g.N.Nand.flash g.N.Nand.shape g.N.Nand.bad c.args.self.now c.was.new.self c.update.new.self (update_of c.args.sector None) updates
     c.in-Err-update.failure c.was.ensures.device.sectors (c.in-Err-update.ensures.fails updates (c.was.ensures.open updates is))
 
 pub returns-in-Err-update-clause-cause : goal.returns-in-Err-update-clause-cause
@@ -29,5 +29,5 @@ returns-in-Err-update-clause-cause g c =
 
 pub returns-in-Err-clause-fails : goal.returns-in-Err-clause-fails
 returns-in-Err-clause-fails g c updates is =
-    fails_open g.N.Nand.flash g.N.Nand.shape c.args.self.now c.was.new.self (update_of c.args.sector None) updates c.in-Err.failure
+    fails_open g.N.Nand.flash g.N.Nand.shape g.N.Nand.bad c.args.self.now c.was.new.self (update_of c.args.sector None) updates c.in-Err.failure
     (c.was.ensures.open updates is) c.was.ensures.device.sectors (not_lost c.in-Err.failure (c.in-Err.ensures.only updates is))

@@ -3,6 +3,7 @@ use Rattle.durable.specs.Choice.{left}
 use Rattle.durable.specs.Device.{device_of, next_number_of}
 use Rattle.durable.specs.Promise.{IsConsistent}
 use Rattle.durable.specs.Updates.{Update}
+use Rattle.nand.specs.Numbers.{IsOrder, numbered}
 use Rattle.nand.specs.Opened.{IsOpenLayer}
 use Rattle.nand.specs.declared.flash.Fault.{Fault}
 use Rattle.nand.proofs.layer.Durable.update.Given as goal
@@ -11,11 +12,14 @@ abbrev pub invariant-loop-self : goal.invariant-loop-self
 invariant-loop-self g l = record {
   mounted : l.self.mounted ≡ l.fn.self.mounted;
   shape : g.N.Nand.shape l.self.nand ≡ g.N.Nand.shape l.fn.self.nand;
+  bad : g.N.Nand.bad l.self.nand ≡ g.N.Nand.bad l.fn.self.nand;
   device : device_of l.self.core ≡ device_of l.fn.self.core;
   number : next_number_of l.self.core ≡ next_number_of l.fn.self.core;
   faults : (cause : Fault) → g.N.Nand.faults l.self.nand cause ≡ g.N.Nand.faults l.fn.self.nand cause;
-  consistent : (updates : List Update) → IsOpenLayer g.N.Nand.flash g.N.Nand.shape l.fn.self updates
-      → IsConsistent (g.N.Nand.flash l.self.nand) l.self.core updates updates;
+  order : (updates : List Update) → IsOpenLayer g.N.Nand.flash g.N.Nand.shape g.N.Nand.bad l.fn.self updates
+      → IsOrder l.self.numbers.items (g.N.Nand.bad l.self.nand) (g.N.Nand.shape l.self.nand).blocks;
+  consistent : (updates : List Update) → IsOpenLayer g.N.Nand.flash g.N.Nand.shape g.N.Nand.bad l.fn.self updates
+      → IsConsistent (numbered l.self.numbers.items (g.N.Nand.flash l.self.nand)) l.self.core updates updates;
 }
 
 abbrev pub decreases-loop-self : goal.decreases-loop-self

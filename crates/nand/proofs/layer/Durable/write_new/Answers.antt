@@ -12,7 +12,7 @@ returns-in-Ok-Empty-clause-written g c updates is written = absurd (c.update.ens
 
 pub returns-in-Ok-Empty-clause-fails : goal.returns-in-Ok-Empty-clause-fails
 returns-in-Ok-Empty-clause-fails g c updates is =
-    if_fails_after g.N.Nand.flash g.N.Nand.shape c.args.self.now c.was.new.self c.update.new.self (update_of c.args.sector (Some c.args.bytes.now))
+    if_fails_after g.N.Nand.flash g.N.Nand.shape g.N.Nand.bad c.args.self.now c.was.new.self c.update.new.self (update_of c.args.sector (Some c.args.bytes.now))
     updates c.update.result c.was.ensures.device.sectors (c.update.ensures.fails updates (c.was.ensures.open updates is))
 
 pub returns-in-Ok-Empty-clause-cause : goal.returns-in-Ok-Empty-clause-cause
@@ -25,10 +25,10 @@ returns-in-Ok-Written-clause-written g c updates is _ = sym (c.in-Ok-Written.ens
 
 pub returns-in-Ok-Written-clause-fails : goal.returns-in-Ok-Written-clause-fails
 returns-in-Ok-Written-clause-fails g c updates is =
-    fails_open g.N.Nand.flash g.N.Nand.shape c.args.self.now c.was.new.self (update_of c.args.sector (Some c.args.bytes.now)) updates
+    fails_open g.N.Nand.flash g.N.Nand.shape g.N.Nand.bad c.args.self.now c.was.new.self (update_of c.args.sector (Some c.args.bytes.now)) updates
     failure.Written (c.was.ensures.open updates is) c.was.ensures.device.sectors (λ e. cc e)
 
 pub returns-in-Err-clause-fails : goal.returns-in-Err-clause-fails
 returns-in-Err-clause-fails g c updates is =
-    fails_open g.N.Nand.flash g.N.Nand.shape c.args.self.now c.was.new.self (update_of c.args.sector (Some c.args.bytes.now)) updates
+    fails_open g.N.Nand.flash g.N.Nand.shape g.N.Nand.bad c.args.self.now c.was.new.self (update_of c.args.sector (Some c.args.bytes.now)) updates
     c.in-Err.failure (c.was.ensures.open updates is) c.was.ensures.device.sectors (not_lost c.in-Err.failure (c.in-Err.ensures.only updates is))

@@ -2,17 +2,19 @@ use Rattle.std.proofs.Common.{◌≡◌}
 use Rattle.durable.specs.Calls.{HasNoted}
 use Rattle.durable.specs.Device.{device_in}
 use Rattle.nand.specs.declared.flash.Fault.{Fault}
-use Rattle.nand.specs.Opened.{device_on}
+use Rattle.nand.specs.Numbers.{numbered}
+use Rattle.nand.specs.Opened.{device_using}
 use Rattle.nand.proofs.Mounted.{to_read}
-use Rattle.nand.proofs.mounting.mount.Given as goal
+use Rattle.nand.proofs.mounting.mount_in_order.Given as goal
 
 abbrev pub invariant-loop-at : goal.invariant-loop-at
 invariant-loop-at g l = record {
-  device : device_in l.mount ≡ device_on (g.N.Nand.shape l.fn.nand) l.fn.sectors;
+  device : device_in l.mount ≡ device_using l.fn.used (g.N.Nand.shape l.fn.nand) l.fn.sectors;
   flash : g.N.Nand.flash l.nand ≡ g.N.Nand.flash l.fn.nand;
   shape : g.N.Nand.shape l.nand ≡ g.N.Nand.shape l.fn.nand;
+  bad : g.N.Nand.bad l.nand ≡ g.N.Nand.bad l.fn.nand;
   faults : (cause : Fault) → g.N.Nand.faults l.nand cause ≡ g.N.Nand.faults l.fn.nand cause;
-  noted : HasNoted (g.N.Nand.flash l.fn.nand) l.mount;
+  noted : HasNoted (numbered l.fn.numbers (g.N.Nand.flash l.fn.nand)) l.mount;
 }
 
 abbrev pub decreases-loop-at : goal.decreases-loop-at

@@ -1,0 +1,288 @@
+-- A chip's blocks in the layer's order.
+use Rattle.std.proofs.Common.{◌≡◌, ◌≢◌, ◌⊎◌, ◌∙◌, inl, inr, ⊎_elim, ◌+◌, ◌<◌, ◌≤◌, ℕ, zero, suc, Bool, true, false, List, [], ◌∷◌, length}
+use Rattle.std.proofs.Common.{None, Result, Ok, Err, OnOk, OnErr, ◌++◌, get_or, set, if◌then◌else◌, refl, sym, ap, subst, arith}
+use Rattle.std.proofs.lemmas.Bool.{cases_eq, cases_lt, false≢true}
+use Rattle.std.proofs.lemmas.Bool.Decides.{nat_tests}
+use Rattle.std.proofs.Math.ListN.{get_or-append}
+use Rattle.std.proofs.lemmas.List.{get_or_default, get_or_past, get_or_push, get_or-set_same, get_or-set_other, length-set}
+use Rattle.std.specs.List.{swap}
+use Rattle.geometry.specs.Sectors.{Sector}
+use Rattle.geometry.specs.declared.page_addr.PageAddr.{PageAddr}
+use Rattle.durable.specs.Flash.{Erased, Torn, Version, PageContents, Flash, HoldsNewest, IsErased, LosesPages, SetsPage}
+use Rattle.durable.specs.Commands.{Completes, CutLeaves, IsSameFlash}
+use Rattle.durable.specs.declared.command.Command.{Command}
+use Rattle.durable.specs.declared.command.Command.TheVariants.{Program, Copy, Erase}
+use Rattle.durable.specs.Device.{IsWrittenOn}
+use Rattle.durable.specs.Failures.{IsRenumbered, swapped}
+use Rattle.durable.specs.Promise.{IsReadable, IsRecoverable}
+use Rattle.durable.specs.Spare.{IsDuplicated}
+use Rattle.durable.specs.Updates.{Update}
+use Rattle.durable.proofs.Cells.{erased_holds_none}
+use Rattle.durable.proofs.Promises.{erased_recoverable, held_before, readable, readable_renumbered, written_renumbered}
+use Rattle.durable.proofs.Reserves.{swapped_first, swapped_other, swapped_second, swapped_twice, swapped_within}
+use Rattle.nand.specs.declared.flash.Fault.{Fault}
+use Rattle.nand.specs.declared.flash.Shape.{Shape}
+use Rattle.nand.specs.Nand.{Performs}
+use Rattle.nand.specs.Numbers.{IsOrder, IsOrderTo, chip_block, chip_page, good_before, is_marked, numbered}
+use Rattle.nand.specs.Opened.{CanFreeGood, device_on}
+
+-- the order as it is made
+pub first_order : (numbers : List ℕ) (bad : List Bool) (blocks : ℕ) → ((c : ℕ) → chip_block numbers c ≡ c) → IsOrderTo numbers bad blocks 0
+first_order numbers bad blocks same = record {
+  to = λ b. b;
+  found = same;
+  put = same;
+  within = λ b lt. lt;
+  lies = λ c lt. omega (arith, same c, lt);
+  good = λ c lt. absurd (omega (arith, lt));
+  others = λ c le lt. absurd (omega (arith, lt));
+  rest = λ c le. same c;
+}
+
+pub next_good : (bad : List Bool) (i : ℕ) (marked : Bool) → is_marked bad i ≡ marked → good_before bad (i + 1) ≡ good_before bad i + (if marked then 0 else 1)
+next_good bad i marked is = let e : i + 1 ≡ suc i = omega arith in ap (good_before bad) e ∙ ap (λ (m : Bool). good_before bad i + (if m then 0 else 1)) is
+
+one_or_none : (marked : Bool) → (if marked then 0 else 1) ≤ 1
+one_or_none true = omega arith
+one_or_none false = omega arith
+
+pub few_good : (bad : List Bool) (b : ℕ) → good_before bad b ≤ b
+few_good bad zero = omega arith
+few_good bad (suc b) = omega (arith, few_good bad b, one_or_none (is_marked bad b))
+
+-- some block is good, if they aren't none
+abbrev HasGood : List Bool → ℕ → Type 0
+HasGood bad n = (b : ℕ) × (b < n) × (is_marked bad b ≡ false)
+
+last_good : (bad : List Bool) (n : ℕ) (marked : Bool) → is_marked bad n ≡ marked → (0 < good_before bad n → HasGood bad n)
+    → 0 < good_before bad n + (if marked then 0 else 1) → HasGood bad (suc n)
+last_good bad n false is before some = (n, omega arith, is)
+last_good bad n true is before some = let good = before (omega (arith, some)) in (good.0, omega (arith, good.1), good.2)
+
+some_good : (bad : List Bool) (n : ℕ) → 0 < good_before bad n → HasGood bad n
+some_good bad zero some = absurd (omega (arith, some))
+some_good bad (suc n) some = last_good bad n (is_marked bad n) refl (some_good bad n) some
+
+-- an erased chip with a good block can be opened
+pub erased_opens : (f : Flash) (shape : Shape) (bad : List Bool) (sectors : ℕ) → IsErased f → 0 < good_before bad shape.blocks
+    → IsReadable f (device_on shape bad sectors) [] [] × CanFreeGood f bad shape.blocks sectors
+erased_opens f shape bad sectors erased some =
+    let device = device_on shape bad sectors in
+    let good = some_good bad shape.blocks some in (
+      readable f device [] [] (erased_recoverable f device erased some),
+      (good.0, good.1, good.2, λ s p v lt newest. absurd (erased_holds_none s newest.number v (sym (erased good.0 p) ∙ newest.held))),
+    )
+
+-- a bad block keeps its number for now
+pub skips : (numbers : List ℕ) (bad : List Bool) (blocks i : ℕ) → is_marked bad i ≡ true → IsOrderTo numbers bad blocks i
+    → IsOrderTo numbers bad blocks (i + 1)
+skips numbers bad blocks i marked is =
+    let good = next_good bad i true marked in
+    record {
+      to = is.to;
+      found = is.found;
+      put = is.put;
+      within = is.within;
+      lies = is.lies;
+      good = λ c lt. is.good c (omega (arith, lt, good));
+      others = λ c le lt. ⊎_elim
+          (λ here. ap (is_marked bad) (is.rest c (omega (arith, here)) ∙ here) ∙ marked)
+          (λ differs. is.others c (omega (arith, le, good)) (omega (arith, lt, differs)))
+          (cases_eq c i);
+      rest = λ c le. is.rest c (omega (arith, le));
+    }
+
+-- a good block takes the next number of the good ones
+pub takes : (old new : List ℕ) (bad : List Bool) (blocks i : ℕ) → i < blocks → is_marked bad i ≡ false → IsOrderTo old bad blocks i
+    → ((c : ℕ) → chip_block new c ≡ chip_block old (swapped (good_before bad i) i c)) → IsOrderTo new bad blocks (i + 1)
+takes old new bad blocks i within marked is swap =
+    let g = good_before bad i in
+    let few : g ≤ i = few_good bad i in
+    let now : good_before bad (i + 1) ≡ g + 1 = next_good bad i false marked in
+    let stays : (c : ℕ) → c ≢ g → c ≢ i → chip_block new c ≡ chip_block old c = λ c a b. swap c ∙ ap (chip_block old) (swapped_other g i c a b) in
+    let first : chip_block new g ≡ i = swap g ∙ (ap (chip_block old) (swapped_first g i) ∙ is.rest i (omega arith)) in
+    let last : chip_block new i ≡ chip_block old g = swap i ∙ ap (chip_block old) (swapped_second g i) in
+    record {
+      to = λ b. swapped g i (is.to b);
+      found = λ c. ap (λ (b : ℕ). swapped g i (is.to b)) (swap c) ∙ (ap (swapped g i) (is.found (swapped g i c)) ∙ swapped_twice g i c);
+      put = λ b. swap (swapped g i (is.to b)) ∙ (ap (chip_block old) (swapped_twice g i (is.to b)) ∙ is.put b);
+      within = λ b lt. swapped_within g i blocks (is.to b) (omega (arith, few, within)) within (is.within b lt);
+      lies = λ c lt. let there = is.lies (swapped g i c) (swapped_within g i blocks c (omega (arith, few, within)) within lt) in
+          omega (arith, swap c, there);
+      good = λ c lt. ⊎_elim
+          (λ here. ap (is_marked bad) (ap (chip_block new) here ∙ first) ∙ marked)
+          (λ differs. ap (is_marked bad) (stays c differs (λ e. omega (arith, e, lt, now, few, differs)))
+          ∙ is.good c (omega (arith, lt, now, differs)))
+          (cases_eq c g);
+      others = λ c le lt. ⊎_elim
+          (λ here. ap (is_marked bad) (ap (chip_block new) here ∙ last) ∙ is.others g (omega arith) (omega (arith, here, le, now)))
+          (λ differs. ap (is_marked bad) (stays c (λ e. omega (arith, e, le, now)) differs)
+          ∙ is.others c (omega (arith, le, now)) (omega (arith, lt, differs)))
+          (cases_eq c i);
+      rest = λ c le. stays c (λ e. omega (arith, e, le, few)) (λ e. omega (arith, e, le)) ∙ is.rest c (omega (arith, le));
+    }
+
+-- two elements that are exchanged
+pub swap_is : (xs : List ℕ) (a b : ℕ) → a < length xs → b < length xs → (c : ℕ) → chip_block (swap xs a b) c ≡ chip_block xs (swapped a b c)
+swap_is [] a b a_lt b_lt c = absurd (omega (arith, a_lt))
+swap_is (x ∷ xs) a b a_lt b_lt c =
+    let all = x ∷ xs in
+    let first = set all a (get_or all b x) in
+    ⊎_elim
+    (λ at_b. ap (λ (k : ℕ). get_or (set first b (get_or all a x)) k k) at_b
+    ∙ (get_or-set_same first b (get_or all a x) b (omega (arith, length-set all a (get_or all b x), b_lt))
+    ∙ (get_or_default all a x a a_lt ∙ sym (ap (chip_block all) (ap (swapped a b) at_b ∙ swapped_second a b)))))
+    (λ not_b. get_or-set_other first b c (get_or all a x) c not_b ∙ ⊎_elim
+    (λ at_a. ap (λ (k : ℕ). get_or first k k) at_a ∙ (get_or-set_same all a (get_or all b x) a a_lt
+    ∙ (get_or_default all b x b b_lt ∙ sym (ap (chip_block all) (ap (swapped a b) at_a ∙ swapped_first a b)))))
+    (λ not_a. get_or-set_other all a c (get_or all b x) c not_a ∙ sym (ap (chip_block all) (swapped_other a b c not_a not_b)))
+    (cases_eq c a))
+    (cases_eq c b)
+
+-- the next number, put behind those before it
+pushed_length : (xs : List ℕ) (x : ℕ) → length (xs ++ x ∷ []) ≡ length xs + 1
+pushed_length [] x = refl
+pushed_length (y ∷ xs) x = omega (arith, pushed_length xs x)
+
+pub pushed : (xs : List ℕ) (n : ℕ) → length xs ≡ n → ((c : ℕ) → chip_block xs c ≡ c) → (c : ℕ) → chip_block (xs ++ n ∷ []) c ≡ c
+pushed xs n is same c = ⊎_elim
+    (λ lt. get_or-append xs (n ∷ []) c c (omega (arith, lt, is)) ∙ same c)
+    (λ le. ⊎_elim
+    (λ here. get_or_push xs n c c (is ∙ sym here) ∙ sym here)
+    (λ differs. get_or_past (xs ++ n ∷ []) c c (omega (arith, pushed_length xs n, is, le, differs)))
+    (cases_eq c n))
+    (cases_lt c n)
+
+-- the pages of the blocks in this order are those of a flash that is numbered anew
+module _ (numbers : List ℕ) (bad : List Bool) (blocks : ℕ) (is : IsOrder numbers bad blocks) where
+  abbrev pub anew : (f : Flash) → IsRenumbered f (numbered numbers f) blocks
+  anew f = record { to = is.to; from = chip_block numbers; inverse = is.found; moved = λ b p i. f (is.put b i) p; within = is.within }
+
+  abbrev pub back : (f : Flash) → IsRenumbered (numbered numbers f) f blocks
+  back f = record { to = chip_block numbers; from = is.to; inverse = is.put; moved = λ b p. refl; within = is.lies }
+
+  pub other_chip_block : (c d : ℕ) → d ≢ c → chip_block numbers d ≢ chip_block numbers c
+  other_chip_block c d differs e = differs (sym (is.found d) ∙ (ap is.to e ∙ is.found c))
+
+  -- a good block has one of the first numbers
+  pub first_numbers : (b : ℕ) → b < blocks → is_marked bad b ≡ false → is.to b < good_before bad blocks
+  first_numbers b lt good = ⊎_elim
+      (λ first. first)
+      (λ past. absurd (false≢true (sym good ∙ (sym (ap (is_marked bad) (is.put b)) ∙ is.others (is.to b) past (is.within b lt)))))
+      (cases_lt (is.to b) (good_before bad blocks))
+
+-- a block's newest versions, after the blocks were numbered anew
+module _ (f t : Flash) (blocks sectors : ℕ) (r : IsRenumbered f t blocks) (whole : (b : ℕ) → r.from (r.to b) ≡ b) where
+  newest_there : (s b p : ℕ) (v : Sector) → HoldsNewest f s v b p → HoldsNewest t s v (r.to b) p
+  newest_there s b p v is = record {
+    number = is.number;
+    held = r.moved b p ∙ is.held;
+    newest = λ c q m w e. is.newest (r.from c) q m w (held_before f t blocks r c q s m w e);
+  }
+
+  newest_before : (s b p : ℕ) (v : Sector) → HoldsNewest t s v (r.to b) p → HoldsNewest f s v b p
+  newest_before s b p v is = record {
+    number = is.number;
+    held = sym (r.moved b p) ∙ is.held;
+    newest = λ c q m w e. is.newest (r.to c) q m w (r.moved c q ∙ e);
+  }
+
+  pub duplicated_there : (b : ℕ) → IsDuplicated f sectors b → IsDuplicated t sectors (r.to b)
+  duplicated_there b is s p v lt newest =
+      let other = is s p v lt (newest_before s b p v newest) in (
+        r.to other.0,
+        other.1,
+        other.2,
+        (λ e. other.3 (sym (whole other.0) ∙ (ap r.from e ∙ whole b))),
+        newest_there s other.0 other.1 other.2 other.4,
+      )
+
+-- what a mount needs, told of the chip's own blocks and of those in order
+module _ (f : Flash) (shape : Shape) (bad : List Bool) (numbers : List ℕ) (sectors : ℕ) (is : IsOrder numbers bad shape.blocks) where
+  pub openable : (updates : List Update) → IsRecoverable (numbered numbers f) (device_on shape bad sectors) updates updates
+      → IsReadable f (device_on shape bad sectors) updates updates × CanFreeGood f bad shape.blocks sectors
+  openable updates mounts =
+      let device = device_on shape bad sectors in
+      let again = back numbers bad shape.blocks is f in
+      let spare = mounts.spare in (
+        readable_renumbered (numbered numbers f) f device device updates updates again (refl, refl, refl)
+            (readable (numbered numbers f) device updates updates mounts),
+        (
+          chip_block numbers spare.0,
+          is.lies spare.0 (omega (arith, spare.1, few_good bad shape.blocks)),
+          is.good spare.0 spare.1,
+          duplicated_there (numbered numbers f) f shape.blocks sectors again is.found spare.0 spare.2,
+        ),
+      )
+
+  pub mountable : (updates : List Update) → IsReadable f (device_on shape bad sectors) updates updates → CanFreeGood f bad shape.blocks sectors
+      → IsRecoverable (numbered numbers f) (device_on shape bad sectors) updates updates
+  mountable updates reads free =
+      let device = device_on shape bad sectors in
+      let order = anew numbers bad shape.blocks is f in
+      let there = readable_renumbered f (numbered numbers f) device device updates updates order (refl, refl, refl) reads in
+      record {
+        keeps = there.keeps;
+        written = there.written;
+        spare = (
+          is.to free.0,
+          first_numbers numbers bad shape.blocks is free.0 free.1 free.2,
+          duplicated_there f (numbered numbers f) shape.blocks sectors order is.put free.0 free.3,
+        );
+      }
+
+  pub written_in_order : IsWrittenOn (device_on shape bad sectors) f → IsWrittenOn (device_on shape bad sectors) (numbered numbers f)
+  written_in_order written = let device = device_on shape bad sectors in
+      written_renumbered f (numbered numbers f) shape.blocks (anew numbers bad shape.blocks is f) device device (refl, refl, refl) refl written
+
+-- the commands of the chip, told of the blocks in order
+module _ (f t : Flash) (numbers : List ℕ) (bad : List Bool) (blocks : ℕ) (is : IsOrder numbers bad blocks) where
+  same_there : IsSameFlash f t → IsSameFlash (numbered numbers f) (numbered numbers t)
+  same_there same c p = same (chip_block numbers c) p
+
+  sets_there : (c p : ℕ) (x : PageContents) → SetsPage f t (chip_block numbers c) p x → SetsPage (numbered numbers f) (numbered numbers t) c p x
+  sets_there c p x sets = record {
+    put = sets.put;
+    others = λ d q differs. sets.others (chip_block numbers d) q (⊎_elim (λ block. inl (other_chip_block numbers bad blocks is c d block)) inr differs);
+  }
+
+  on_ok : {T P Q : Type 0} (r : Result T Fault) → (P → Q) → OnOk r P → OnOk r Q
+  on_ok (Ok v) to h = to h
+  on_ok (Err e) to h = tt
+
+  on_err : {T P Q : Type 0} (r : Result T Fault) → (P → Q) → OnErr r P → OnErr r Q
+  on_err (Ok v) to h = tt
+  on_err (Err e) to h = to h
+
+  pub programs_there : (at : PageAddr) (n s : ℕ) (v : Sector) (r : Result (Unit {0}) Fault)
+      → Performs (Program (chip_page numbers at) n) s v r f t → Performs (Program at n) s v r (numbered numbers f) (numbered numbers t)
+  programs_there at n s v r does allowed =
+      let done = does allowed in (
+        on_ok r (sets_there at.block at.page (Version s n v)) done.0,
+        on_err r (λ cut. ⊎_elim (λ same. inl (same_there same)) (λ more. inr (⊎_elim
+            (λ torn. inl (sets_there at.block at.page Torn torn))
+            (λ put. inr (sets_there at.block at.page (Version s n v) put)) more)) cut) done.1,
+      )
+
+  pub copies_there : (k : ℕ) (from to : PageAddr) (s : ℕ) (v : Sector) (r : Result (Unit {0}) Fault)
+      → Performs (Copy 0 (chip_page numbers from) (chip_page numbers to)) 0 None r f t
+      → Performs (Copy k from to) s v r (numbered numbers f) (numbered numbers t)
+  copies_there k from to s v r does allowed =
+      let done = does allowed in
+      let x = f (chip_block numbers from.block) from.page in (
+        on_ok r (sets_there to.block to.page x) done.0,
+        on_err r (λ cut. ⊎_elim (λ same. inl (same_there same)) (λ more. inr (⊎_elim
+            (λ torn. inl (sets_there to.block to.page Torn torn))
+            (λ put. inr (sets_there to.block to.page x put)) more)) cut) done.1,
+      )
+
+  pub erases_there : (b s : ℕ) (v : Sector) (r : Result (Unit {0}) Fault) → Performs (Erase (chip_block numbers b)) 0 None r f t
+      → Performs (Erase b) s v r (numbered numbers f) (numbered numbers t)
+  erases_there b s v r does allowed =
+      let done = does allowed in (
+        on_ok r (λ erased. (erased.0, λ d p differs. erased.1 (chip_block numbers d) p (other_chip_block numbers bad blocks is b d differs))) done.0,
+        on_err r (λ loses. record {
+          within = λ c p q m w e. loses.within (chip_block numbers c) p q m w e;
+          outside = λ c p differs. loses.outside (chip_block numbers c) p (other_chip_block numbers bad blocks is b c differs);
+        }) done.1,
+      )

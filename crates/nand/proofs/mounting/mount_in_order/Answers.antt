@@ -1,0 +1,66 @@
+use Rattle.std.proofs.Common.{◌∙◌, Option, Err, IfSome, sym, ap, subst, arith}
+use Rattle.geometry.specs.declared.page_addr.PageAddr.{PageAddr}
+use Rattle.durable.specs.Device.{Device, IsWrittenOn}
+use Rattle.durable.specs.Flash.{Flash}
+use Rattle.durable.specs.Mounting.{IsStampOf}
+use Rattle.durable.specs.Promise.{IsReadable, IsRecoverable}
+use Rattle.nand.specs.Nand.{ReadsStamp}
+use Rattle.nand.specs.Numbers.{numbered}
+use Rattle.nand.proofs.Mounted.{noted, falls}
+use Rattle.nand.proofs.mounting.mount_in_order.Goals as goal
+
+pub returns-in-Err-note-clause-foreign : goal.returns-in-Err-note-clause-foreign
+returns-in-Err-note-clause-foreign g c is =
+    let inv = c.loop-at.invariant in
+    let flash = g.N.Nand.flash c.args.nand.now in
+    let f = numbered c.args.numbers.now flash in
+    let at = c.in-Some.at in
+    let next = sym c.next_page.ensures ∙ c.in-Some.is in
+    let there = subst (λ (k : Flash). ReadsStamp (k c.chip_page.result.block c.chip_page.result.page) c.in-Ok-stamp.reading) inv.flash
+    c.in-Ok-stamp.ensures.stamp in
+    let reads = subst (λ (x : PageAddr). ReadsStamp (flash x.block x.page) c.in-Ok-stamp.reading) c.chip_page.ensures there in
+    let stamp = subst (IsStampOf f at.block at.page) (sym c.noted.ensures) (noted f at.block at.page c.in-Ok-stamp.reading reads) in
+    let known = subst (λ (x : Option PageAddr). IfSome x (λ a. IsStampOf f a.block a.page c.noted.result)) (sym next) stamp in
+    let accepted = c.note.ensures.accepts f (subst (λ (d : Device). IsWrittenOn d f) (sym inv.device) is) known in
+    absurd (cc (sym accepted ∙ c.in-Err-note.is))
+
+pub loop-at-smaller : goal.loop-at-smaller
+loop-at-smaller g c =
+    let less = falls c.loop-at.mount c.note.new.self c.in-Some.at
+    (sym c.next_page.ensures ∙ c.in-Some.is) c.note.ensures.device c.in_default-note.ensures.next in
+    omega (arith, less)
+
+pub loop-at-preserved : goal.loop-at-preserved
+loop-at-preserved g c =
+    let inv = c.loop-at.invariant in
+    let flash = g.N.Nand.flash c.args.nand.now in
+    let f = numbered c.args.numbers.now flash in
+    let at = c.in-Some.at in
+    let next = sym c.next_page.ensures ∙ c.in-Some.is in
+    let there = subst (λ (k : Flash). ReadsStamp (k c.chip_page.result.block c.chip_page.result.page) c.in-Ok-stamp.reading) inv.flash
+    c.in-Ok-stamp.ensures.stamp in
+    let reads = subst (λ (x : PageAddr). ReadsStamp (flash x.block x.page) c.in-Ok-stamp.reading) c.chip_page.ensures there in
+    let stamp = subst (IsStampOf f at.block at.page) (sym c.noted.ensures) (noted f at.block at.page c.in-Ok-stamp.reading reads) in
+    let known = subst (λ (x : Option PageAddr). IfSome x (λ a. IsStampOf f a.block a.page c.noted.result)) (sym next) stamp in
+    record {
+      device = c.note.ensures.device ∙ inv.device;
+      flash = c.stamp.ensures.flash ∙ inv.flash;
+      shape = c.stamp.ensures.shape ∙ inv.shape;
+      bad = c.stamp.ensures.bad ∙ inv.bad;
+      faults = λ cause. c.in-Ok-stamp.ensures.cause.0 cause ∙ inv.faults cause;
+      noted = c.in_default-note.ensures.notes f inv.noted known;
+    }
+
+pub returns-in-Err-NoFreeBlock-clause-frees : goal.returns-in-Err-NoFreeBlock-clause-frees
+returns-in-Err-NoFreeBlock-clause-frees g c updates is =
+    let inv = c.loop-at.invariant in
+    let flash = g.N.Nand.flash c.args.nand.now in
+    let f = numbered c.args.numbers.now flash in
+    absurd (c.finish.ensures.frees f updates updates inv.noted (subst (λ (d : Device). IsRecoverable f d updates updates) (sym inv.device) is)
+    (c.in-Err-NoFreeBlock.is ∙ ap Err c.in-Err-NoFreeBlock.field-0-is))
+
+pub returns-in-Ok-finish-clause-consistent : goal.returns-in-Ok-finish-clause-consistent
+returns-in-Ok-finish-clause-consistent g c updates is =
+    let inv = c.loop-at.invariant in
+    let f = numbered c.args.numbers.now (g.N.Nand.flash c.args.nand.now) in
+    c.in-Ok-finish.ensures.remounts f updates updates inv.noted (subst (λ (d : Device). IsReadable f d updates updates) (sym inv.device) is)
