@@ -138,14 +138,14 @@ first_page_on core b lt = λ to is.
     some_pages blocks (suc pages) sectors few = omega arith
 
 -- the block with the least count has the fewest live pages
-pub fewest_beside : (core : Core) (opened victim : ℕ) (counts : List ℕ) → counts ≡ core.counts.items
+pub fewest_beside : (core : Core) (opened victim : ℕ) (counts : List ℕ) → counts ≡ core.counts
     → ((b : ℕ) → b < length counts → b ≢ opened → (victim < length counts) × (victim ≢ opened) × (get_or counts victim 0 ≤ get_or counts b 0))
     → IsFewestBeside core opened victim
 fewest_beside core opened victim counts is fewest b lt differs =
     let size : length counts ≡ core.blocks = ap length is ∙ core.counts_sized in
     let found = fewest b (omega (arith, lt, size)) differs in
-    let victim_in : victim < length core.counts.items = omega (arith, found.0, ap length is) in
-    let b_in : b < length core.counts.items = omega (arith, lt, core.counts_sized) in (
+    let victim_in : victim < length core.counts = omega (arith, found.0, ap length is) in
+    let b_in : b < length core.counts = omega (arith, lt, core.counts_sized) in (
       omega (arith, found.0, size),
       found.1,
       omega (

@@ -4,7 +4,7 @@ ghost use Rattle.durable.specs.Collecting.{IsFree, live_in};
 use crate::command::Command;
 use crate::counting::remap;
 use crate::memory::Core;
-use crate::search::{fewest, page_after, source};
+use crate::search::{page_after, source};
 use geometry::PageAddr;
 
 impl Core {
@@ -61,13 +61,15 @@ impl Core {
     {
         match command {
             Command::Program(at, number) => {
+                self.owners.moved(self.map[sector as usize], at, sector);
                 remap(&mut self.map, &mut self.counts, sector, at);
                 self.next_number = number + 1;
                 self.next_page = page_after(at, self.pages);
             }
-            Command::Copy(sector, _, to) => {
+            Command::Copy(sector, from, to) => {
+                self.owners.moved(Some(from), to, sector);
                 remap(&mut self.map, &mut self.counts, sector, to);
-                self.hand = sector;
+                self.hand = from.page;
                 self.next_page = page_after(to, self.pages);
             }
             Command::Erase(block) => self.next_page = Some(PageAddr { block, page: 0 }),
@@ -88,8 +90,8 @@ impl Core {
                     }
                     return Command::Program(to, self.next_number);
                 }
-                let victim = fewest(&self.counts, self.blocks, to.block);
-                match source(&self.map, victim, self.hand as usize) {
+                let victim = self.counts.fewest(to.block);
+                match source(&self.map, &self.owners, victim, self.hand) {
                     Some((sector, from)) => Command::Copy(sector, from, to),
                     None => Command::Refused,
                 }
@@ -106,10 +108,9 @@ impl Core {
         ensures free { IfSome result (λ b. IsFree self.now.map.items b × (b < self.now.blocks) × (b ≢ avoided)) }
         ensures none { result ≡ None → (b : ℕ) → b < self.now.blocks → b ≢ avoided → 0 < live_in b self.now.map.items }
     {
-        for block in 0..self.blocks {
-            if block != avoided && self.counts[block as usize] == 0 {
-                return Some(block);
-            }
+        let block = self.counts.fewest(avoided);
+        if block < self.blocks && block != avoided && self.counts.get(block) == 0 {
+            return Some(block);
         }
         None
     }

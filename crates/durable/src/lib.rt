@@ -12,6 +12,8 @@ mod layer;
 mod memory;
 mod mount;
 mod mounting;
+mod owners;
+mod ranking;
 mod rehearsal;
 mod runs;
 mod search;

@@ -1,6 +1,8 @@
 ghost use Rattle.std.specs.Prelude.{◌≡◌, ◌<◌, ◌≤◌, ◌^◌, length};
 ghost use Rattle.durable.specs.Collecting.{AreLiveCounts, HasCapacity, CanCollect, IsPageOn};
 
+use crate::owners::Owners;
+use crate::ranking::Counts;
 use geometry::PageAddr;
 
 /// What the layer knows of a flash: where each sector is, the page to be programmed next, and the next version's number.
@@ -12,16 +14,17 @@ pub struct Core {
     pub(crate) pages: u32,
     pub(crate) map: Vec<Option<PageAddr>>,
     // How many live pages each block has.
-    pub(crate) counts: Vec<u32>,
-    // The sector at which the next search for a page of the victim starts.
+    pub(crate) counts: Counts,
+    // Which sector each page has, and the page at which the next search of the victim starts.
+    pub(crate) owners: Owners,
     pub(crate) hand: u32,
     // None: no block is open.
     pub(crate) next_page: Option<PageAddr>,
     pub(crate) next_number: u64,
     pub ghost on_device: { IsPageOn blocks pages next_page },
     pub ghost all_read: { blocks ≤ read_blocks },
-    pub ghost counts_sized: { length counts.items ≡ blocks },
-    pub ghost counted: { AreLiveCounts counts.items map.items },
+    pub ghost counts_sized: { length counts ≡ blocks },
+    pub ghost counted: { AreLiveCounts counts map.items },
     pub ghost few_sectors: { length map.items < 2 ^ 32 },
     pub ghost has_capacity: { HasCapacity (length map.items) blocks pages },
     pub ghost can_collect: { CanCollect map.items blocks pages next_page },

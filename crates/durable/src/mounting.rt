@@ -7,6 +7,7 @@ use crate::fault::MountFault;
 use crate::found::Stamp;
 use crate::memory::Core;
 use crate::mount::Mount;
+use crate::owners::Owners;
 use geometry::PageAddr;
 use std::alloc::Global;
 
@@ -118,7 +119,10 @@ impl Mount {
         let Ok(map) = entries_of(alloc, &self.found, avoided) else {
             return Err(MountFault::OutOfMemory);
         };
-        let Ok(counts) = counts_of(alloc, &map, self.blocks) else {
+        let Ok(counts) = counts_of(alloc, &map, self.blocks, self.pages) else {
+            return Err(MountFault::OutOfMemory);
+        };
+        let Ok(owners) = Owners::new(alloc, &map, self.blocks, self.pages) else {
             return Err(MountFault::OutOfMemory);
         };
         Ok(Core {
@@ -127,6 +131,7 @@ impl Mount {
             pages: self.pages,
             map,
             counts,
+            owners,
             hand: 0,
             next_page: None,
             next_number: self.next_number,

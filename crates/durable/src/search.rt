@@ -2,6 +2,7 @@ ghost use Rattle.std.specs.Prelude.{◌≡◌, ◌≢◌, ◌<◌, ◌≤◌, �
 ghost use Rattle.geometry.specs.declared.page_addr.PageAddr.{PageAddr as Addr};
 ghost use Rattle.durable.specs.Collecting.{IsFree};
 
+use crate::owners::Owners;
 use geometry::PageAddr;
 
 /// The page after this one, if the block has one.
@@ -19,14 +20,14 @@ pub fn page_after(at: PageAddr, pages: u32) -> Option<PageAddr>
 }
 
 /// The block with the fewest live pages, beside one.
-pub fn fewest(counts: &[u32], blocks: u32, avoided: u32) -> u32
-    requires { length counts.now ≡ blocks }
+pub fn fewest(counts: &[u32], avoided: u32) -> u32
+    requires { length counts.now < 2 ^ 32 }
     ensures { (b : ℕ) → b < length counts.now → b ≢ avoided
         → (result < length counts.now) × (result ≢ avoided) × (slice_index_or counts.now result 0 ≤ slice_index_or counts.now b 0) }
 {
     let mut best = avoided;
     let mut least = 0;
-    for block in 0..blocks {
+    for block in 0..counts.len() as u32 {
         let count = counts[block as usize];
         if block != avoided && (best == avoided || count < least) {
             least = count;
@@ -36,31 +37,32 @@ pub fn fewest(counts: &[u32], blocks: u32, avoided: u32) -> u32
     best
 }
 
-/// A sector that is mapped to a block, and its page: the first from a sector on, or otherwise the first before it.
-pub fn source(map: &[Option<PageAddr>], block: u32, from: usize) -> Option<(u32, PageAddr)>
+/// A sector that is mapped to a block, and its page: the first from a page on, or otherwise any.
+pub fn source(
+    map: &[Option<PageAddr>],
+    owners: &Owners,
+    block: u32,
+    from: u32,
+) -> Option<(u32, PageAddr)>
     requires { length map.now < 2 ^ 32 }
     ensures found { IfSome result (λ found. (found.0 < length map.now) × (slice_index_or map.now found.0 None ≡ Some found.1) × (found.1.block ≡ block)) }
     ensures none { result ≡ None → IsFree map.now block }
 {
-    let from = from.min(map.len());
-    match source_between(map, block, from, map.len()) {
+    if let Some(found) = owners.next_in(map, block, from) {
+        return Some(found);
+    }
+    match owners.next_in(map, block, 0) {
         Some(found) => Some(found),
-        None => source_between(map, block, 0, from),
+        None => source_in_map(map, block),
     }
 }
 
-fn source_between(
-    map: &[Option<PageAddr>],
-    block: u32,
-    from: usize,
-    to: usize,
-) -> Option<(u32, PageAddr)>
-    requires few { length map.now < 2 ^ 32 }
-    requires within { to ≤ length map.now }
+fn source_in_map(map: &[Option<PageAddr>], block: u32) -> Option<(u32, PageAddr)>
+    requires { length map.now < 2 ^ 32 }
     ensures found { IfSome result (λ found. (found.0 < length map.now) × (slice_index_or map.now found.0 None ≡ Some found.1) × (found.1.block ≡ block)) }
-    ensures none { result ≡ None → (s : ℕ) (at : Addr) → from ≤ s → s < to → slice_index_or map.now s None ≡ Some at → at.block ≢ block }
+    ensures none { result ≡ None → IsFree map.now block }
 {
-    for s in from..to {
+    for s in 0..map.len() {
         if let Some(at) = map[s] {
             if at.block == block {
                 return Some((s as u32, at));

@@ -1,7 +1,8 @@
 -- Sorted items after a step of one key.
-use Rattle.std.proofs.Common.{[], ◌∷◌, refl, ◌≡◌, ℕ, ◌+◌, ◌<◌, ◌≤◌, Bool, cond, List, length, set, get_or, arith}
+use Rattle.std.proofs.Common.{⊎_elim, [], ◌∷◌, refl, ◌≡◌, ℕ, ◌+◌, ◌<◌, ◌≤◌, Bool, cond, List, length, set, get_or, arith}
 use Rattle.std.specs.Prelude.{count_by, nat_lt, ◌==◌}
 use Rattle.std.proofs.lemmas.List.Sums.{sum_by-set, count_by-le-length}
+use Rattle.std.proofs.lemmas.Bool.{cases_lt}
 use Rattle.std.proofs.lemmas.Bool.Decides.{nat_tests}
 use Rattle.std.proofs.lemmas.Grind.{common_steps}
 use Rattle.victims.specs.Permutation.{AreInverse, HasMoved}
@@ -110,3 +111,15 @@ first_is_least keys order places starts key first inverse sorted fits first_is i
         sorted.before key i,
       );
     }
+
+-- an item before another has no greater key
+pub in_key_order : (keys order places starts : List ℕ) (p i : ℕ) → AreInverse order places → AreSorted keys places starts
+    → i < length keys → p < length order → p ≤ get_or places i 0 → get_or keys (get_or order p 0) 0 ≤ get_or keys i 0
+in_key_order keys order places starts p i inverse sorted i_in inside le =
+    let item : ℕ = get_or order p 0 in
+    let place : get_or places item 0 ≡ p = inverse.item_at p inside in
+    let item_in : item < length keys = grind (arith, inverse.item_in p, sorted.same) in
+    ⊎_elim
+    (λ less. grind (arith, sorted.in_range item, sorted.behind (get_or keys item 0) i, sorted.before (get_or keys item 0) item))
+    (λ enough. enough)
+    (cases_lt (get_or keys i 0) (get_or keys item 0))

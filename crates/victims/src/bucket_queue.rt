@@ -1,4 +1,4 @@
-ghost use Rattle.std.specs.Prelude.{◌≡◌, ◌⊎◌, ℕ, ◌+◌, ◌-◌, ◌^◌, ◌<◌, ◌≤◌, ◌==◌, length, replicate, count_by, slice_set, slice_index, IfOk, IfSome, IfNone};
+ghost use Rattle.std.specs.Prelude.{◌≡◌, ◌≢◌, ◌⊎◌, ℕ, ◌+◌, ◌-◌, ◌^◌, ◌<◌, ◌≤◌, ◌==◌, length, replicate, count_by, slice_set, slice_index, IfOk, IfSome, IfNone};
 ghost use Rattle.victims.specs.Buckets.{AreSorted, HasLeastKey};
 
 use crate::permutation::Permutation;
@@ -112,6 +112,20 @@ impl BucketQueue {
             }
         }
         Some(best)
+    }
+
+    /// An item with the least key of all beside one, if there is one.
+    pub fn least_beside(&self, avoided: u32) -> u32
+        ensures { (i : ℕ) → i < length self.now.keys.items → i ≢ avoided
+            → (result < length self.now.keys.items) × (result ≢ avoided) × (slice_index self.now.keys.items result ≤ slice_index self.now.keys.items i) }
+    {
+        let order = &self.sorted.order;
+        for place in 0..order.len() {
+            if order[place] != avoided {
+                return order[place];
+            }
+        }
+        avoided
     }
 
     /// How many items have a key.

@@ -6,4 +6,5 @@ mod laws;
 mod permutation;
 mod victims;
 
+pub use bucket_queue::BucketQueue;
 pub use victims::Victims;

@@ -4,6 +4,6 @@ use Rattle.durable.proofs.counting.counts_of.Given as goal
 
 abbrev pub invariant-loop-s : goal.invariant-loop-s
 invariant-loop-s l = record {
-  size : length l.counts.items ≡ l.blocks;
-  counted : (b : ℕ) → b < length l.counts.items → slice_index_or l.counts.items b 0 ≡ live_in b (take l.s l.map);
+  size : length l.counts ≡ l.blocks;
+  counted : (b : ℕ) → b < length l.counts → slice_index_or l.counts b 0 ≡ live_in b (take l.s l.map);
 }

@@ -13,7 +13,7 @@ pub count-requires : goal.count-requires
 count-requires c b lt =
     let map = c.args.map.now.items in
     let old = c.index.ensures ∙ sym (get_or_default map c.args.sector None c.index.result.now c.requires.sector) in
-    let inside : b < length c.args.counts.now.items = omega (arith, lt, c.discount.ensures.size) in
+    let inside : b < length c.args.counts.now = omega (arith, lt, c.discount.ensures.size) in
     omega (
       arith,
       c.discount.ensures.counts b inside,
@@ -29,8 +29,8 @@ pub returns-clause-counted : goal.returns-clause-counted
 returns-clause-counted c b lt =
     let map = c.args.map.now.items in
     let old = c.index.ensures ∙ sym (get_or_default map c.args.sector None c.index.result.now c.requires.sector) in
-    let before : b < length c.discount.new.counts.items = omega (arith, lt, c.count.ensures.size) in
-    let inside : b < length c.args.counts.now.items = omega (arith, before, c.discount.ensures.size) in
+    let before : b < length c.discount.new.counts = omega (arith, lt, c.count.ensures.size) in
+    let inside : b < length c.args.counts.now = omega (arith, before, c.discount.ensures.size) in
     omega (
       arith,
       c.count.ensures.counts b before,

@@ -53,4 +53,4 @@ returns-clause-remounts c f acked begun noted is =
     (subst (λ (xs : List (Option Candidate)). IsFreeable xs avoided) c.deref.ensures.value (c.freeable-avoided.ensures.found lt)))
 
 pub invariant_of-result-clause-counted : goal.invariant_of-result-clause-counted
-invariant_of-result-clause-counted c = subst (AreLiveCounts c.in-Ok-counts_of.counts.items) c.deref-3.ensures.value c.in-Ok-counts_of.ensures.counted
+invariant_of-result-clause-counted c = subst (AreLiveCounts c.in-Ok-counts_of.counts) c.deref-3.ensures.value c.in-Ok-counts_of.ensures.counted

@@ -1,6 +1,0 @@
-use Rattle.std.proofs.Common.{◌≡◌, ◌≢◌, ◌<◌, ◌≤◌, ℕ, None, Some, slice_index_or}
-use Rattle.geometry.specs.declared.page_addr.PageAddr.{PageAddr}
-use Rattle.durable.proofs.search.source_between.Given as goal
-
-abbrev pub invariant-loop-s : goal.invariant-loop-s
-invariant-loop-s l = (j : ℕ) (at : PageAddr) → l.from ≤ j → j < l.s → slice_index_or l.map j None ≡ Some at → at.block ≢ l.block

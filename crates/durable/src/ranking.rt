@@ -1,0 +1,96 @@
+ghost use Rattle.std.specs.Prelude.{◌≡◌, ◌≢◌, ◌<◌, ◌≤◌, ◌+◌, ◌-◌, ◌^◌, ℕ, length, replicate, slice_set, slice_index, slice_index_or, IfOk};
+
+use crate::search::fewest;
+use std::alloc::{AllocError, Global};
+use std::marker::Model;
+use victims::BucketQueue;
+
+/// How many live pages each block has, and the blocks in the order of that.
+#[derive(Drop)]
+pub struct Counts {
+    counts: Vec<u32>,
+    // The key of a block is its count, or the greatest key if that is less.
+    queue: BucketQueue,
+}
+
+impl Model for Counts {
+    ghost use Rattle.std.specs.Prelude.{◌≡◌, ◌<◌, ◌≤◌, ◌+◌, ◌^◌, ℕ, List, length, slice_index};
+
+    ghost Value = { List ℕ };
+
+    ghost view = { λ s. s.counts.items };
+
+    ghost invariant = { λ s. record {
+      same : length s.queue.keys.items ≡ length s.counts.items;
+      few : length s.counts.items < 2 ^ 32;
+      some : 0 < length s.queue.starts.items;
+      at_most : (b : ℕ) → b < length s.counts.items → slice_index s.queue.keys.items b ≤ slice_index s.counts.items b;
+      exact : (b : ℕ) → b < length s.counts.items → slice_index s.queue.keys.items b + 1 < length s.queue.starts.items
+          → slice_index s.queue.keys.items b ≡ slice_index s.counts.items b;
+    } };
+}
+
+impl Counts {
+    /// No block has a live page.
+    pub fn new(alloc: Global, blocks: u32, pages: u32) -> Result<Counts, AllocError>
+        ensures { IfOk result (λ counts. counts ≡ replicate blocks 0) }
+    {
+        Ok(Counts {
+            counts: vec![in alloc; 0; blocks as usize]?,
+            queue: BucketQueue::new(alloc, blocks, (pages as usize).min(65535) + 1)?,
+        })
+    }
+
+    /// How many blocks there are.
+    pub fn len(&self) -> usize
+        ensures { result ≡ length self.now }
+    {
+        self.counts.len()
+    }
+
+    /// How many live pages a block has.
+    pub fn get(&self, block: u32) -> u32
+        requires { block < length self.now }
+        ensures { result ≡ slice_index_or self.now block 0 }
+    {
+        self.counts[block as usize]
+    }
+
+    /// A block has a live page more.
+    pub fn add(&mut self, block: u32)
+        requires block { block < length self.old }
+        requires room { slice_index_or self.old block 0 + 1 < 2 ^ 32 }
+        ensures { self.new ≡ slice_set self.old block (slice_index_or self.old block 0 + 1) }
+    {
+        if (self.queue.keys[block as usize] as usize) + 1 < self.queue.starts.len() {
+            self.queue.raise(block);
+        }
+        self.counts[block as usize] += 1;
+    }
+
+    /// A block has a live page less.
+    pub fn take(&mut self, block: u32)
+        requires block { block < length self.old }
+        requires some { 0 < slice_index_or self.old block 0 }
+        ensures { self.new ≡ slice_set self.old block (slice_index_or self.old block 0 - 1) }
+    {
+        if self.queue.keys[block as usize] as u32 == self.counts[block as usize] {
+            self.queue.lower(block);
+        }
+        self.counts[block as usize] -= 1;
+    }
+
+    /// The block with the fewest live pages, beside one.
+    pub fn fewest(&self, avoided: u32) -> u32
+        ensures { (b : ℕ) → b < length self.now → b ≢ avoided
+            → (result < length self.now) × (result ≢ avoided) × (slice_index_or self.now result 0 ≤ slice_index_or self.now b 0) }
+    {
+        let best = self.queue.least_beside(avoided);
+        if (best as usize) < self.counts.len() {
+            if (self.queue.keys[best as usize] as usize) + 1 < self.queue.starts.len() {
+                return best;
+            }
+        }
+        fewest(&self.counts, avoided)
+    }
+}
