@@ -18,45 +18,69 @@ class Lun:
         return begin + length
 
 
-class Layer:
-    """Where each sector is, and the page to be programmed next. `blocks_of` has the sectors of each block."""
+class Ranking:
+    """The blocks in the order of their live pages: a block that gains or loses one changes places with the last or first of its count."""
 
     def __init__(self, blocks, pages):
-        self.pages, self.place, self.blocks_of = pages, {}, [set() for _ in range(blocks)]
+        self.order, self.live, self.starts = list(range(blocks)), [0] * blocks, [0, *[blocks] * (pages + 1)]
+
+    def _exchange(self, block, place):
+        other, mine = self.order[place], self.order.index(block)
+        self.order[place], self.order[mine] = block, other
+
+    def gains(self, block):
+        self.live[block] += 1
+        self.starts[self.live[block]] -= 1
+        self._exchange(block, self.starts[self.live[block]])
+
+    def loses(self, block):
+        self._exchange(block, self.starts[self.live[block]])
+        self.starts[self.live[block]] += 1
+        self.live[block] -= 1
+
+    def fewest(self, beside):
+        return next(block for block in self.order if block != beside)
+
+
+class Layer:
+    """Where each sector is, and the page to be programmed next. `pages_of` has the sector of each page of a block, or None."""
+
+    def __init__(self, blocks, pages):
+        self.pages, self.place, self.pages_of = pages, {}, [[None] * pages for _ in range(blocks)]
         self.mount()
 
     def mount(self):
-        self.next, self.hand = None, 0
+        self.next, self.hand, self.ranking = None, 0, Ranking(len(self.pages_of), self.pages)
+        for sector in sorted(self.place):
+            self.ranking.gains(self.place[sector][0])
 
     def _put(self, sector):
         block, page = self.next
         if sector in self.place:
-            self.blocks_of[self.place[sector]].discard(sector)
-        self.place[sector] = block
-        self.blocks_of[block].add(sector)
+            old, at = self.place[sector]
+            self.pages_of[old][at] = None
+            self.ranking.loses(old)
+        self.place[sector] = self.next
+        self.pages_of[block][page] = sector
+        self.ranking.gains(block)
         self.next = (block, page + 1) if page + 1 < self.pages else None
-
-    def _free(self, beside):
-        return next((block for block, sectors in enumerate(self.blocks_of) if block != beside and not sectors), None)
 
     def write(self, sector):
         """The commands of a write, in order: their kind, and the blocks that they are of."""
         while True:
+            block = self.next and self.next[0]
+            victim = self.ranking.fewest(block)
             if self.next is None:
-                block = self._free(None)
-                self.next = (block, 0)
-                yield "erase", block, block
-            elif self._free(self.next[0]) is not None:
-                block = self.next[0]
+                self.next, self.pages_of[victim] = (victim, 0), [None] * self.pages
+                yield "erase", victim, victim
+            elif self.ranking.live[victim] == 0:
                 self._put(sector)
                 yield "program", block, block
                 return
             else:
-                block = self.next[0]
-                victim = min((other for other in range(len(self.blocks_of)) if other != block), key=lambda other: (len(self.blocks_of[other]), other))
-                moved = min(self.blocks_of[victim], key=lambda other: (other < self.hand, other))
-                self._put(moved)
-                self.hand = moved
+                live = [page for page, its in enumerate(self.pages_of[victim]) if its is not None]
+                self.hand = min(live, key=lambda page: (page < self.hand, page))
+                self._put(self.pages_of[victim][self.hand])
                 yield "copy", victim, block
 
 
@@ -65,13 +89,13 @@ class Timed:
 
     def __init__(self, layer, luns, times):
         self.layer, self.luns, self.times, self.known = layer, [Lun() for _ in range(luns)], times, set()
-        self.of_one = len(layer.blocks_of) // luns
+        self.of_one = len(layer.pages_of) // luns
 
     def _take(self, block, begin, *names):
         return self.luns[block // self.of_one].take(begin, sum(self.times[name] for name in names))
 
     def read(self, sector, begin):
-        return self._take(self.layer.place[sector], begin, "read", "transfer") if sector in self.layer.place else begin
+        return self._take(self.layer.place[sector][0], begin, "read", "transfer") if sector in self.layer.place else begin
 
     def write(self, sector, begin):
         """Before the first write of a sector the stamp of its page is read."""

@@ -119,7 +119,7 @@ def best_of(attempt, what):
     want(False, f"{what}: requests are off the model by {', '.join(found)}, and at most {100 * NEAR * slowness():.0f} % are wanted")
 
 
-# ---- A device whose pages were written in order: sector s is in block s // 16.
+# ---- A device whose pages were written in order.
 
 
 def in_order(shop, kind, luns):
@@ -133,14 +133,22 @@ def in_order(shop, kind, luns):
     return Server(shop, "sync=never", f"part={part_file(shop)}", image=image, before=HURRY)
 
 
-def lun_of(sector, luns):
-    return sector // PAGES // (BLOCKS // luns)
+def luns_in_order(kind, luns):
+    """The LUN of each sector. In memory the free block with the lowest number is taken, and in an image the layer chooses."""
+    if kind == "memory":
+        return [sector // PAGES // (BLOCKS // luns) for sector in range(SECTORS)]
+    layer = Layer(BLOCKS, PAGES)
+    for sector in range(SECTORS):
+        list(layer.write(sector))
+    return [layer.place[sector][0] // (BLOCKS // luns) for sector in range(SECTORS)]
 
 
-def single_requests(shop, server, kind, luns, least):
+def single_requests(shop, server, kind, lun_of, least):
     """Requests one after the other take the time of their commands; `least` has how far each was off in the best try so far."""
-    stamp, far = (STAMP if kind == "image" else 0), (luns == 4)
-    rows = [("read", 100, 1, READ), ("read", 252, 8, 4 * READ if far else 8 * READ), ("write", 100, 1, PROGRAM), ("read", 100, 1, READ),
+    stamp, luns = (STAMP if kind == "image" else 0), len(set(lun_of))
+    # Half of these eight pages are on another LUN, if there is one.
+    far = next((sector - 4 for sector in range(128, SECTORS // 2, PAGES) if lun_of[sector - 1] != lun_of[sector]), 252)
+    rows = [("read", 100, 1, READ), ("read", far, 8, 4 * READ if luns > 1 else 8 * READ), ("write", 100, 1, PROGRAM), ("read", 100, 1, READ),
             ("part", 100, 1, READ + PROGRAM), ("trim", 100, 1, PROGRAM if stamp else 0), ("read", 100, 1, READ if stamp else 0),
             ("write", 100, 1, stamp + PROGRAM)]
     played(shop, server, [(0, 0, "write", 100, 1)])  # an image erases a block before it writes to it
@@ -151,15 +159,15 @@ def single_requests(shop, server, kind, luns, least):
     return max(least) / READ, f"{len(rows)} requests alone"
 
 
-def reads_at_once(shop, server, luns, draw):
+def reads_at_once(shop, server, lun_of, draw):
     """Reads at random times, which wait for those before them on their LUN: the kth answer of a LUN isn't before the kth of the model."""
     lines = [(lane, 180_000 * turn + draw.randrange(60_000), "read", draw.randrange(SECTORS // 2, SECTORS), 1) for turn in range(4) for lane in range(10)]
     answers, off = played(shop, server, lines), []
-    for lun in range(luns):
-        own = sorted((answer for answer in answers if lun_of(answer.sector, luns) == lun), key=lambda answer: answer.sent)
+    for lun in set(lun_of):
+        own = sorted((answer for answer in answers if lun_of[answer.sector] == lun), key=lambda answer: answer.sent)
         model = Lun()
         for wanted, found in zip([model.take(answer.sent, READ) for answer in own], sorted(answer.answered for answer in own)):
-            want(found >= wanted - SLACK, f"{luns} LUNs: a read is answered {wanted - found} µs before its LUN can have done it")
+            want(found >= wanted - SLACK, f"{len(set(lun_of))} LUNs: a read is answered {wanted - found} µs before its LUN can have done it")
             off.append(found - wanted)
     return statistics.median(off) / READ, f"{len(off)} reads at random times"
 
@@ -169,10 +177,10 @@ def of_commands(shop):
     told = []
     for kind in ("memory", "image"):
         for luns in (1, 4):
-            server, draw, least = in_order(shop, kind, luns), random.Random(luns), []
+            server, lun_of, draw, least = in_order(shop, kind, luns), luns_in_order(kind, luns), random.Random(luns), []
             name = f"{kind}, {luns} LUN{'s' * (luns > 1)}"
-            told.append(best_of(lambda: reads_at_once(shop, server, luns, draw), name))
-            told.append(best_of(lambda: single_requests(shop, server, kind, luns, least), name))
+            told.append(best_of(lambda: reads_at_once(shop, server, lun_of, draw), name))
+            told.append(best_of(lambda: single_requests(shop, server, kind, lun_of, least), name))
             server.stop()
     return "; ".join(told)
 
