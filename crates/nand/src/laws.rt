@@ -219,7 +219,7 @@ pub fn failing()
     ensures last_number { (old new : Layer Modelled) → number_of old ≡ 2 ^ 64 - 1 → IsTrueCause chip_faults old new failure.NoNumber }
     ensures sectors { (old new : Layer Modelled) → layer_sectors old ≡ 8 → layer_sectors new ≡ 7 → ¬ IsSameDevice chip_shape chip_bad old new }
     ensures chip { (old new : Layer Modelled) → (chip_shape old.nand).pages ≡ 4 → (chip_shape new.nand).pages ≡ 5 → ¬ IsSameDevice chip_shape chip_bad old new }
-    ensures marks { (old new : Layer Modelled) → chip_bad old.nand ≡ [] → chip_bad new.nand ≡ true ∷ [] → ¬ IsSameDevice chip_shape chip_bad old new }
+    ensures marks { (old new : Layer Modelled) → chip_bad old.nand ≢ chip_bad new.nand → ¬ IsSameDevice chip_shape chip_bad old new }
     ensures lost { (old new : Layer Modelled) (u : Update) (updates : List Update) → ¬ Fails chip_flash chip_shape chip_bad old new u updates failure.Lost }
     ensures written { (old new : Layer Modelled) (u : Update) (updates : List Update) → new.mounted ≡ false
         → ¬ Fails chip_flash chip_shape chip_bad old new u updates failure.Written }
