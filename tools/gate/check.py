@@ -1,7 +1,7 @@
 """check: proves, tests and tries everything that has to hold before a merge. The last line is `rt ci`'s count of what passed and failed.
 
 It begins with the checks of the sources and pages. Then `rt ci` proves everything, tries the wrong bodies of each crate that has no entry
-in .ci/refused for its present text, and runs the tests; the twins, the goals and the wrong definitions of changed crates follow. Then
+in .ci/refused for its present text, and runs the tests; the twins and the wrong definitions of changed crates follow. Then
 come the program, what the compiler has to refuse, the bench's programs, the tools, the examples, the program on a system that refuses
 memory and streams, the launcher, the bindings, the block device and the drivers for flash of Linux, and, if CI=true, the package on a system
 without the toolchain.
@@ -115,7 +115,6 @@ def main(words):
     run(*UNIT_TESTS)
     last = prove()
     check(twins, "--missing")
-    check(gallery, "--goals", "--missing")
     check(wrong_definitions, "--missing")
     run("./flashplay", "--prove")
     run(*LIBRARY.split())

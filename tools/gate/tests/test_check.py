@@ -51,10 +51,10 @@ class Check(Small):
         cheap = ["waits_nowhere", "definitions", "promises", "layout", "gallery", "twins --check", "wrong_definitions --check", "needless --check"]
         self.assertEqual(self.ran[:10], [".ci/needs fio", *cheap, " ".join(check.UNIT_TESTS)])
         proofs = ["wrong_bodies --aside", "rt ci", "wrong_bodies --back " + self.ran[12][len("wrong_bodies --back "):], "put back"]
-        follow = ["twins --missing", "gallery --goals --missing", "wrong_definitions --missing", "./flashplay --prove", check.LIBRARY]
-        self.assertEqual(self.ran[10:19], [*proofs, *follow])
+        follow = ["twins --missing", "wrong_definitions --missing", "./flashplay --prove", check.LIBRARY]
+        self.assertEqual(self.ran[10:18], [*proofs, *follow])
         rest = [command for row in check.ROWS for command in row]
-        self.assertEqual(sorted(self.ran[19:]), sorted(rest))
+        self.assertEqual(sorted(self.ran[18:]), sorted(rest))
         for row in check.ROWS:
             self.assertEqual([it for it in self.ran if it in row], [*row])
 
