@@ -9,7 +9,7 @@ import re
 import sys
 
 from gate import gallery, tree
-from gate.twins import in_copies
+from gate.record import in_copies
 from gate.wrong_definitions import part_of
 
 ANSWER = re.compile(r"^pub (\S+) : goal\.\S+$", re.M)
@@ -54,7 +54,7 @@ def of_edits(name):
     goals = gallery.goals_on_page()
     for path in tree.edits(name):
         for place in gallery.places_of(tree.folder(name), path):
-            yield from ((place and place.name, goal) for goal in goals.get((name, gallery.in_words(path)), [])[:1])
+            yield from ((place and place.name, goal) for goal in re.findall(r"`([\w-]+)`", goals.get((name, gallery.in_words(path)), ""))[:1])
 
 
 def cut(name, needed):

@@ -1,10 +1,15 @@
-"""The records of what was tried on a crate's present text: .ci/refused, .ci/proved-twins and .ci/goals. Each has lines of a crate, a sum
-of the text that the result depends on, and the version of the toolchain that gave it."""
+"""The records of what was tried on a crate's present text: .ci/refused, .ci/proved-twins and .ci/refused-definitions. Each has lines of a crate,
+a sum of the text that the result depends on, and the version of the toolchain that gave it."""
 
 import hashlib
+import os
+import queue
 import re
 import subprocess
 import sys
+import tempfile
+from concurrent.futures import ThreadPoolExecutor
+from pathlib import Path
 
 from gate import tree
 
@@ -65,6 +70,27 @@ def sum_of_files(folders, more=()):
     for path in dict.fromkeys([*files, *more]):
         total.update(f"{tree.relative(path)}\n".encode() + hashlib.sha256(meaning(path)).digest())
     return total.hexdigest()
+
+
+def in_copies(names, work):
+    """What `work` returns for each of these crates, given a folder with a copy of it: with as many crates at a time as there are pairs
+    of processors, each in a copy of its own, since a check locks the crates below."""
+    at_once = max(1, min(len(names), len(os.sched_getaffinity(0)) // 2))
+    with tempfile.TemporaryDirectory(prefix="gate-") as top, ThreadPoolExecutor(at_once) as pool:
+        rooms = queue.Queue()
+        for room in (Path(top) / str(number) for number in range(at_once)):
+            room.mkdir()
+            tree.copy_to(room, names, tree.crates())
+            rooms.put(room)
+
+        def worked(name):
+            room = rooms.get()
+            try:
+                return work(room, name)
+            finally:
+                rooms.put(room)
+
+        yield from pool.map(worked, names)
 
 
 class Record:

@@ -6,12 +6,7 @@ change the same place are put into further copies. For each crate whose copies a
 the text, and the version of the toolchain. The gate proves what is missing there. `twins --check` fails if a twin has no edit. It
 names the edits without a twin, and the crates whose twins have no entry for the present text."""
 
-import os
-import queue
 import re
-import tempfile
-from concurrent.futures import ThreadPoolExecutor
-from pathlib import Path
 
 from gate import record, tree
 
@@ -61,27 +56,6 @@ def are_proved(room, name):
     return True
 
 
-def in_copies(names, work):
-    """What `work` returns for each of these crates, given a folder with a copy of it: with as many crates at a time as there are pairs
-    of processors, each in a copy of its own, since a check locks the crates below."""
-    at_once = max(1, min(len(names), len(os.sched_getaffinity(0)) // 2))
-    with tempfile.TemporaryDirectory(prefix="gate-") as top, ThreadPoolExecutor(at_once) as pool:
-        rooms = queue.Queue()
-        for room in (Path(top) / str(number) for number in range(at_once)):
-            room.mkdir()
-            tree.copy_to(room, names, tree.crates())
-            rooms.put(room)
-
-        def worked(name):
-            room = rooms.get()
-            try:
-                return work(room, name)
-            finally:
-                rooms.put(room)
-
-        yield from pool.map(worked, names)
-
-
 def check():
     """Whether each twin has its edit. Names the edits without a twin, and the crates without an entry, which the gate proves later."""
     book = proved_twins()
@@ -105,6 +79,6 @@ def main(words):
     book, status = proved_twins(), 0
     names = book.asked(words)
     texts = [(name, book.sum_of(name)) for name in names]
-    for (name, text), well in zip(texts, in_copies(names, are_proved) if names else ()):
+    for (name, text), well in zip(texts, record.in_copies(names, are_proved) if names else ()):
         status |= book.note([(name, text, well)], "twins of {} were not proved")
     return status
