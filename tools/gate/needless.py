@@ -97,7 +97,7 @@ def main(words):
         print(__doc__, file=sys.stderr)
         return 2
     lost = []
-    for name, (needed, trouble) in zip(names, in_copies(names, tried) if names else ()):
+    for name, (needed, trouble) in zip(names, in_copies(names, tried)):
         if trouble:
             print(trouble[-2000:], file=sys.stderr)
             lost.append(name)

@@ -122,6 +122,12 @@ class Record:
         """The crates that have edits and no entry for their present text."""
         return [name for name, its in self.versions().items() if not its]
 
+    def tell(self, said, still):
+        """Prints how many edits have an entry, and the crates that lack one."""
+        lacking = self.lacking()
+        print(f"{sum(len(tree.edits(name, self.kind)) for name in self.having() if name not in lacking)} {said} on the present text")
+        print(f"still to {still} {', '.join(lacking)}\n" if lacking else "", end="")
+
     def asked(self, words):
         """The crates that words ask for: those named, all that have edits of this kind, or those without an entry."""
         having = self.having()

@@ -66,10 +66,7 @@ def check():
     for name in book.used:
         for it in sorted(names[name, "must-fail"] - names[name, "twins"]):
             print(f"crates/{name}/must-fail/{it} has no twin")
-    missing = book.lacking()
-    print(f"{sum(len(names[name, 'twins']) for name in book.having() if name not in missing)} wrong bodies have a twin that was proved on the present text")
-    if missing:
-        print(f"still to prove: the twins of {', '.join(missing)}")
+    book.tell("wrong bodies have a twin that was proved", "prove: the twins of")
     return 0
 
 
@@ -79,6 +76,6 @@ def main(words):
     book, status = proved_twins(), 0
     names = book.asked(words)
     texts = [(name, book.sum_of(name)) for name in names]
-    for (name, text), well in zip(texts, record.in_copies(names, are_proved) if names else ()):
+    for (name, text), well in zip(texts, record.in_copies(names, are_proved)):
         status |= book.note([(name, text, well)], "twins of {} were not proved")
     return status

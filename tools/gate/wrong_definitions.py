@@ -220,15 +220,13 @@ class Refused(record.Record):
 
 
 def main(words):
-    book, used = Refused("refused-definitions", "wrong-definitions"), tree.crates()
-    having, lacking = book.having(), book.lacking()
-    wrong = list(misfits([it for name in having for it in edits(name)], sources(used)))
-    print("\n".join(wrong), file=sys.stderr, end="\n" if wrong else "")
-    if wrong or words == ["--check"]:
-        print(f"{sum(len(edits(it)) for it in having if it not in lacking)} wrong definitions were refused on the present text")
-        print(f"still to try: those of {', '.join(lacking)}\n" if lacking else "", end="")
-        return 1 if wrong else 0
+    book = Refused("refused-definitions", "wrong-definitions")
+    if wrong := list(misfits([it for name in book.having() for it in edits(name)], sources(book.used))):
+        return tree.verdict(wrong, "")
+    if words == ["--check"]:
+        book.tell("wrong definitions were refused", "try: those of")
+        return 0
     names = book.asked(words)
     sums = {name: book.sum_of(name) for name in names}
-    lost = faulty(names, used)
+    lost = faulty(names, book.used)
     return book.note([(name, mine, name not in lost) for name, mine in sums.items()], "wrong definitions of {} were not refused")
