@@ -1,11 +1,6 @@
-"""layout: checks the layout of the sources and scripts that git tracks or could track.
-
-- A line has at most 160 columns, counted in characters.
-- A term of a proof has at most 60 lines: a clause of a definition, from its head to its end or to its `where`. What a `where` defines
-  are terms of their own.
-- The body of a function of Rattle has at most 40 lines, but for the tests in TABLES, and a file has at most 800.
-
-A paragraph of a page is one line, however long, and so is a text of an edit, so neither is measured."""
+"""layout: checks the sources and scripts that git tracks or could track. A line has at most 160 columns, counted in characters. A term of a proof
+has at most 60 lines: a clause of a definition, from its head to its end or to its `where`, whose own definitions are terms too. The body of a
+function of Rattle has at most 40 lines, but for the tests in TABLES, and a file has at most 800. Pages and edits aren't measured."""
 
 import re
 import subprocess

@@ -1,8 +1,7 @@
-"""needless CRATE.. | --all | --missing: removes the answers in proofs/ that the check of these crates doesn't need. It checks a copy of each
-crate without any answer: a goal that stays open there needs its answer, and every other answer goes, with the lemmas and imports of its
-file that nothing uses then. But the answer stays at a goal that docs/GALLERY.md names first for a wrong body of the function. In .ci/needed
-it records the answers that each crate has after that. `needless --check` fails if a recorded crate has others, which are to be tried, and
-names the crates that were never tried."""
+"""needless CRATE.. | --all | --missing: removes the answers in proofs/ that the check of these crates doesn't need, with the lemmas and
+imports that nothing uses then: those of which no goal stays open in a copy without any answer. But the answer stays at a goal that
+docs/GALLERY.md names first for a wrong body of the function. In .ci/needed it records the answers that each crate has after that.
+`needless --check` fails if a recorded crate has others, and names the crates that were never tried."""
 
 import hashlib
 import re

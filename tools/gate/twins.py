@@ -1,10 +1,7 @@
 """twins CRATE.. | --all | --missing: shows that this machine's toolchain proves the twins of the wrong bodies of these crates, of
-all crates, or of those without an entry. The twin of an edit is in crates/NAME/twins under the edit's name: it changes the same
-place in the same shape, and keeps the meaning of the code. So if the prover refuses the edit, it refuses its meaning. The twins of a
-crate that change different places are put into one copy of the crate, which has to be proved without further changes; those that
-change the same place are put into further copies. For each crate whose copies are all proved it records in .ci/proved-twins a sum of
-the text, and the version of the toolchain. The gate proves what is missing there. `twins --check` fails if a twin has no edit. It
-names the edits without a twin, and the crates whose twins have no entry for the present text."""
+all crates, or of those without an entry. The twins of a crate that change different places are put into one copy of it, which has to be proved
+as it is; those that change the same place are put into further copies. For each crate whose copies are all proved .ci/proved-twins gets an
+entry. `twins --check` fails if a twin has no edit, and names the edits without a twin and the crates without an entry."""
 
 import re
 

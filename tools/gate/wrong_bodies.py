@@ -1,9 +1,8 @@
-"""wrong-bodies CRATE.. | --all: tries the wrong bodies in the must-fail/ of these crates, or of all, with this machine's toolchain:
-`rt ci` in a copy that has these crates and those below them. For each crate whose wrong bodies are all refused it records in .ci/refused a
-sum of the text that the refusals depend on, without comments, and the version of the toolchain; docs/GALLERY.md gets the goals that the
-refusals name. With --all it then proves all twins. The gate begins with `wrong-bodies --aside`: for each crate whose present text has an
-entry, of any version, it moves the wrong bodies out of must-fail/. `wrong-bodies --back` puts them back. With a LOG that `rt ci` wrote, it
-also records what was tried there and had no entry."""
+"""wrong-bodies CRATE.. | --all: tries the wrong bodies of these crates, or of all, with this machine's toolchain: `rt ci` in a copy that
+has these crates and those below them. Each crate whose wrong bodies are all refused gets an entry in .ci/refused, and docs/GALLERY.md gets
+the goals that the refusals name. With --all it then proves all twins. The gate begins with `wrong-bodies --aside`: it moves the wrong
+bodies of the crates with an entry, of any version, out of must-fail/. `wrong-bodies --back` puts them back. With a LOG that `rt ci` wrote,
+it also records what was tried there and had no entry."""
 
 import re
 import shutil

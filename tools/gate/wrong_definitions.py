@@ -1,11 +1,9 @@
 """wrong-definitions CRATE.. | --all | --missing | --check: shows that laws refuse the wrong definitions of these crates, of all, or
-of those without an entry. An edit crates/NAME/wrong-definitions/MISDEED.edit names a clause of a law and a definition of the crate,
-and changes a text of it to one that makes it wrong (`new:`) and to one that doesn't change its meaning (`twin:`). The prover reads the
-law again with a copy of the definition for each, all in one run for each crate of laws, in which the crates below are sources of which
-no body is proved. What stands between a law and a definition is copied too. The clause has to stay open with the wrong definition, and
-the whole law has to be proved with the twin: so what refuses the wrong one is not the text of a proof. For each crate whose wrong
-definitions are all refused it records in .ci/refused-definitions a sum of the text, and the version of the toolchain. --check names
-the crates without an entry, and fails if an edit doesn't fit its definition or names no law."""
+of those without an entry. The prover reads the law that an edit names again with a copy of the definition made wrong, and with one that is only
+written otherwise (its twin), all in one run for each crate of laws, in which the crates below are sources of which no body is proved. What
+stands between a law and a definition is copied too. The clause has to stay open with the wrong definition, and the whole law has to be
+proved with the twin. For each crate whose wrong definitions are all refused .ci/refused-definitions gets an entry. --check names the crates
+without one, and fails if an edit doesn't fit its definition or names no law."""
 
 import importlib.machinery
 import importlib.util
