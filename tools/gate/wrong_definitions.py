@@ -1,11 +1,9 @@
 """wrong-definitions CRATE.. | --all | --missing | --check: shows that laws refuse the wrong definitions of these crates, of all, or
-of those without an entry. An edit crates/NAME/wrong-definitions/MISDEED.edit names a clause of a law and a definition of the crate,
-and changes a text of it to one that makes it wrong (`new:`) and to one that doesn't change its meaning (`twin:`). The prover reads the
-law again with a copy of the definition for each, all in one run for each crate of laws, in which the crates below are sources of which
-no body is proved. What stands between a law and a definition is copied too. The clause has to stay open with the wrong definition, and
-the whole law has to be proved with the twin: so what refuses the wrong one is not the text of a proof. For each crate whose wrong
-definitions are all refused it records in .ci/refused-definitions a sum of the text, and the version of the toolchain. --check names
-the crates without an entry, and fails if an edit doesn't fit its definition or names no law."""
+of those without an entry. The prover reads the law that an edit names again with a copy of the definition made wrong, and with one that is only
+written otherwise (its twin), all in one run for each crate of laws, in which the crates below are sources of which no body is proved. What
+stands between a law and a definition is copied too. The clause has to stay open with the wrong definition, and the whole law has to be
+proved with the twin. For each crate whose wrong definitions are all refused .ci/refused-definitions gets an entry. --check names the crates
+without one, and fails if an edit doesn't fit its definition or names no law."""
 
 import importlib.machinery
 import importlib.util
@@ -220,15 +218,13 @@ class Refused(record.Record):
 
 
 def main(words):
-    book, used = Refused("refused-definitions", "wrong-definitions"), tree.crates()
-    having, lacking = book.having(), book.lacking()
-    wrong = list(misfits([it for name in having for it in edits(name)], sources(used)))
-    print("\n".join(wrong), file=sys.stderr, end="\n" if wrong else "")
-    if wrong or words == ["--check"]:
-        print(f"{sum(len(edits(it)) for it in having if it not in lacking)} wrong definitions were refused on the present text")
-        print(f"still to try: those of {', '.join(lacking)}\n" if lacking else "", end="")
-        return 1 if wrong else 0
+    book = Refused("refused-definitions", "wrong-definitions")
+    if wrong := list(misfits([it for name in book.having() for it in edits(name)], sources(book.used))):
+        return tree.verdict(wrong, "")
+    if words == ["--check"]:
+        book.tell("wrong definitions were refused", "try: those of")
+        return 0
     names = book.asked(words)
     sums = {name: book.sum_of(name) for name in names}
-    lost = faulty(names, used)
+    lost = faulty(names, book.used)
     return book.note([(name, mine, name not in lost) for name, mine in sums.items()], "wrong definitions of {} were not refused")
