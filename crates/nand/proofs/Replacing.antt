@@ -1,5 +1,5 @@
 -- A block that is marked bad, and the block of the reserve that comes in use in its stead.
-use Rattle.std.proofs.Common.{◌≡◌, ◌≢◌, ◌∙◌, inl, inr, ⊎_elim, ◌+◌, ◌<◌, ◌≤◌, ℕ, zero, suc, Bool, true, false, List, ◌∷◌, min, if◌then◌else◌}
+use Rattle.std.proofs.Common.{◌≡◌, ◌≢◌, ◌⊎◌, ◌∙◌, inl, inr, ⊎_elim, Result, Err, ◌+◌, ◌<◌, ◌≤◌, ℕ, zero, suc, Bool, true, false, List, ◌∷◌, min, if◌then◌else◌}
 use Rattle.std.proofs.Common.{refl, sym, ap, subst, arith}
 use Rattle.std.proofs.lemmas.Bool.{cases_eq, cases_lt, false≢true}
 use Rattle.std.proofs.lemmas.Bool.Decides.{nat_tests}
@@ -17,11 +17,13 @@ use Rattle.durable.specs.Updates.{Makes, Update, array_after, changed}
 use Rattle.durable.proofs.Exact.{before_or_after}
 use Rattle.durable.proofs.Reserves.{untouched}
 use Rattle.durable.proofs.Subsequences.{all_of, between_same}
+use Rattle.nand.specs.declared.failure.Failure.{Failure}
+use Rattle.nand.specs.declared.failure.Failure.TheVariants as failure
 use Rattle.nand.specs.declared.flash.Shape.{Shape}
 use Rattle.nand.specs.declared.layer.Durable.{Durable}
 use Rattle.nand.specs.Attempts.{CanReplace}
 use Rattle.nand.specs.Numbers.{IsOrder, Marks, chip_block, good_before, is_marked, numbered}
-use Rattle.nand.specs.Opened.{CanOpen, IsClosed, IsOpenLayer, IsOpenable, IsReserveBlank, device_on, layer_sectors, most_used, reserve_of, used_blocks}
+use Rattle.nand.specs.Opened.{CanOpen, IsClosed, IsOpenLayer, IsOpenable, IsRefusal, IsReserveBlank, device_on, layer_sectors, most_used, reserve_of, used_blocks}
 use Rattle.nand.proofs.Orders.{few_good, fewer, least_first, least_second, no_greater, openable, other_chip_block, rank}
 use Rattle.nand.proofs.Steps.{device_there, same_order}
 
@@ -191,6 +193,11 @@ opens_once {N} flash shape bad nand sectors update updates is = record {
   blank = is.blank;
 }
 
+-- an update that was made or not
+pub either : (P : List Update → Type 0) (update : Update) (before after : List Update) → Makes false update before after → P after
+    → P before ⊎ P (update ∷ before)
+either P update before after made is = ⊎_elim (λ same. inl (subst P same is)) (λ more. inr (subst P more is)) made
+
 -- what holds after two attempts, of which each made the update or not
 module _ (P : List Update → Type 0) (update : Update) (before middle : List Update) (once : P (update ∷ update ∷ before) → P (update ∷ before))
     (first : Makes false update before middle) where
@@ -255,6 +262,22 @@ mounted_open {N} flash shape bad was layer sectors updates mounted same order de
       same.1 same.2 (ap (λ (d : Device). d.sectors) device) blank;
   consistent = subst (λ (f : Flash). IsConsistent (numbered layer.numbers.items f) layer.core updates updates) (sym same.0) consistent;
 }
+
+-- what a mount in place tells
+pub no_replacement : {T : Type 0} (cause : Failure) → (◌≡◌ {A = Result T Failure} (Err cause) (Err failure.PowerGone)
+    ⊎ ◌≡◌ {A = Result T Failure} (Err cause) (Err failure.OutOfMemory))
+    → (IsRefusal cause → ⊥) × (cause ≢ failure.Lost) × (cause ≢ failure.Failed)
+no_replacement {T} failure.PowerGone told = (λ none. none, λ e. cc e, λ e. cc e)
+no_replacement {T} failure.OutOfMemory told = (λ none. none, λ e. cc e, λ e. cc e)
+no_replacement {T} failure.Failed told = absurd (⊎_elim (λ e. cc e) (λ e. cc e) told)
+no_replacement {T} failure.Closed told = absurd (⊎_elim (λ e. cc e) (λ e. cc e) told)
+no_replacement {T} failure.NoNumber told = absurd (⊎_elim (λ e. cc e) (λ e. cc e) told)
+no_replacement {T} failure.Written told = absurd (⊎_elim (λ e. cc e) (λ e. cc e) told)
+no_replacement {T} failure.Lost told = absurd (⊎_elim (λ e. cc e) (λ e. cc e) told)
+
+-- without a reserve all good blocks are in use
+pub all_used : (good most reserve : ℕ) → reserve ≡ 0 → reserve + min good most ≡ good → good ≤ most
+all_used good most reserve none is = omega (arith, none, is, (no_greater good most).1)
 
 -- a layer whose command has failed
 module _ {N : Type 0} (flash : N → Flash) (shape : N → Shape) (bad : N → List Bool) (layer : Durable N) (number : ℕ) (closed : IsClosed layer)

@@ -23,7 +23,7 @@ use Rattle.nand.specs.declared.flash.Fault.TheVariants as fault
 use Rattle.nand.specs.declared.flash.Shape.{Shape}
 use Rattle.nand.specs.declared.layer.Durable.{Durable}
 use Rattle.nand.specs.Numbers.{IsOrder, good_before, is_marked, numbered}
-use Rattle.nand.specs.Opened.{CanOpen, Fails, HasMarkedFailed, IsOpenLayer, IsRefusal, IsSameDevice, IsSpent, IsTrueCause, KeepsDevice, device_on, failure_of}
+use Rattle.nand.specs.Opened.{CanOpen, Fails, HasMarkedFailed, IsOpenLayer, IsSameDevice, IsSpent, IsTrueCause, KeepsDevice, device_on}
 use Rattle.nand.specs.Opened.{layer_sectors, number_of, update_of}
 use Rattle.nand.proofs.Orders.{openable}
 use Rattle.durable.proofs.Subsequences.{all_of, between_same}
@@ -184,26 +184,11 @@ none_marked {N} shape bad faults old new same count =
     let none : was - now ≡ 0 = omega (arith, ap (λ (m : List Bool). good_before m (shape old.nand).blocks) same.marks) in
     ap (λ (n : ℕ). n % 2 ^ 64) (count fault.Failed ∙ omega (arith, none))
 
--- what a call returns at a fault is its true cause
-pub true_fault : {N : Type 0} (faults : N → Fault → ℕ) (old new : Durable N) (cause : Fault) → faults new.nand cause ≢ faults old.nand cause
-    → IsTrueCause faults old new (failure_of cause)
-true_fault {N} faults old new fault.Failed is = is
-true_fault {N} faults old new fault.PowerGone is = is
-
 pub not_failed : {T : Type 0} (cause : Failure) → ◌≡◌ {A = Result T Failure} (Err cause) (Err failure.PowerGone) → cause ≢ failure.Failed
 not_failed {T} cause is failed = cc (is, failed)
 
 pub not_lost : {T : Type 0} (cause : Failure) → ◌≡◌ {A = Result T Failure} (Err cause) (Err failure.PowerGone) → cause ≢ failure.Lost
 not_lost {T} cause is lost = cc (is, lost)
-
--- a fault is no refusal, and no page that can't be read
-pub no_refusal : (cause : Fault) (told : Failure) → told ≡ failure_of cause → IsRefusal told → ⊥
-no_refusal fault.Failed told is refused = subst IsRefusal is refused
-no_refusal fault.PowerGone told is refused = subst IsRefusal is refused
-
-pub is_readable : (cause : Fault) (told : Failure) → told ≡ failure_of cause → told ≢ failure.Lost
-is_readable fault.Failed told is e = cc (is, e)
-is_readable fault.PowerGone told is e = cc (is, e)
 
 pub on_ok : {T E P : Type 0} (r : Result T E) → P → OnOk r P
 on_ok (Ok v) h = h

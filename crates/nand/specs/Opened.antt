@@ -135,11 +135,6 @@ IsTrueCause {N} faults old new failure.NoNumber = 2 ^ 64 ≤ number_of old + 1
 IsTrueCause {N} faults old new failure.Written = Unit {0}
 IsTrueCause {N} faults old new failure.Lost = Unit {0}
 
--- what a call returns at a fault of the chip
-abbrev pub failure_of : Fault → Failure
-failure_of fault.Failed = failure.Failed
-failure_of fault.PowerGone = failure.PowerGone
-
 -- what a read returns: that the sector is empty, or its bytes
 abbrev pub ReadsSector : Sector → Got → List ℕ → Type 0
 ReadsSector None found out = found ≡ got.Empty

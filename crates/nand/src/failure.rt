@@ -1,4 +1,3 @@
-use crate::flash::Fault;
 use durable::MountFault;
 use thiserror::Error;
 
@@ -37,18 +36,4 @@ pub enum OpenFailure {
     /// The power is gone.
     #[error("the power is gone")]
     PowerGone,
-}
-
-impl From<Fault> for Failure {
-    ghost use Rattle.std.specs.Prelude.{◌≡◌};
-    ghost use Rattle.nand.specs.Opened.{failure_of};
-
-    ghost from_gives = { λ cause failure. failure ≡ failure_of cause };
-
-    fn from(fault: Fault) -> Failure {
-        match fault {
-            Fault::Failed => Failure::Failed,
-            Fault::PowerGone => Failure::PowerGone,
-        }
-    }
 }

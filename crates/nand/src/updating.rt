@@ -21,7 +21,7 @@ use crate::numbers::{chip_block, chip_page};
 use durable::Command;
 
 // Why an attempt to update a sector came to no end.
-#[derive(Clone, Copy, Debug, PartialEq, Eq)]
+#[derive(Clone, Copy)]
 pub(crate) enum Stop {
     // The numbers of versions have run out.
     NoNumber,
@@ -111,9 +111,10 @@ impl<N: Nand> Durable<N> {
                     self.mounted = false;
                     return Err(Failure::Failed);
                 }
-                Err(Stop::Fault(fault, number)) => {
-                    if fault == Fault::PowerGone || failed >= reserve {
-                        return Err(fault.into());
+                Err(Stop::Fault(Fault::PowerGone, _)) => return Err(Failure::PowerGone),
+                Err(Stop::Fault(Fault::Failed, number)) => {
+                    if failed >= reserve {
+                        return Err(Failure::Failed);
                     }
                     if let Err(failure) = self.replace(number) {
                         return Err(failure);

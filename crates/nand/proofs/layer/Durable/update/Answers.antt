@@ -1,0 +1,174 @@
+use Rattle.std.proofs.Common.{◌≡◌, ◌≢◌, ◌∙◌, inl, inr, ⊎_elim, ◌+◌, ◌-◌, ◌%◌, ◌^◌, ◌<◌, ◌≤◌, ℕ, Bool, List, ◌∷◌, Err, refl, sym, ap, subst, arith}
+use Rattle.durable.specs.Updates.{Update}
+use Rattle.nand.specs.Attempts.{CountsStop, Leaves}
+use Rattle.nand.specs.Nand.{value_with}
+use Rattle.nand.specs.Numbers.{good_before, is_marked}
+use Rattle.nand.specs.Opened.{CanOpen, IsOpenLayer, layer_sectors, most_used, reserve_of, update_of}
+use Rattle.nand.specs.declared.failure.Failure.TheVariants as failure
+use Rattle.nand.specs.declared.flash.Fault.TheVariants as fault
+use Rattle.nand.specs.declared.flash.Shape.{Shape}
+use Rattle.nand.specs.declared.updating.Stop.{Stop}
+use Rattle.nand.specs.declared.updating.Stop.TheVariants as stop
+use Rattle.nand.proofs.Replacing.{all_used, either, no_replacement, open_once, opens_once, settles, settles_made}
+use Rattle.nand.proofs.Steps.{fails_open, left_open}
+use Rattle.nand.proofs.layer.Durable.update.Goals as goal
+
+pub returns-in-Ok-clause-acknowledged : goal.returns-in-Ok-clause-acknowledged
+returns-in-Ok-clause-acknowledged g c updates h =
+    let update = update_of c.args.sector (value_with c.args.trimmed c.args.main.now) in
+    let holds = c.loop-self.invariant.holds updates h in
+    settles_made (λ (us : List Update). IsOpenLayer g.N.Nand.flash g.N.Nand.shape g.N.Nand.bad c.attempt.new.self us) update updates holds.0
+    (open_once g.N.Nand.flash g.N.Nand.shape g.N.Nand.bad c.attempt.new.self update updates) holds.1
+    (c.in-Ok.ensures.acknowledged holds.0 holds.2)
+
+pub returns-in-Ok-clause-marks : goal.returns-in-Ok-clause-marks
+returns-in-Ok-clause-marks g c updates h =
+    let was = c.args.self.now.nand in
+    let blocks = (g.N.Nand.shape was).blocks in
+    let holds = c.loop-self.invariant.holds updates h in
+    let marked : c.loop-self.failed ≡ good_before (g.N.Nand.bad was) blocks - good_before (g.N.Nand.bad c.attempt.new.self.nand) blocks =
+    omega (arith, holds.4, ap (λ (m : List Bool). good_before m blocks) c.attempt.ensures.device.marks) in
+    ap (λ (n : ℕ). n % 2 ^ 64) (c.in-Ok.ensures.counts fault.Failed) ∙ (c.loop-self.invariant.failures
+    ∙ ap (λ (n : ℕ). (g.N.Nand.faults was fault.Failed + n) % 2 ^ 64) marked)
+
+pub returns-then-failed-eq0-clause-fails : goal.returns-then-failed-eq0-clause-fails
+returns-then-failed-eq0-clause-fails g c updates h =
+    let inv = c.loop-self.invariant in
+    let update = update_of c.args.sector (value_with c.args.trimmed c.args.main.now) in
+    let new = c.attempt.new.self in
+    let holds = inv.holds updates h in
+    let there = subst (λ (s : Stop). Leaves g.N.Nand.flash g.N.Nand.shape g.N.Nand.bad new update holds.0 s) c.in-Err-NoNumber.field-0-is
+    (c.in-Err-NoNumber.ensures.leaves holds.0 holds.2) in
+    let is = subst (λ (us : List Update). IsOpenLayer g.N.Nand.flash g.N.Nand.shape g.N.Nand.bad new us) (holds.5 c.if-failed-eq0.true) there in
+    fails_open g.N.Nand.flash g.N.Nand.shape g.N.Nand.bad c.args.self.now new update updates failure.NoNumber is
+    (c.attempt.ensures.device.sectors ∙ inv.sectors) (λ e. cc e) (λ e. cc e)
+
+pub returns-in-Err-NoNumber-clause-fails : goal.returns-in-Err-NoNumber-clause-fails
+returns-in-Err-NoNumber-clause-fails g c updates h =
+    let inv = c.loop-self.invariant in
+    let update = update_of c.args.sector (value_with c.args.trimmed c.args.main.now) in
+    let new = c.attempt.new.self in
+    let sectors = c.attempt.ensures.device.sectors ∙ inv.sectors in
+    let holds = inv.holds updates h in
+    let there = subst (λ (s : Stop). Leaves g.N.Nand.flash g.N.Nand.shape g.N.Nand.bad new update holds.0 s) c.in-Err-NoNumber.field-0-is
+    (c.in-Err-NoNumber.ensures.leaves holds.0 holds.2) in
+    let opens = subst (λ (n : ℕ). CanOpen g.N.Nand.flash g.N.Nand.shape g.N.Nand.bad new.nand n holds.0) sectors
+    (left_open g.N.Nand.flash g.N.Nand.shape g.N.Nand.bad new holds.0 there) in
+    record {
+      reopens = either (λ (us : List Update). CanOpen g.N.Nand.flash g.N.Nand.shape g.N.Nand.bad new.nand (layer_sectors c.args.self.now) us)
+          update updates holds.0 holds.1 opens;
+      refused = λ none. absurd none;
+      stays = inr refl;
+      readable = λ e. cc e;
+      spent = λ _. inr (c.attempt.ensures.number (c.in-Err-NoNumber.is ∙ ap Err c.in-Err-NoNumber.field-0-is)).1;
+    }
+
+pub returns-in-Err-Fault-PowerGone-default-clause-fails : goal.returns-in-Err-Fault-PowerGone-default-clause-fails
+returns-in-Err-Fault-PowerGone-default-clause-fails g c updates h =
+    let inv = c.loop-self.invariant in
+    let update = update_of c.args.sector (value_with c.args.trimmed c.args.main.now) in
+    let new = c.attempt.new.self in
+    let sectors = c.attempt.ensures.device.sectors ∙ inv.sectors in
+    let holds = inv.holds updates h in
+    let stopped : c.in-Err-Fault-PowerGone-default.field-0 ≡ stop.Fault fault.PowerGone c.in-Err-Fault-PowerGone-default.field-0-1 = cc (c.in-Err-Fault-PowerGone-default.field-0-is, c.in-Err-Fault-PowerGone-default.field-0-0-is) in
+    let there = subst (λ (s : Stop). Leaves g.N.Nand.flash g.N.Nand.shape g.N.Nand.bad new update holds.0 s) stopped
+    (c.in-Err-Fault-PowerGone-default.ensures.leaves holds.0 holds.2) in
+    let opens = λ (us : List Update). CanOpen g.N.Nand.flash g.N.Nand.shape g.N.Nand.bad new.nand (layer_sectors c.args.self.now) us in
+    let settled = settles opens update updates holds.0 (opens_once g.N.Nand.flash g.N.Nand.shape g.N.Nand.bad new.nand (layer_sectors c.args.self.now)
+    update updates) holds.1 there.0 there.1
+    (subst (λ (n : ℕ). CanOpen g.N.Nand.flash g.N.Nand.shape g.N.Nand.bad new.nand n there.0) sectors there.2.opens) in
+    record {
+      reopens = either opens update updates settled.0 settled.1 settled.2;
+      refused = λ none. absurd none;
+      stays = inr there.2.closed;
+      readable = λ e. cc e;
+      spent = λ e. absurd (cc e);
+    }
+
+pub returns-then-failed-reserve-clause-fails : goal.returns-then-failed-reserve-clause-fails
+returns-then-failed-reserve-clause-fails g c updates h =
+    let inv = c.loop-self.invariant in
+    let update = update_of c.args.sector (value_with c.args.trimmed c.args.main.now) in
+    let new = c.attempt.new.self in
+    let sectors = c.attempt.ensures.device.sectors ∙ inv.sectors in
+    let holds = inv.holds updates h in
+    let stopped : c.in-Err-Fault-Failed-default.field-0 ≡ stop.Fault fault.Failed c.in-Err-Fault-Failed-default.number = cc (c.in-Err-Fault-Failed-default.field-0-is, c.in-Err-Fault-Failed-default.field-0-0-is, c.in-Err-Fault-Failed-default.number-is) in
+    let there = subst (λ (s : Stop). Leaves g.N.Nand.flash g.N.Nand.shape g.N.Nand.bad new update holds.0 s) stopped
+    (c.in-Err-Fault-Failed-default.ensures.leaves holds.0 holds.2) in
+    let opens = λ (us : List Update). CanOpen g.N.Nand.flash g.N.Nand.shape g.N.Nand.bad new.nand (layer_sectors c.args.self.now) us in
+    let settled = settles opens update updates holds.0 (opens_once g.N.Nand.flash g.N.Nand.shape g.N.Nand.bad new.nand (layer_sectors c.args.self.now)
+    update updates) holds.1 there.0 there.1
+    (subst (λ (n : ℕ). CanOpen g.N.Nand.flash g.N.Nand.shape g.N.Nand.bad new.nand n there.0) sectors there.2.opens) in
+    let good = good_before (g.N.Nand.bad new.nand) (g.N.Nand.shape new.nand).blocks in
+    let all = all_used good (most_used (g.N.Nand.shape new.nand) (layer_sectors new)) (reserve_of new)
+    (omega (arith, c.attempt.ensures.reserve, holds.3, c.if-failed-reserve.true)) there.2.reserve in
+    record {
+      reopens = either opens update updates settled.0 settled.1 settled.2;
+      refused = λ none. absurd none;
+      stays = inr there.2.closed;
+      readable = λ e. cc e;
+      spent = λ _. inl (subst (λ (n : ℕ). good ≤ most_used (g.N.Nand.shape new.nand) n) sectors all);
+    }
+
+pub returns-in-Err-clause-fails : goal.returns-in-Err-clause-fails
+returns-in-Err-clause-fails g c updates h =
+    let inv = c.loop-self.invariant in
+    let update = update_of c.args.sector (value_with c.args.trimmed c.args.main.now) in
+    let new = c.attempt.new.self in
+    let sectors = c.attempt.ensures.device.sectors ∙ inv.sectors in
+    let holds = inv.holds updates h in
+    let stopped : c.in-Err-Fault-Failed-default.field-0 ≡ stop.Fault fault.Failed c.in-Err-Fault-Failed-default.number = cc (c.in-Err-Fault-Failed-default.field-0-is, c.in-Err-Fault-Failed-default.field-0-0-is, c.in-Err-Fault-Failed-default.number-is) in
+    let there = subst (λ (s : Stop). Leaves g.N.Nand.flash g.N.Nand.shape g.N.Nand.bad new update holds.0 s) stopped
+    (c.in-Err-Fault-Failed-default.ensures.leaves holds.0 holds.2) in
+    let some : 0 < reserve_of new = omega (arith, c.attempt.ensures.reserve, holds.3, c.if-failed-reserve.false) in
+    let last = c.replace.new.self in
+    let closed = c.in-Err.ensures.closed there.0 there.2 some in
+    let told = no_replacement c.in-Err.failure c.in-Err.ensures.causes in
+    let opens = λ (us : List Update). CanOpen g.N.Nand.flash g.N.Nand.shape g.N.Nand.bad last.nand (layer_sectors c.args.self.now) us in
+    let settled = settles opens update updates holds.0 (opens_once g.N.Nand.flash g.N.Nand.shape g.N.Nand.bad last.nand (layer_sectors c.args.self.now)
+    update updates) holds.1 there.0 there.1
+    (subst (λ (n : ℕ). CanOpen g.N.Nand.flash g.N.Nand.shape g.N.Nand.bad last.nand n there.0) sectors closed.1) in
+    record {
+      reopens = either opens update updates settled.0 settled.1 settled.2;
+      refused = λ refused. absurd (told.0 refused);
+      stays = inr closed.0;
+      readable = told.1;
+      spent = λ failed. absurd (told.2 failed);
+    }
+
+pub loop-self-preserved : goal.loop-self-preserved
+loop-self-preserved g c =
+    let inv = c.loop-self.invariant in
+    let was = c.loop-self.self.nand in
+    let mid = c.attempt.new.self.nand in
+    let stopped : c.in-Err-Fault-Failed-default.field-0 ≡ stop.Fault fault.Failed c.in-Err-Fault-Failed-default.number = cc (c.in-Err-Fault-Failed-default.field-0-is, c.in-Err-Fault-Failed-default.field-0-0-is, c.in-Err-Fault-Failed-default.number-is) in
+    let one = subst (λ (s : Stop). CountsStop {T = Unit {0}} (g.N.Nand.faults was) (g.N.Nand.faults mid) (Err s)) stopped c.in-Err-Fault-Failed-default.ensures.counts in
+    let replaced = c.in_default.ensures in
+    record {
+      few = omega (arith, c.if-failed-reserve.false);
+      sectors = c.replace.ensures.sectors ∙ (c.attempt.ensures.device.sectors ∙ inv.sectors);
+      shape = c.replace.ensures.shape ∙ (c.attempt.ensures.device.chip ∙ inv.shape);
+      marks = λ b is. c.replace.ensures.marks b (ap (λ (m : List Bool). is_marked m b) c.attempt.ensures.device.marks ∙ inv.marks b is);
+      power = replaced.faults fault.PowerGone ∙ (one.1 ∙ inv.power);
+      failures = omega (arith, replaced.faults fault.Failed, one.0, inv.failures);
+      first = λ none. absurd (omega (arith, none));
+      holds = λ updates h.
+          let update = update_of c.args.sector (value_with c.args.trimmed c.args.main.now) in
+          let holds = inv.holds updates h in
+          let blocks = (g.N.Nand.shape c.args.self.now.nand).blocks in
+          let there = subst (λ (s : Stop). Leaves g.N.Nand.flash g.N.Nand.shape g.N.Nand.bad c.attempt.new.self update holds.0 s) stopped
+          (c.in-Err-Fault-Failed-default.ensures.leaves holds.0 holds.2) in
+          let some : 0 < reserve_of c.attempt.new.self = omega (arith, c.attempt.ensures.reserve, holds.3, c.if-failed-reserve.false) in
+          let again = replaced.replaced there.0 there.2 some in
+          let settled = settles (λ (us : List Update). IsOpenLayer g.N.Nand.flash g.N.Nand.shape g.N.Nand.bad c.replace.new.self us) update updates
+          holds.0 (open_once g.N.Nand.flash g.N.Nand.shape g.N.Nand.bad c.replace.new.self update updates) holds.1 there.0 there.1 again.0 in
+          let one_less = subst (λ (s : Shape). good_before (g.N.Nand.bad c.replace.new.self.nand) s.blocks + 1 ≡ good_before (g.N.Nand.bad mid) s.blocks)
+          (c.attempt.ensures.device.chip ∙ inv.shape) again.2 in (
+            settled.0,
+            settled.1,
+            settled.2,
+            omega (arith, again.1, holds.3, c.attempt.ensures.reserve),
+            omega (arith, one_less, holds.4, ap (λ (m : List Bool). good_before m blocks) c.attempt.ensures.device.marks),
+            λ none. absurd (omega (arith, none)),
+          );
+    }
