@@ -17,4 +17,4 @@ returns-then-copy_main-clause-main c =
 
 pub returns-else-copy_main-clause-cause : goal.returns-else-copy_main-clause-cause
 returns-else-copy_main-clause-cause c =
-    (tt, ap (λ (n : ℕ). (n + 1) % 2 ^ 64) (c.in-Ok.ensures.cause.0 fault.PowerGone), c.in-Ok.ensures.cause.0 fault.Failed)
+    (tt, (ap (λ (n : ℕ). (n + 1) % 2 ^ 64) (c.in-Ok.ensures.cause.0 fault.PowerGone), c.in-Ok.ensures.cause.0 fault.Failed))
