@@ -1,5 +1,5 @@
 -- A chip's blocks in the layer's order.
-use Rattle.std.proofs.Common.{◌≡◌, ◌≢◌, ◌⊎◌, ◌∙◌, inl, inr, ⊎_elim, ◌+◌, ◌<◌, ◌≤◌, ℕ, zero, suc, Bool, true, false, List, [], ◌∷◌, length}
+use Rattle.std.proofs.Common.{◌≡◌, ◌≢◌, ◌∙◌, inl, inr, ⊎_elim, ◌+◌, ◌<◌, ◌≤◌, ℕ, zero, suc, Bool, true, false, List, [], ◌∷◌, length}
 use Rattle.std.proofs.Common.{None, Result, Ok, Err, OnOk, OnErr, ◌++◌, get_or, set, min, max, ◌-◌, ◌*◌, ◌/◌, if◌then◌else◌, refl, sym, ap, subst, arith}
 use Rattle.std.proofs.lemmas.Bool.{cases_eq, cases_lt, false≢true}
 use Rattle.std.proofs.lemmas.Bool.Decides.{nat_tests}
@@ -9,14 +9,13 @@ use Rattle.std.proofs.lemmas.List.{get_or_default, get_or_past, get_or_push, get
 use Rattle.std.specs.List.{swap}
 use Rattle.geometry.specs.Sectors.{Sector}
 use Rattle.geometry.specs.declared.page_addr.PageAddr.{PageAddr}
-use Rattle.durable.specs.Flash.{Erased, Torn, Version, PageContents, Flash, HoldsNewest, IsErased, LosesPages, SetsPage}
-use Rattle.durable.specs.Commands.{Completes, CutLeaves, IsSameFlash}
-use Rattle.durable.specs.declared.command.Command.{Command}
+use Rattle.durable.specs.Flash.{Torn, Version, PageContents, Flash, HoldsNewest, IsErased, SetsPage}
+use Rattle.durable.specs.Commands.{IsSameFlash}
 use Rattle.durable.specs.declared.command.Command.TheVariants.{Program, Copy, Erase}
 use Rattle.durable.specs.Device.{IsWrittenOn}
 use Rattle.durable.specs.Collecting.{HasCapacity}
 use Rattle.durable.specs.Failures.{IsRenumbered, swapped}
-use Rattle.durable.specs.Promise.{IsReadable, IsRecoverable}
+use Rattle.durable.specs.Promise.{IsRecoverable}
 use Rattle.durable.specs.Spare.{IsDuplicated}
 use Rattle.durable.specs.Updates.{Update}
 use Rattle.durable.proofs.Cells.{erased_holds_none}
@@ -100,12 +99,14 @@ used_is used good sectors a b c bad is first second all =
     ∙ ap (λ (n : ℕ). min n (most_in_use c.blocks c.pages sectors)) all)
 
 -- the sectors fit in the blocks in use if they fit in all good ones
-pub capacity_of_used : (sectors good blocks pages : ℕ) → HasCapacity sectors good pages → HasCapacity sectors (min good (most_in_use blocks pages sectors)) pages
+pub capacity_of_used : (sectors good blocks pages : ℕ) → HasCapacity sectors good pages
+    → HasCapacity sectors (min good (most_in_use blocks pages sectors)) pages
 capacity_of_used sectors good blocks pages capacity =
     let most = most_in_use blocks pages sectors in
     ⊎_elim
     (λ more. let all = lt-div-mul-add {a = sectors} {b = pages} (has_pages sectors (good - 1) pages capacity) in
-    let needed : sectors / pages + 1 ≤ min good most - 1 = omega (arith, least_second good most more, at_least (blocks - (blocks / 50 + 1)) (sectors / pages + 2)) in
+    let needed : sectors / pages + 1 ≤ min good most - 1 =
+    omega (arith, least_second good most more, at_least (blocks - (blocks / 50 + 1)) (sectors / pages + 2)) in
     let fits = mul-le-mul_right pages needed in
     let one : (sectors / pages + 1) * pages ≡ sectors / pages * pages + pages = grind arith in
     omega (arith, all, fits, one))

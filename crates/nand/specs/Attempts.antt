@@ -1,6 +1,5 @@
 -- What an attempt to update a sector leaves that came to no end.
 use Rattle.std.specs.Prelude.{◌≡◌, ◌<◌, ◌+◌, ℕ, Bool, false, List, Result, Ok, Err}
-use Rattle.durable.specs.Device.{device_of}
 use Rattle.durable.specs.Flash.{Flash}
 use Rattle.durable.specs.Updates.{Makes, Update}
 use Rattle.nand.specs.declared.flash.Fault.{Fault}

@@ -60,7 +60,8 @@ CountsOne before now cause = (now cause ≡ (before cause + 1) % 2 ^ 64) × (now
 
 -- success leaves the counts of faults as they were, and a fault is counted
 abbrev pub CountsFault : {T : Type 0} → (Fault → ℕ) → (Fault → ℕ) → Result T Fault → Type 0
-CountsFault {T} before now result = OnOk result ((cause : Fault) → now cause ≡ before cause) × ((cause : Fault) → result ≡ Err cause → CountsOne before now cause)
+CountsFault {T} before now result =
+    OnOk result ((cause : Fault) → now cause ≡ before cause) × ((cause : Fault) → result ≡ Err cause → CountsOne before now cause)
 
 -- the same of a call that fails only if the power is gone
 abbrev pub CountsCut : {T : Type 0} → (Fault → ℕ) → (Fault → ℕ) → Result T PowerGone → Type 0

@@ -77,12 +77,7 @@ fn perform<N: Nand>(
 
 impl<N: Nand> Durable<N> {
     // Gives a sector a new version. A block whose command fails is replaced by one of the reserve, and the call goes on.
-    pub(crate) fn update(
-        &mut self,
-        sector: u32,
-        trimmed: bool,
-        main: &[u8],
-    ) -> Result<(), Failure>
+    pub(crate) fn update(&mut self, sector: u32, trimmed: bool, main: &[u8]) -> Result<(), Failure>
         requires sector { sector < layer_sectors self.old }
         requires page { trimmed ≡ false → length main.now ≡ (N.shape self.old.nand).page_bytes }
         ensures acknowledged { (updates : List Update) → IsOpenLayer N.flash N.shape N.bad self.old updates

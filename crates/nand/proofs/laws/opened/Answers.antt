@@ -16,8 +16,13 @@ returns-clause-numbered c layer v updates is held =
 pub returns-clause-bad_unused : goal.returns-clause-bad_unused
 returns-clause-bad_unused c layer updates is bad some = λ e.
     let used = ap (λ (d : Device). d.blocks) is.device in
-    let good = is.order.good 0 (omega (arith, some, used, (no_greater (good_before (chip_bad layer.nand) (chip_shape layer.nand).blocks)
-    (most_used (chip_shape layer.nand) (layer_sectors layer))).0)) in
+    let good = is.order.good 0 (omega (
+      arith,
+      some,
+      used,
+      (no_greater (good_before (chip_bad layer.nand) (chip_shape layer.nand).blocks)
+          (most_used (chip_shape layer.nand) (layer_sectors layer))).0,
+    )) in
     false≢true (sym good ∙ (ap (is_marked (chip_bad layer.nand)) e ∙ ap (λ (marks : List Bool). is_marked marks 0) bad))
 
 unmarked_second : (b : ℕ) → b < 2 → is_marked (true ∷ false ∷ []) b ≡ false → b ≡ 1

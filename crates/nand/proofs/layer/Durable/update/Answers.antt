@@ -1,4 +1,4 @@
-use Rattle.std.proofs.Common.{◌≡◌, ◌≢◌, ◌∙◌, inl, inr, ⊎_elim, ◌+◌, ◌-◌, ◌%◌, ◌^◌, ◌<◌, ◌≤◌, ℕ, Bool, List, ◌∷◌, Err, refl, sym, ap, subst, arith}
+use Rattle.std.proofs.Common.{◌≡◌, ◌∙◌, inl, inr, ◌+◌, ◌-◌, ◌%◌, ◌^◌, ◌<◌, ◌≤◌, ℕ, Bool, List, Err, refl, ap, subst, arith}
 use Rattle.durable.specs.Updates.{Update}
 use Rattle.nand.specs.Attempts.{CountsStop, Leaves}
 use Rattle.nand.specs.Nand.{value_with}
@@ -70,7 +70,8 @@ returns-in-Err-Fault-PowerGone-default-clause-fails g c updates h =
     let new = c.attempt.new.self in
     let sectors = c.attempt.ensures.device.sectors ∙ inv.sectors in
     let holds = inv.holds updates h in
-    let stopped : c.in-Err-Fault-PowerGone-default.field-0 ≡ stop.Fault fault.PowerGone c.in-Err-Fault-PowerGone-default.field-0-1 = cc (c.in-Err-Fault-PowerGone-default.field-0-is, c.in-Err-Fault-PowerGone-default.field-0-0-is) in
+    let stopped : c.in-Err-Fault-PowerGone-default.field-0 ≡ stop.Fault fault.PowerGone c.in-Err-Fault-PowerGone-default.field-0-1 =
+    cc (c.in-Err-Fault-PowerGone-default.field-0-is, c.in-Err-Fault-PowerGone-default.field-0-0-is) in
     let there = subst (λ (s : Stop). Leaves g.N.Nand.flash g.N.Nand.shape g.N.Nand.bad new update holds.0 s) stopped
     (c.in-Err-Fault-PowerGone-default.ensures.leaves holds.0 holds.2) in
     let opens = λ (us : List Update). CanOpen g.N.Nand.flash g.N.Nand.shape g.N.Nand.bad new.nand (layer_sectors c.args.self.now) us in
@@ -92,7 +93,8 @@ returns-then-failed-reserve-clause-fails g c updates h =
     let new = c.attempt.new.self in
     let sectors = c.attempt.ensures.device.sectors ∙ inv.sectors in
     let holds = inv.holds updates h in
-    let stopped : c.in-Err-Fault-Failed-default.field-0 ≡ stop.Fault fault.Failed c.in-Err-Fault-Failed-default.number = cc (c.in-Err-Fault-Failed-default.field-0-is, c.in-Err-Fault-Failed-default.field-0-0-is, c.in-Err-Fault-Failed-default.number-is) in
+    let stopped : c.in-Err-Fault-Failed-default.field-0 ≡ stop.Fault fault.Failed c.in-Err-Fault-Failed-default.number =
+    cc (c.in-Err-Fault-Failed-default.field-0-is, c.in-Err-Fault-Failed-default.field-0-0-is, c.in-Err-Fault-Failed-default.number-is) in
     let there = subst (λ (s : Stop). Leaves g.N.Nand.flash g.N.Nand.shape g.N.Nand.bad new update holds.0 s) stopped
     (c.in-Err-Fault-Failed-default.ensures.leaves holds.0 holds.2) in
     let opens = λ (us : List Update). CanOpen g.N.Nand.flash g.N.Nand.shape g.N.Nand.bad new.nand (layer_sectors c.args.self.now) us in
@@ -117,7 +119,8 @@ returns-in-Err-clause-fails g c updates h =
     let new = c.attempt.new.self in
     let sectors = c.attempt.ensures.device.sectors ∙ inv.sectors in
     let holds = inv.holds updates h in
-    let stopped : c.in-Err-Fault-Failed-default.field-0 ≡ stop.Fault fault.Failed c.in-Err-Fault-Failed-default.number = cc (c.in-Err-Fault-Failed-default.field-0-is, c.in-Err-Fault-Failed-default.field-0-0-is, c.in-Err-Fault-Failed-default.number-is) in
+    let stopped : c.in-Err-Fault-Failed-default.field-0 ≡ stop.Fault fault.Failed c.in-Err-Fault-Failed-default.number =
+    cc (c.in-Err-Fault-Failed-default.field-0-is, c.in-Err-Fault-Failed-default.field-0-0-is, c.in-Err-Fault-Failed-default.number-is) in
     let there = subst (λ (s : Stop). Leaves g.N.Nand.flash g.N.Nand.shape g.N.Nand.bad new update holds.0 s) stopped
     (c.in-Err-Fault-Failed-default.ensures.leaves holds.0 holds.2) in
     let some : 0 < reserve_of new = omega (arith, c.attempt.ensures.reserve, holds.3, c.if-failed-reserve.false) in
@@ -141,7 +144,8 @@ loop-self-preserved g c =
     let inv = c.loop-self.invariant in
     let was = c.loop-self.self.nand in
     let mid = c.attempt.new.self.nand in
-    let stopped : c.in-Err-Fault-Failed-default.field-0 ≡ stop.Fault fault.Failed c.in-Err-Fault-Failed-default.number = cc (c.in-Err-Fault-Failed-default.field-0-is, c.in-Err-Fault-Failed-default.field-0-0-is, c.in-Err-Fault-Failed-default.number-is) in
+    let stopped : c.in-Err-Fault-Failed-default.field-0 ≡ stop.Fault fault.Failed c.in-Err-Fault-Failed-default.number =
+    cc (c.in-Err-Fault-Failed-default.field-0-is, c.in-Err-Fault-Failed-default.field-0-0-is, c.in-Err-Fault-Failed-default.number-is) in
     let one = subst (λ (s : Stop). CountsStop {T = Unit {0}} (g.N.Nand.faults was) (g.N.Nand.faults mid) (Err s)) stopped c.in-Err-Fault-Failed-default.ensures.counts in
     let replaced = c.in_default.ensures in
     record {
