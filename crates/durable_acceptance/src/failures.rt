@@ -121,6 +121,13 @@ fn a_cut_after_a_failure(rt: HostRuntime) -> Result<(), Fail> {
     Ok(())
 }
 
+fn call_of(stopped: Option<(Call, Failure)>) -> Option<Call> {
+    match stopped {
+        Some((call, _)) => Some(call),
+        None => None,
+    }
+}
+
 // Failures and cuts at random, each followed by a check of all sectors.
 fn play(
     rt: &(impl Abort + AllocGlobal),
@@ -149,9 +156,7 @@ fn play(
         let reserve = layer.reserve();
         expect(rt, reserve <= before, &(run.calls, before, reserve));
         chip = layer.into_nand();
-        let mut cut_short = None;
-        if let Some((call, failure)) = stopped {
-            cut_short = Some(call);
+        if let Some((_, failure)) = stopped {
             if failure == Failure::PowerGone {
                 chip = power_on(rt, chip, sectors);
             } else {
@@ -162,11 +167,11 @@ fn play(
         let Some(mut layer) = open(rt, chip, sectors) else {
             return Ok(());
         };
-        run.check(rt, &mut layer, cut_short);
+        run.check(rt, &mut layer, call_of(stopped));
         let left = layer.reserve();
         chip = layer.into_nand();
-        let bad = bad_blocks(rt, &mut chip);
-        expect(rt, bad.wrapping_add(left) == blocks / 50 + 1, &(bad, left));
+        let all = bad_blocks(rt, &mut chip).wrapping_add(left);
+        expect(rt, all == blocks / 50 + 1, &(all, left));
     }
     expect(rt, chip.violations() == 0, &chip.violations());
     expect(rt, bad_blocks(rt, &mut chip) == blocks / 50 + 1, &blocks);

@@ -65,7 +65,12 @@ impl Run {
     }
 
     // Each sector has to hold what was acknowledged; the one of a call that was cut short may hold its value already.
-    pub(crate) fn check(&mut self, rt: &impl Abort, layer: &mut Durable<Chip>, cut_short: Option<Call>) {
+    pub(crate) fn check(
+        &mut self,
+        rt: &impl Abort,
+        layer: &mut Durable<Chip>,
+        cut_short: Option<Call>,
+    ) {
         for sector in 0..self.sectors {
             let found = read(rt, layer, sector);
             let held = self.held(sector);

@@ -146,7 +146,8 @@ loop-self-preserved g c =
     let mid = c.attempt.new.self.nand in
     let stopped : c.in-Err-Fault-Failed-default.field-0 ≡ stop.Fault fault.Failed c.in-Err-Fault-Failed-default.number =
     cc (c.in-Err-Fault-Failed-default.field-0-is, c.in-Err-Fault-Failed-default.field-0-0-is, c.in-Err-Fault-Failed-default.number-is) in
-    let one = subst (λ (s : Stop). CountsStop {T = Unit {0}} (g.N.Nand.faults was) (g.N.Nand.faults mid) (Err s)) stopped c.in-Err-Fault-Failed-default.ensures.counts in
+    let one = subst (λ (s : Stop). CountsStop {T = Unit {0}} (g.N.Nand.faults was) (g.N.Nand.faults mid) (Err s)) stopped
+    c.in-Err-Fault-Failed-default.ensures.counts in
     let replaced = c.in_default.ensures in
     record {
       few = omega (arith, c.if-failed-reserve.false);
