@@ -1,8 +1,8 @@
-use Rattle.std.proofs.Common.{◌≡◌, ◌∙◌, ◌+◌, ℕ, List, Bool, refl, ap, subst, arith}
+use Rattle.std.proofs.Common.{◌≡◌, ◌∙◌, ⊎_elim, ◌+◌, ℕ, List, Bool, refl, ap, subst, arith}
 use Rattle.nand.specs.declared.flash.Shape.{Shape}
-use Rattle.nand.specs.Numbers.{Marks, chip_block, good_before}
+use Rattle.nand.specs.Numbers.{Marks, chip_block, good_before, is_marked}
 use Rattle.nand.specs.Opened.{layer_sectors, most_used, reserve_of, used_blocks}
-use Rattle.nand.proofs.Replacing.{fewer_good, mounted_open, one_less, openable_there}
+use Rattle.nand.proofs.Replacing.{fewer_good, mounted_open, one_less, openable_there, stays_marked}
 use Rattle.nand.proofs.layer.Durable.replace.Goals as goal
 
 pub returns-in-Ok-clause-replaced : goal.returns-in-Ok-clause-replaced
@@ -30,3 +30,12 @@ returns-in-Ok-clause-replaced g c updates can some =
           (most_used chip sectors) some can.reserve rest one,
       ap (λ (m : List Bool). good_before m chip.blocks + 1) c.mount.ensures.bad ∙ one,
     )
+
+pub returns-in-Ok-clause-marks : goal.returns-in-Ok-clause-marks
+returns-in-Ok-clause-marks g c b is =
+    let bad = g.N.Nand.bad c.args.self.now.nand in
+    let marks = g.N.Nand.bad c.mark_bad.new.self in
+    ap (λ (m : List Bool). is_marked m b) c.mount.ensures.bad ∙ ⊎_elim
+    (λ same. ap (λ (m : List Bool). is_marked m b) same ∙ is)
+    (λ marked. stays_marked bad marks c.chip_block.result marked b is)
+    c.mark_bad.ensures.only
