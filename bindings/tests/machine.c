@@ -11,6 +11,8 @@ enum { LUNS = 1, BLOCKS = 6, PAGES = 32, PAGE_BYTES = 1024, SECTORS = 130 };
 /* The port of QEMU's isa-debugcon: what is written there is in its file before the next instruction. */
 enum { PORT = 0xe9 };
 enum { ALWAYS, FLUSH, IMAGES };
+/* How many calls may stand behind the newest write that is there. */
+enum { MOST_TRIMMED = 1000 };
 
 struct call { uint32_t sector, is_trim; };
 struct played { struct mintlintel_image image; uint32_t calls; };
@@ -48,7 +50,7 @@ static uint32_t written_by(struct mintlintel_image *image, uint32_t sector)
     return number;
 }
 
-/* After how many calls the sectors are as they are: the most, if trims of empty sectors are among them. */
+/* After how many calls the sectors are as they are: the most, if trims of empty sectors are among them. The newest writes may have been trimmed. */
 static uint32_t find(struct mintlintel_image *image)
 {
     uint32_t found[SECTORS], after[SECTORS] = {0}, newest = 0, calls = UINT32_MAX;
@@ -56,10 +58,8 @@ static uint32_t find(struct mintlintel_image *image)
         found[sector] = written_by(image, sector);
         newest = found[sector] > newest ? found[sector] : newest;
     }
-    for (uint32_t number = 0;; number++) {
+    for (uint32_t number = 0; number <= newest + MOST_TRIMMED; number++) {
         struct call call = call_of(number);
-        if (number > newest && !call.is_trim)
-            break;
         if (number > 0)
             after[call.sector] = call.is_trim ? 0 : number;
         if (number >= newest && memcmp(after, found, sizeof after) == 0)
