@@ -1,23 +1,13 @@
 -- What the rule allows at the device's numbers and at a place of its own is what a step asks, at the table's numbers and at the place that the code
 -- computes.
 use Rattle.std.proofs.Common.{◌≡◌, ℕ, ◌<◌, true, [], sym, refl, ap, subst, arith}
-use Rattle.atomic_table.specs.Table.{Allows, Splits, Joins}
-use Rattle.atomic_table.specs.declared.shared.Seat.{Seat}
-use Rattle.geometry.specs.Geometry.{numbers_of}
-use Rattle.geometry.specs.Limits.{Numbers, table_words_of}
-use Rattle.geometry.specs.TableOrder.{pin_index}
-use Rattle.flash_rule.specs.declared.facts.Role.{Role}
-use Rattle.flash_rule.specs.declared.facts.Role.TheVariants as role
-use Rattle.flash_rule.specs.declared.view.View.{View}
-use Rattle.flash_rule.specs.Views.{is_pass, is_player}
-use Rattle.flash_rule.specs.Plays.{Sitter}
-use Rattle.flash_rule.specs.Seats.{Ruled, gone}
+use Rattle.atomic_table.specs.{Table.Allows, Table.Splits, Table.Joins, declared.shared.Seat.Seat}
+use Rattle.geometry.specs.{Geometry.numbers_of, TableOrder.pin_index, Limits.Numbers, Limits.table_words_of}
+use Rattle.flash_rule.specs.{declared.facts.Role.Role, declared.view.View.View, Views.is_pass, Views.is_player, Plays.Sitter, Seats.Ruled, Seats.gone}
 use Rattle.flash_rule.proofs.Places.{pin_within}
-use Rattle.flash_table.specs.declared.flash.Flash.{Flash}
-use Rattle.flash_table.specs.declared.pass.Pass.{Pass}
-use Rattle.flash_table.specs.declared.pass.Note.{Note}
-use Rattle.flash_table.specs.declared.broom_seat.BroomSeat.{BroomSeat}
+use Rattle.flash_table.specs.declared.{flash.Flash.Flash, pass.Pass.Pass, pass.Note.Note, broom_seat.BroomSeat.BroomSeat}
 use Rattle.flash_table.specs.Flash.{IsPassOf, IsBroomOf, IsNoteOf, note_view, device}
+use Rattle.flash_rule.specs.declared.facts.Role.TheVariants as role
 
 -- A seat of this device, of a pass or of a broom
 pub record IsSeatOf (f : Flash) (x : Seat (Unit {0}) View) : Type 0 where

@@ -3,16 +3,13 @@ use Rattle.std.proofs.Common.{◌≡◌, ℕ, List, [], ◌∷◌, ◌++◌, Opt
 use mathlib.Core.Logic.{dite}
 use native.Mathlib.Decide.{ℕ_discrete}
 use Rattle.geometry.specs.declared.pin_word.Phase.TheVariants.{Open, Victim, Erasing}
-use Rattle.flash_rule.specs.declared.facts.Owned.{Owned}
-use Rattle.flash_rule.specs.Views.{owned_at, without, with_owned}
+use Rattle.flash_rule.specs.{declared.facts.Owned.Owned, Views.owned_at, Views.without, Views.with_owned}
 use Rattle.flash_rule.proofs.Owning.{some_same, none_some}
 use Rattle.flash_table.specs.declared.pass.OpenBlock.{OpenBlock}
-use Rattle.flash_table.specs.declared.broom_seat.ReclaimedBlock.{ReclaimedBlock}
-use Rattle.flash_table.specs.declared.broom_seat.Reclaiming.{Reclaiming}
-use Rattle.flash_table.specs.declared.broom_seat.Reclaiming.TheVariants as reclaiming
-use Rattle.flash_table.specs.declared.broom_seat.BroomBlocks.{BroomBlocks}
+use Rattle.flash_table.specs.declared.broom_seat.{ReclaimedBlock.ReclaimedBlock, Reclaiming.Reclaiming, BroomBlocks.BroomBlocks}
 use Rattle.flash_table.specs.Owning.{owned_of, owned_list, reclaimed_as, reclaimed_list, blocks_list, OwnsJust}
 use Rattle.flash_table.proofs.Rows.{at_first, past_first, just_at, just_set, just_without, just_with, stays_without}
+use Rattle.flash_table.specs.declared.broom_seat.Reclaiming.TheVariants as reclaiming
 
 -- a row of three parts
 abbrev row : Option OpenBlock → Option OpenBlock → List Owned → List Owned

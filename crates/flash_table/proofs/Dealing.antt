@@ -1,18 +1,12 @@
 -- The passes are dealt one after the other, and then the brooms.
 use Rattle.std.proofs.Common.{◌≡◌, ℕ, suc, ◌+◌, ◌-◌, ◌<◌, ⊎_elim, List, [], ◌∷◌, ◌++◌, None, Some, length, slice_get, sym, ap, ◌∙◌, subst, arith, length-append}
 use Rattle.geometry.specs.Limits.{Numbers}
-use Rattle.atomic_table.specs.Table.{Splits}
-use Rattle.atomic_table.specs.declared.shared.Seat.{Seat}
-use Rattle.flash_rule.specs.declared.facts.Role.TheVariants.{Dealer}
-use Rattle.flash_rule.specs.declared.view.View.{View}
-use Rattle.flash_rule.specs.Views.{is_pass, owned_at, without}
+use Rattle.atomic_table.specs.{Table.Splits, declared.shared.Seat.Seat}
+use Rattle.flash_rule.specs.{declared.facts.Role.TheVariants.Dealer, declared.view.View.View, Views.is_pass, Views.owned_at, Views.without}
 use Rattle.flash_rule.specs.Seats.{Ruled, dealt_pass, new_pass, spare, spares, next_spare, dealt_broom, new_broom}
-use Rattle.flash_rule.proofs.Owning.{get_last, nothing}
-use Rattle.flash_rule.proofs.Splitting.{deals_pass}
+use Rattle.flash_rule.proofs.{Owning.get_last, Owning.nothing, Splitting.deals_pass}
 use Rattle.flash_rule.proofs.DealingBrooms.{first_spare, other_spares, deals_broom}
-use Rattle.flash_table.specs.declared.flash.Flash.{Flash}
-use Rattle.flash_table.specs.declared.pass.Pass.{Pass}
-use Rattle.flash_table.specs.declared.broom_seat.BroomSeat.{BroomSeat}
+use Rattle.flash_table.specs.declared.{flash.Flash.Flash, pass.Pass.Pass, broom_seat.BroomSeat.BroomSeat}
 use Rattle.flash_table.specs.Flash.{IsPassOf, IsBroomOf, view_of, broom_view, opened_of, own_blocks, device, first_view, first_broom, first_blocks, spare_of}
 
 -- so many passes have been dealt, pass k with number k

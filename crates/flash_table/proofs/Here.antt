@@ -3,35 +3,20 @@ use Rattle.std.proofs.Common.{◌≡◌, ℕ, ◌+◌, ◌%◌, ◌^◌, ◌-◌
 use Rattle.std.specs.Int.Bits.{bit_or}
 use mathlib.Core.Option.{none}
 use prog.Atomic.{either}
-use Rattle.atomic_table.specs.Table.{step}
-use Rattle.atomic_table.specs.declared.shared.Seat.{Seat}
-use Rattle.geometry.specs.Limits.{Numbers, table_words_of}
-use Rattle.geometry.specs.MapWords.{FitsMap, map_word}
-use Rattle.geometry.specs.TableOrder.{pin_index, page_index}
-use Rattle.geometry.specs.declared.map_word.MapWord.{MapWord}
-use Rattle.geometry.specs.declared.map_word.TheConstants.{UNMAPPED}
+use Rattle.atomic_table.specs.{Table.step, declared.shared.Seat.Seat}
+use Rattle.geometry.specs.{Limits.Numbers, Limits.table_words_of, MapWords.FitsMap, MapWords.map_word, TableOrder.pin_index, TableOrder.page_index}
+use Rattle.geometry.specs.declared.map_word.{MapWord.MapWord, TheConstants.UNMAPPED}
 use Rattle.geometry.specs.declared.pin_word.TheConstants.{TAKEN, NEXT_PHASE, PAGE_WRITTEN, READER}
-use Rattle.flash_rule.specs.declared.facts.Owned.{Owned}
-use Rattle.flash_rule.specs.declared.facts.Work.{Work}
-use Rattle.flash_rule.specs.declared.facts.Pin.TheVariants.{Candidate, Accepted}
-use Rattle.flash_rule.specs.Views.{is_pass}
-use Rattle.flash_rule.specs.Plays.{CanPlace, CanPut, CanCount, CanClose, words_in, is_unpinned, look_told, write_told, new_told}
-use Rattle.flash_rule.specs.Plays.{trim_told, test_told, take_told, put_told, count_told, close_told, IsOn, pin_told, unpin_told, get_told}
-use Rattle.flash_rule.specs.declared.facts.Name.{Name}
-use Rattle.flash_rule.specs.declared.facts.Role.TheVariants.{Player}
-use Rattle.flash_rule.specs.declared.carried.Carried.{Carried}
-use Rattle.flash_rule.specs.declared.view.View.{View}
+use Rattle.flash_rule.specs.declared.facts.{Owned.Owned, Work.Work, Name.Name, Role.TheVariants.Player, Pin.TheVariants.Candidate, Pin.TheVariants.Accepted}
+use Rattle.flash_rule.specs.{Views.is_pass, declared.carried.Carried.Carried, declared.view.View.View}
+use Rattle.flash_rule.specs.Plays.{CanPlace, CanPut, CanCount, CanClose, words_in, is_unpinned, look_told, write_told, new_told, trim_told, test_told}
+use Rattle.flash_rule.specs.Plays.{take_told, put_told, count_told, close_told, IsOn, pin_told, unpin_told, get_told}
 use Rattle.flash_rule.specs.Seats.{lender, lent_note, host_of, giver, given_note, home}
-use Rattle.flash_rule.proofs.OwnSteps.{player_of}
-use Rattle.flash_rule.proofs.Places.{page_within}
+use Rattle.flash_rule.proofs.{OwnSteps.player_of, Places.page_within, ReaderSteps.pin_allowed, ReaderSteps.unpin_allowed}
 use Rattle.flash_rule.proofs.Notes.{lends, gives, takes_in, comes_home}
-use Rattle.flash_rule.proofs.Steps.{look_allowed, trim_allowed, write_allowed, new_allowed, take_allowed, test_allowed}
-use Rattle.flash_rule.proofs.Steps.{put_allowed, count_allowed, close_allowed, get_allowed}
-use Rattle.flash_rule.proofs.ReaderSteps.{pin_allowed, unpin_allowed}
-use Rattle.flash_table.specs.declared.flash.Flash.{Flash}
-use Rattle.flash_table.specs.declared.pass.Note.{Note}
-use Rattle.flash_table.specs.Flash.{IsNoteOf, note_view, device}
-use Rattle.flash_table.specs.Steps.{IsBack}
+use Rattle.flash_rule.proofs.Steps.{look_allowed, trim_allowed, write_allowed, new_allowed, take_allowed, test_allowed, put_allowed, count_allowed}
+use Rattle.flash_rule.proofs.Steps.{close_allowed, get_allowed}
+use Rattle.flash_table.specs.{declared.flash.Flash.Flash, declared.pass.Note.Note, Flash.IsNoteOf, Flash.note_view, Flash.device, Steps.IsBack}
 use Rattle.flash_table.proofs.Asking.{IsSeatOf, Asks, AsksSplit, AsksJoin, slots_of, asks, asks_pin, asks_sector, asks_split, asks_join}
 
 -- the next word of a page that is being filled is one of the table's

@@ -2,25 +2,15 @@
 use Rattle.std.proofs.Common.{◌≡◌, ℕ, ◌+◌, ◌%◌, ◌^◌, ◌<◌, ◌==◌, true, Some, sym, arith}
 use prog.Atomic.{either}
 use mathlib.Core.Option.{none}
-use Rattle.atomic_table.specs.Table.{step}
-use Rattle.atomic_table.specs.declared.shared.Seat.{Seat}
-use Rattle.geometry.specs.MapWords.{map_word}
-use Rattle.geometry.specs.PinWords.{pin_word}
-use Rattle.geometry.specs.TableOrder.{pin_index, page_index}
-use Rattle.geometry.specs.declared.map_word.MapWord.{MapWord}
-use Rattle.geometry.specs.declared.pin_word.PinWord.{PinWord}
-use Rattle.geometry.specs.declared.pin_word.TheConstants.{NEXT_PHASE}
-use Rattle.flash_rule.specs.declared.facts.Owned.{Owned}
-use Rattle.flash_rule.specs.declared.facts.Source.{Source}
-use Rattle.flash_rule.specs.Views.{is_broom}
-use Rattle.flash_rule.specs.declared.view.View.{View}
-use Rattle.flash_rule.specs.BroomPlays.{CanGetStamp, CanMove, CanClaim, CanDrain, CanInspect, broom_look_told, stamp_told, inspect_told}
-use Rattle.flash_rule.specs.BroomPlays.{source_told, move_told, state_told, claim_told, drain_told}
-use Rattle.flash_rule.proofs.ReclaimAllowed.{state_allowed, claim_allowed, drain_allowed}
+use Rattle.atomic_table.specs.{Table.step, declared.shared.Seat.Seat}
+use Rattle.geometry.specs.{MapWords.map_word, PinWords.pin_word, TableOrder.pin_index, TableOrder.page_index}
+use Rattle.geometry.specs.declared.{map_word.MapWord.MapWord, pin_word.PinWord.PinWord, pin_word.TheConstants.NEXT_PHASE}
+use Rattle.flash_rule.specs.{declared.facts.Owned.Owned, declared.facts.Source.Source, declared.view.View.View, Views.is_broom}
+use Rattle.flash_rule.specs.BroomPlays.{CanGetStamp, CanMove, CanClaim, CanDrain, CanInspect, broom_look_told, stamp_told, inspect_told, source_told, move_told}
+use Rattle.flash_rule.specs.BroomPlays.{state_told, claim_told, drain_told}
+use Rattle.flash_rule.proofs.{ReclaimAllowed.state_allowed, ReclaimAllowed.claim_allowed, ReclaimAllowed.drain_allowed, Places.page_within, Places.pin_within}
 use Rattle.flash_rule.proofs.BroomAllowed.{broom_look_allowed, inspect_allowed, stamp_allowed, source_allowed, move_allowed}
-use Rattle.flash_rule.proofs.Places.{page_within, pin_within}
-use Rattle.flash_table.specs.declared.flash.Flash.{Flash}
-use Rattle.flash_table.specs.Flash.{device}
+use Rattle.flash_table.specs.{declared.flash.Flash.Flash, Flash.device}
 use Rattle.flash_table.proofs.Asking.{IsSeatOf, IsPlace, Asks, slots_of, asks, asks_with, asks_pin, asks_sector}
 
 module _ (f : Flash) (x : Seat (Unit {0}) View) (h : IsSeatOf f x) where

@@ -2,22 +2,14 @@
 use Rattle.std.proofs.Common.{◌≡◌, ℕ, ◌+◌, ◌%◌, ◌^◌, ◌==◌, ◌<◌, true}
 use prog.Atomic.{either}
 use mathlib.Core.Option.{none}
-use Rattle.atomic_table.specs.Table.{step}
-use Rattle.atomic_table.specs.declared.shared.Seat.{Seat}
-use Rattle.geometry.specs.PinWords.{pin_word, freed_added, kept_added}
-use Rattle.geometry.specs.TableOrder.{pin_index, page_index}
-use Rattle.geometry.specs.declared.pin_word.PinWord.{PinWord}
-use Rattle.geometry.specs.declared.pin_word.TheConstants.{NEXT_PHASE}
-use Rattle.flash_rule.specs.declared.facts.Owned.{Owned}
-use Rattle.flash_rule.specs.Views.{is_broom}
-use Rattle.flash_rule.specs.World.{blank_word}
-use Rattle.flash_rule.specs.declared.view.View.{View}
+use Rattle.atomic_table.specs.{Table.step, declared.shared.Seat.Seat}
+use Rattle.geometry.specs.{PinWords.pin_word, PinWords.freed_added, PinWords.kept_added, TableOrder.pin_index, TableOrder.page_index}
+use Rattle.geometry.specs.declared.pin_word.{PinWord.PinWord, TheConstants.NEXT_PHASE}
+use Rattle.flash_rule.specs.{declared.facts.Owned.Owned, declared.view.View.View, Views.is_broom, World.blank_word}
 use Rattle.flash_rule.specs.BroomPlays.{CanCondemn, CanWipe, CanRenew, CanRetire, condemn_told, wipe_told, freed_told, kept_told, retired_told}
 use Rattle.flash_rule.proofs.ReclaimAllowed.{condemn_allowed, freed_allowed, kept_allowed, retired_allowed}
-use Rattle.flash_rule.proofs.BroomAllowed.{wipe_allowed}
-use Rattle.flash_rule.proofs.Places.{pin_within}
-use Rattle.flash_table.specs.declared.flash.Flash.{Flash}
-use Rattle.flash_table.specs.Flash.{device}
+use Rattle.flash_rule.proofs.{BroomAllowed.wipe_allowed, Places.pin_within}
+use Rattle.flash_table.specs.{declared.flash.Flash.Flash, Flash.device}
 use Rattle.flash_table.proofs.Asking.{IsSeatOf, IsPlace, Asks, slots_of, asks, asks_with, asks_pin}
 
 module _ (f : Flash) (x : Seat (Unit {0}) View) (h : IsSeatOf f x) where

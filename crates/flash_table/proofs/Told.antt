@@ -1,38 +1,21 @@
 -- What a step's play makes of a pass, and of any seat with an open block.
 use Rattle.std.proofs.Common.{◌≡◌, ℕ, ◌+◌, ◌<◌, Bool, true, false, List, [], ◌∷◌, ◌++◌, length, Option, Some, None, sym, refl, ap, ◌∙◌, subst, arith}
-use Rattle.geometry.specs.PinWords.{FitsPin, pin_word}
-use Rattle.geometry.specs.declared.pin_word.PinWord.{PinWord}
-use Rattle.flash_rule.specs.declared.facts.Owned.{Owned}
-use Rattle.flash_rule.specs.declared.view.View.{View}
-use Rattle.flash_rule.specs.Views.{is_pass, owned_at, with_owned, without}
+use Rattle.geometry.specs.{PinWords.FitsPin, PinWords.pin_word, Limits.Numbers, Geometry.blocks_of, Geometry.pages_of, MapWords.map_word, MapWords.FitsMap}
+use Rattle.geometry.specs.declared.pin_word.{PinWord.PinWord, TheConstants.NEXT_PHASE, TheConstants.PAGE_WRITTEN, TheConstants.READER}
+use Rattle.flash_rule.specs.declared.facts.{Owned.Owned, Work.Work, Pin.TheVariants.Clear, Pin.TheVariants.Candidate, Pin.TheVariants.Accepted}
+use Rattle.flash_rule.specs.{declared.view.View.View, World.data_word, World.Intact, Views.is_pass, Views.owned_at, Views.with_owned, Views.without}
 use Rattle.std.specs.Bool.{MatchBool}
 use mathlib.Core.Option.{none}
-use Rattle.atomic_table.specs.Table.{step}
-use Rattle.atomic_table.specs.declared.shared.Seat.{Seat}
-use Rattle.geometry.specs.Geometry.{blocks_of, pages_of}
-use Rattle.geometry.specs.declared.geometry.Geometry.{Geometry}
-use Rattle.geometry.specs.History.{Write, WriteNew, Trim}
-use Rattle.geometry.specs.Limits.{Numbers}
-use Rattle.geometry.specs.MapWords.{map_word, FitsMap}
-use Rattle.geometry.specs.TableOrder.{pin_index, page_index}
-use Rattle.geometry.specs.declared.map_word.MapWord.{MapWord}
-use Rattle.geometry.specs.declared.map_word.TheConstants.{UNMAPPED}
-use Rattle.geometry.specs.declared.pin_word.TheConstants.{NEXT_PHASE, PAGE_WRITTEN, READER}
-use Rattle.flash_rule.specs.declared.facts.Work.{Work}
-use Rattle.flash_rule.specs.declared.facts.Pin.TheVariants.{Clear, Candidate, Accepted}
-use Rattle.flash_rule.specs.World.{data_word, Intact}
-use Rattle.flash_rule.specs.Plays.{Sitter, Placed, CanPlace, CanPut, CanCount, CanClose, words_in, next_page, write_told, new_told, trim_told}
-use Rattle.flash_rule.specs.Plays.{put_told, count_told, close_told, IsOn, Pinned, pin_told, unpin_told, get_told}
-use Rattle.flash_rule.proofs.Still.{pass_of}
-use Rattle.flash_rule.proofs.Owning.{some_same}
+use Rattle.atomic_table.specs.{Table.step, declared.shared.Seat.Seat}
+use Rattle.geometry.specs.declared.{geometry.Geometry.Geometry, map_word.MapWord.MapWord, map_word.TheConstants.UNMAPPED}
+use Rattle.geometry.specs.{History.Write, History.WriteNew, History.Trim, TableOrder.pin_index, TableOrder.page_index}
+use Rattle.flash_rule.specs.Plays.{Sitter, Placed, CanPlace, CanPut, CanCount, CanClose, words_in, next_page, write_told, new_told, trim_told, put_told}
+use Rattle.flash_rule.specs.Plays.{count_told, close_told, IsOn, Pinned, pin_told, unpin_told, get_told}
+use Rattle.flash_rule.proofs.{Still.pass_of, Points.eq_self, Owning.some_same}
 use Rattle.geometry.proofs.PinBits.{pin_same}
-use Rattle.flash_rule.proofs.Points.{eq_self}
-use Rattle.flash_table.specs.declared.flash.Flash.{Flash}
-use Rattle.flash_table.specs.declared.pass.Pass.{Pass}
-use Rattle.flash_table.specs.declared.pass.OpenBlock.{OpenBlock}
+use Rattle.flash_table.specs.declared.{flash.Flash.Flash, pass.Pass.Pass, pass.OpenBlock.OpenBlock}
 use Rattle.flash_table.specs.Owning.{owned_of, owned_list, closed_as, closed_list}
-use Rattle.flash_table.specs.GivingUp.{closed_pass, left_closed}
-use Rattle.flash_table.specs.Steps.{CanGiveUp, IsFilled, IsNextWord}
+use Rattle.flash_table.specs.{GivingUp.closed_pass, GivingUp.left_closed, Steps.CanGiveUp, Steps.IsFilled, Steps.IsNextWord}
 use Rattle.flash_table.specs.Flash.{IsPassOf, Strayed, view_of, device}
 use Rattle.flash_table.proofs.Asking.{IsSeatOf, slots_of}
 

@@ -1,44 +1,26 @@
 -- What a step's play makes of a broom's seat.
-use Rattle.std.specs.Prelude.{◌&&◌, Bool, false}
-use Rattle.flash_rule.specs.BroomPlays.{Inspected, is_page_of}
-use Rattle.flash_table.specs.Inspecting.{InspectTold}
-use Rattle.std.proofs.Common.{◌≡◌, ℕ, ◌+◌, ◌<◌, ◌≤◌, ◌⊎◌, inl, inr, ⊎_elim, ◌==◌, eq-eqb, ne_eqb, true, [], ◌∷◌, ◌++◌, List}
-use Rattle.std.proofs.Common.{Option, None, Some, IfSome, IfNone, sym, refl, ap, ◌∙◌, subst, arith}
-use Rattle.std.specs.Bool.{MatchBool}
+use Rattle.std.specs.{Prelude.◌&&◌, Prelude.Bool, Prelude.false, Bool.MatchBool}
+use Rattle.flash_rule.specs.BroomPlays.{Inspected, is_page_of, GotStamp, CanGetStamp, CanMove, Moved, stamp_told, source_told, move_told, Loaded, IsLastLoaded}
+use Rattle.flash_rule.specs.BroomPlays.{IsInspected, CanClaim, Claimed, CanDrain, state_told, claim_told, drain_told}
+use Rattle.flash_table.specs.{Inspecting.InspectTold, declared.flash.Flash.Flash}
+use Rattle.std.proofs.Common.{◌≡◌, ℕ, ◌+◌, ◌<◌, ◌≤◌, ◌⊎◌, inl, inr, ⊎_elim, ◌==◌, eq-eqb, ne_eqb, true, [], ◌∷◌, ◌++◌, List, Option, None, Some, IfSome, IfNone}
+use Rattle.std.proofs.Common.{sym, refl, ap, ◌∙◌, subst, arith}
 use mathlib.Core.Option.{none}
 use mathlib.Core.Logic.{dite}
 use native.Mathlib.Decide.{ℕ_discrete, dec_lt}
 use Rattle.atomic_table.specs.Table.{step}
-use Rattle.geometry.specs.Limits.{Numbers}
-use Rattle.geometry.specs.MapWords.{map_word, FitsMap}
-use Rattle.geometry.specs.declared.map_word.MapWord.{MapWord}
-use Rattle.geometry.specs.declared.map_word.TheConstants.{MAPPED}
-use Rattle.geometry.specs.PinWords.{pin_word, FitsPin}
-use Rattle.geometry.specs.TableOrder.{pin_index, page_index}
-use Rattle.geometry.specs.declared.pin_word.PinWord.{PinWord}
-use Rattle.geometry.specs.declared.pin_word.Phase.{Phase}
+use Rattle.geometry.specs.{Limits.Numbers, MapWords.map_word, MapWords.FitsMap, declared.map_word.MapWord.MapWord, declared.map_word.TheConstants.MAPPED}
+use Rattle.geometry.specs.{PinWords.pin_word, PinWords.FitsPin, TableOrder.pin_index, TableOrder.page_index}
+use Rattle.geometry.specs.declared.pin_word.{PinWord.PinWord, Phase.Phase, TheConstants.NEXT_PHASE}
 use Rattle.geometry.specs.declared.pin_word.Phase.TheVariants.{Free, Open, Closed, Victim, Drained, Erasing, Retired}
-use Rattle.geometry.specs.declared.pin_word.TheConstants.{NEXT_PHASE}
-use Rattle.flash_rule.specs.declared.facts.Owned.{Owned}
-use Rattle.flash_rule.specs.declared.facts.Source.{Source}
-use Rattle.flash_rule.specs.declared.view.View.{View}
-use Rattle.flash_rule.specs.Views.{is_broom}
-use Rattle.flash_rule.specs.Plays.{Sitter}
-use Rattle.flash_rule.specs.BroomPlays.{GotStamp, CanGetStamp, CanMove, Moved, stamp_told, source_told, move_told, Loaded}
-use Rattle.flash_rule.specs.BroomPlays.{IsLastLoaded, IsInspected, CanClaim, Claimed, CanDrain, state_told, claim_told, drain_told}
-use Rattle.flash_rule.specs.World.{data_word, sector_word}
+use Rattle.flash_rule.specs.declared.{facts.Owned.Owned, facts.Source.Source, view.View.View}
+use Rattle.flash_rule.specs.{Views.is_broom, Plays.Sitter, World.data_word, World.sector_word}
 use Rattle.flash_rule.proofs.Owning.{some_same}
-use Rattle.flash_table.specs.declared.flash.Flash.{Flash}
-use Rattle.flash_table.specs.declared.broom_seat.BroomSeat.{BroomSeat}
-use Rattle.flash_table.specs.declared.broom_seat.ReclaimedBlock.{ReclaimedBlock}
-use Rattle.flash_table.specs.declared.broom_seat.Reclaiming.{Reclaiming}
-use Rattle.flash_table.specs.declared.broom_seat.Reclaiming.TheVariants as reclaiming
-use Rattle.flash_table.specs.Owning.{reclaimed_as}
-use Rattle.flash_table.specs.GivingUp.{left_drained}
-use Rattle.flash_table.specs.Steps.{HasInspected, IsCleared}
+use Rattle.flash_table.specs.declared.broom_seat.{BroomSeat.BroomSeat, Reclaiming.Reclaiming, ReclaimedBlock.ReclaimedBlock}
+use Rattle.flash_table.specs.{Owning.reclaimed_as, GivingUp.left_drained, Steps.HasInspected, Steps.IsCleared}
 use Rattle.flash_table.specs.Flash.{IsBroomOf, broom_view, own_blocks, device, geometry_of}
-use Rattle.flash_table.proofs.Blocks.{all_open, draining_at}
-use Rattle.flash_table.proofs.Asking.{slots_of}
+use Rattle.flash_table.proofs.{Blocks.all_open, Blocks.draining_at, Asking.slots_of}
+use Rattle.flash_table.specs.declared.broom_seat.Reclaiming.TheVariants as reclaiming
 
 -- a map word that was found is that of what it was unpacked to
 pub unpacked : (r : Option MapWord) (n : ℕ) → IfSome r (λ p. FitsMap p × (map_word p ≡ n)) → IfNone r (n < MAPPED)

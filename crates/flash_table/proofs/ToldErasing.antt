@@ -2,30 +2,18 @@
 use Rattle.std.proofs.Common.{◌≡◌, ℕ, ◌+◌, ◌*◌, ◌<◌, sym, refl, ap, ◌∙◌, subst, arith}
 use mathlib.Core.Option.{none}
 use Rattle.atomic_table.specs.Table.{step}
-use Rattle.geometry.specs.Limits.{Numbers, table_words_of}
-use Rattle.geometry.specs.PinWords.{pin_word}
-use Rattle.geometry.specs.TableOrder.{pin_index, page_index}
-use Rattle.geometry.specs.declared.pin_word.PinWord.{PinWord}
-use Rattle.geometry.specs.declared.pin_word.Phase.TheVariants.{Erasing}
-use Rattle.geometry.specs.declared.pin_word.TheConstants.{NEXT_PHASE}
-use Rattle.flash_rule.specs.Views.{with_owned}
-use Rattle.flash_rule.specs.World.{blank_word}
-use Rattle.flash_rule.specs.Plays.{Sitter}
-use Rattle.flash_rule.specs.BroomPlays.{CanCondemn, Condemned, IsErasing, CanWipe, CanRenew, CanRetire}
-use Rattle.flash_rule.specs.BroomPlays.{condemn_told, wipe_told, freed_told, kept_told, retired_told}
-use Rattle.flash_rule.proofs.Places.{page_within}
-use Rattle.flash_rule.proofs.Wiping.{row_of, wiped_index}
-use Rattle.flash_table.specs.declared.flash.Flash.{Flash}
-use Rattle.flash_table.specs.declared.broom_seat.BroomSeat.{BroomSeat}
-use Rattle.flash_table.specs.declared.broom_seat.ReclaimedBlock.{ReclaimedBlock}
-use Rattle.flash_table.specs.declared.broom_seat.Reclaiming.{Reclaiming}
-use Rattle.flash_table.specs.declared.broom_seat.Reclaiming.TheVariants as reclaiming
-use Rattle.flash_table.specs.GivingUp.{left_free, left_retired}
-use Rattle.flash_table.specs.Owning.{owned_of, reclaimed_as}
+use Rattle.geometry.specs.{Limits.Numbers, Limits.table_words_of, PinWords.pin_word, TableOrder.pin_index, TableOrder.page_index}
+use Rattle.geometry.specs.declared.pin_word.{PinWord.PinWord, TheConstants.NEXT_PHASE, Phase.TheVariants.Erasing}
+use Rattle.flash_rule.specs.{Views.with_owned, Plays.Sitter, World.blank_word}
+use Rattle.flash_rule.specs.BroomPlays.{CanCondemn, Condemned, IsErasing, CanWipe, CanRenew, CanRetire, condemn_told, wipe_told, freed_told, kept_told}
+use Rattle.flash_rule.specs.BroomPlays.{retired_told}
+use Rattle.flash_rule.proofs.{Places.page_within, Wiping.row_of, Wiping.wiped_index}
+use Rattle.flash_table.specs.{declared.flash.Flash.Flash, Owning.owned_of, Owning.reclaimed_as, GivingUp.left_free, GivingUp.left_retired}
+use Rattle.flash_table.specs.declared.broom_seat.{BroomSeat.BroomSeat, Reclaiming.Reclaiming, ReclaimedBlock.ReclaimedBlock}
 use Rattle.flash_table.specs.Flash.{IsBroomOf, broom_view, own_blocks, device}
 use Rattle.flash_table.specs.Erasing.{IsUnread, CanLiveOn, IsLastErase, words_in_block}
-use Rattle.flash_table.proofs.Asking.{slots_of}
-use Rattle.flash_table.proofs.Blocks.{all_open, erasing_at}
+use Rattle.flash_table.proofs.{Asking.slots_of, Blocks.all_open, Blocks.erasing_at}
+use Rattle.flash_table.specs.declared.broom_seat.Reclaiming.TheVariants as reclaiming
 
 -- a broom erases one block
 pub same_erased : (r : Reclaiming) (o x : ReclaimedBlock) → r ≡ reclaiming.Erasing o → r ≡ reclaiming.Erasing x → o ≡ x

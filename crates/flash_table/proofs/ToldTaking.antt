@@ -3,18 +3,11 @@ use Rattle.std.proofs.Common.{◌≡◌, ℕ, ◌+◌, ◌<◌, ◌∷◌, Optio
 use Rattle.std.specs.Prelude.{MatchOption}
 use mathlib.Core.Option.{none}
 use Rattle.atomic_table.specs.Table.{step}
-use Rattle.geometry.specs.Limits.{Numbers}
-use Rattle.geometry.specs.PinWords.{FitsPin, pin_word}
-use Rattle.geometry.specs.TableOrder.{pin_index}
-use Rattle.geometry.specs.declared.pin_word.PinWord.{PinWord}
-use Rattle.geometry.specs.declared.pin_word.Phase.TheVariants.{Free}
-use Rattle.geometry.specs.declared.pin_word.TheConstants.{TAKEN}
+use Rattle.geometry.specs.{Limits.Numbers, TableOrder.pin_index, PinWords.FitsPin, PinWords.pin_word}
+use Rattle.geometry.specs.declared.pin_word.{PinWord.PinWord, TheConstants.TAKEN, Phase.TheVariants.Free}
 use Rattle.geometry.proofs.PinBits.{pin_same}
-use Rattle.flash_rule.specs.declared.view.View.{View}
-use Rattle.flash_rule.specs.Plays.{Sitter, Tested, Took, take_told, test_told}
-use Rattle.flash_table.specs.Owning.{owned_of}
-use Rattle.flash_table.specs.Spares.{fresh_block}
-use Rattle.flash_table.specs.Taking.{FoundTaken, TookFree}
+use Rattle.flash_rule.specs.{declared.view.View.View, Plays.Sitter, Plays.Tested, Plays.Took, Plays.take_told, Plays.test_told}
+use Rattle.flash_table.specs.{Owning.owned_of, Spares.fresh_block, Taking.FoundTaken, Taking.TookFree}
 use Rattle.flash_table.proofs.Rows.{stays_without}
 
 -- the word is that of a free block in this generation, or of no free block

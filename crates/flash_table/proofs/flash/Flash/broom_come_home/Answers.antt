@@ -1,6 +1,5 @@
 use Rattle.std.proofs.Common.{refl}
-use Rattle.flash_table.proofs.Asking.{of_broom}
-use Rattle.flash_table.proofs.Here.{home_here}
+use Rattle.flash_table.proofs.{Asking.of_broom, Here.home_here}
 use Rattle.flash_table.proofs.flash.Flash.broom_come_home.Goals as goal
 
 pub join_seat-requires : goal.join_seat-requires

@@ -1,8 +1,6 @@
 use Rattle.std.proofs.Common.{◌∙◌, ap, refl}
 use Rattle.flash_rule.specs.declared.view.View.{View}
-use Rattle.flash_table.proofs.Asking.{of_broom}
-use Rattle.flash_table.proofs.Here.{give_here}
-use Rattle.flash_table.proofs.Rows.{just_now}
+use Rattle.flash_table.proofs.{Asking.of_broom, Here.give_here, Rows.just_now}
 use Rattle.flash_table.proofs.flash.Flash.broom_give_back.Goals as goal
 
 pub split_seat-seat-requires : goal.split_seat-seat-requires

@@ -1,8 +1,6 @@
 use Rattle.std.proofs.Common.{◌∙◌, ap, refl}
 use Rattle.flash_rule.specs.declared.view.View.{View}
-use Rattle.flash_table.proofs.Asking.{of_broom}
-use Rattle.flash_table.proofs.Here.{lend_here}
-use Rattle.flash_table.proofs.Rows.{just_now}
+use Rattle.flash_table.proofs.{Asking.of_broom, Here.lend_here, Rows.just_now}
 use Rattle.flash_table.proofs.flash.Flash.broom_lend.Goals as goal
 
 pub split_seat-seat-requires : goal.split_seat-seat-requires

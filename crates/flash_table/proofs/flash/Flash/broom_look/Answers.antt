@@ -1,12 +1,7 @@
-use Rattle.std.proofs.Common.{ap, ◌∙◌, subst, arith}
-use Rattle.flash_rule.specs.declared.view.View.{View}
-use Rattle.flash_rule.specs.BroomPlays.{Named}
+use Rattle.std.proofs.{Common.ap, Common.◌∙◌, Common.subst, Common.arith, lemmas.Grind.common_steps}
+use Rattle.flash_rule.specs.{declared.view.View.View, BroomPlays.Named}
 use Rattle.flash_table.specs.Flash.{broom_view}
-use Rattle.flash_table.proofs.Asking.{of_broom}
-use Rattle.flash_table.proofs.Rows.{just_now}
-use Rattle.flash_table.proofs.HereBrooms.{broom_look_here}
-use Rattle.flash_table.proofs.ToldBrooms.{stays_broom, unpacked}
-use Rattle.std.proofs.lemmas.Grind.{common_steps}
+use Rattle.flash_table.proofs.{Asking.of_broom, Rows.just_now, HereBrooms.broom_look_here, ToldBrooms.stays_broom, ToldBrooms.unpacked}
 use Rattle.flash_table.proofs.flash.Flash.broom_look.Goals as goal
 
 pub load-found-requires : goal.load-found-requires

@@ -1,6 +1,5 @@
 use Rattle.std.proofs.Common.{refl}
-use Rattle.flash_table.proofs.Asking.{of_broom}
-use Rattle.flash_table.proofs.Here.{take_in_here}
+use Rattle.flash_table.proofs.{Asking.of_broom, Here.take_in_here}
 use Rattle.flash_table.proofs.flash.Flash.broom_take_in.Goals as goal
 
 pub join_seat-requires : goal.join_seat-requires

@@ -1,15 +1,9 @@
 use Rattle.std.proofs.Common.{ap, sym, ◌∙◌}
-use Rattle.flash_rule.specs.declared.view.View.{View}
-use Rattle.flash_rule.specs.BroomPlays.{Claimed}
-use Rattle.flash_table.specs.Flash.{broom_view, own_blocks}
-use Rattle.flash_table.specs.declared.broom_seat.ReclaimedBlock.{ReclaimedBlock}
-use Rattle.flash_table.proofs.Asking.{of_broom}
-use Rattle.flash_table.proofs.Rows.{just_now}
-use Rattle.flash_table.proofs.HereBrooms.{claim_here}
-use Rattle.flash_table.proofs.Blocks.{claimed_just}
+use Rattle.flash_rule.specs.{declared.view.View.View, BroomPlays.Claimed}
+use Rattle.flash_table.specs.{Flash.broom_view, Flash.own_blocks, declared.broom_seat.ReclaimedBlock.ReclaimedBlock}
+use Rattle.flash_table.proofs.{Asking.of_broom, Rows.just_now, HereBrooms.claim_here, Blocks.claimed_just, flash.Flash.claim.Goals.After-compare_exchange-found}
 use Rattle.flash_table.proofs.ToldBrooms.{is_a_broom, stays_broom, claim_can, claimed_view}
 use Rattle.flash_table.proofs.flash.Flash.claim.Goals as goal
-use Rattle.flash_table.proofs.flash.Flash.claim.Goals.{After-compare_exchange-found}
 
 pub compare_exchange-found-requires : goal.compare_exchange-found-requires
 compare_exchange-found-requires c =

@@ -1,13 +1,9 @@
 use Rattle.std.proofs.Common.{◌≡◌, ap, ◌∙◌}
 use Rattle.flash_rule.specs.declared.view.View.{View}
-use Rattle.flash_table.specs.Flash.{view_of}
-use Rattle.flash_table.specs.GivingUp.{closed_pass}
-use Rattle.flash_table.specs.Owning.{owned_of}
-use Rattle.flash_table.proofs.Asking.{of_pass}
-use Rattle.flash_table.proofs.Here.{close_here}
+use Rattle.flash_table.specs.{Flash.view_of, Owning.owned_of, GivingUp.closed_pass}
+use Rattle.flash_table.proofs.{Asking.of_pass, Here.close_here, flash.Flash.close.Goals.After-fetch_add}
 use Rattle.flash_table.proofs.Told.{stays_pass, close_can, close_view, pass_closed}
 use Rattle.flash_table.proofs.flash.Flash.close.Goals as goal
-use Rattle.flash_table.proofs.flash.Flash.close.Goals.{After-fetch_add}
 
 pub fetch_add-requires : goal.fetch_add-requires
 fetch_add-requires c =

@@ -1,16 +1,9 @@
 use Rattle.std.proofs.Common.{◌≡◌, ap, ◌∙◌}
 use Rattle.flash_rule.specs.declared.view.View.{View}
-use Rattle.flash_table.specs.Flash.{broom_view, own_blocks}
-use Rattle.flash_table.specs.GivingUp.{left_closed}
-use Rattle.flash_table.specs.Owning.{owned_of}
-use Rattle.flash_table.proofs.Asking.{of_broom}
-use Rattle.flash_table.proofs.Here.{close_here}
-use Rattle.flash_table.proofs.Blocks.{closed_just}
-use Rattle.flash_table.proofs.Rows.{just_now}
-use Rattle.flash_table.proofs.Told.{same_block, close_can, close_view}
-use Rattle.flash_table.proofs.ToldBrooms.{stays_broom}
+use Rattle.flash_table.specs.{Flash.broom_view, Flash.own_blocks, GivingUp.left_closed, Owning.owned_of}
+use Rattle.flash_table.proofs.{Asking.of_broom, Rows.just_now, ToldBrooms.stays_broom, flash.Flash.close_destination.Goals.After-fetch_add}
+use Rattle.flash_table.proofs.{Here.close_here, Blocks.closed_just, Told.same_block, Told.close_can, Told.close_view}
 use Rattle.flash_table.proofs.flash.Flash.close_destination.Goals as goal
-use Rattle.flash_table.proofs.flash.Flash.close_destination.Goals.{After-fetch_add}
 
 pub fetch_add-requires : goal.fetch_add-requires
 fetch_add-requires c =

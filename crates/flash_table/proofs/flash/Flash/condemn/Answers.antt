@@ -1,16 +1,10 @@
 use Rattle.std.proofs.Common.{sym, refl, ap, ◌∙◌}
-use Rattle.flash_rule.specs.declared.view.View.{View}
-use Rattle.flash_rule.specs.BroomPlays.{Condemned}
-use Rattle.flash_table.specs.Flash.{broom_view, own_blocks}
-use Rattle.flash_table.specs.declared.broom_seat.ReclaimedBlock.{ReclaimedBlock}
-use Rattle.flash_table.proofs.Asking.{of_broom}
-use Rattle.flash_table.proofs.HereErasing.{condemn_here}
-use Rattle.flash_table.proofs.Blocks.{condemned_just}
-use Rattle.flash_table.proofs.Rows.{just_now}
-use Rattle.flash_table.proofs.ToldBrooms.{is_a_broom, stays_broom}
-use Rattle.flash_table.proofs.ToldErasing.{can_condemn, condemned}
-use Rattle.flash_table.proofs.flash.Flash.condemn.Goals as goal
+use Rattle.flash_rule.specs.{declared.view.View.View, BroomPlays.Condemned}
+use Rattle.flash_table.specs.{Flash.broom_view, Flash.own_blocks, declared.broom_seat.ReclaimedBlock.ReclaimedBlock}
+use Rattle.flash_table.proofs.{Asking.of_broom, Rows.just_now, ToldBrooms.is_a_broom, ToldBrooms.stays_broom}
+use Rattle.flash_table.proofs.{HereErasing.condemn_here, Blocks.condemned_just, ToldErasing.can_condemn, ToldErasing.condemned}
 use Rattle.flash_table.proofs.flash.Flash.condemn.Goals.{After-compare_exchange-found}
+use Rattle.flash_table.proofs.flash.Flash.condemn.Goals as goal
 
 pub compare_exchange-found-requires : goal.compare_exchange-found-requires
 compare_exchange-found-requires c =

@@ -1,16 +1,10 @@
 use Rattle.std.proofs.Common.{◌≡◌, ◌+◌, ◌∷◌, ◌++◌, [], Some, ap, ◌∙◌}
-use Rattle.flash_rule.specs.declared.facts.Work.{Work}
-use Rattle.flash_rule.specs.declared.view.View.{View}
-use Rattle.flash_rule.specs.Plays.{CanCount}
+use Rattle.flash_rule.specs.{declared.facts.Work.Work, declared.view.View.View, Plays.CanCount}
 use Rattle.geometry.specs.TableOrder.{pin_index}
-use Rattle.flash_table.specs.Flash.{device, view_of}
-use Rattle.flash_table.specs.Owning.{owned_of}
-use Rattle.flash_table.specs.declared.pass.OpenBlock.{OpenBlock}
-use Rattle.flash_table.proofs.Asking.{of_pass}
-use Rattle.flash_table.proofs.Here.{count_here}
+use Rattle.flash_table.specs.{Flash.device, Flash.view_of, Owning.owned_of, declared.pass.OpenBlock.OpenBlock}
+use Rattle.flash_table.proofs.{Asking.of_pass, Here.count_here, flash.Flash.count.Goals.After-fetch_add}
 use Rattle.flash_table.proofs.Told.{same_block, stays_pass, count_can, count_view, pass_counted}
 use Rattle.flash_table.proofs.flash.Flash.count.Goals as goal
-use Rattle.flash_table.proofs.flash.Flash.count.Goals.{After-fetch_add}
 
 pub fetch_add-requires : goal.fetch_add-requires
 fetch_add-requires c =

@@ -1,21 +1,11 @@
 use Rattle.std.proofs.Common.{◌≡◌, ◌+◌, ◌∷◌, ◌++◌, [], Some, refl, ap, ◌∙◌}
 use Rattle.geometry.specs.TableOrder.{pin_index}
-use Rattle.flash_rule.specs.declared.facts.Work.{Work}
-use Rattle.flash_rule.specs.declared.view.View.{View}
-use Rattle.flash_rule.specs.Plays.{CanCount}
-use Rattle.flash_rule.specs.Views.{with_owned}
-use Rattle.flash_table.specs.Flash.{device, broom_view, own_blocks}
-use Rattle.flash_table.specs.Owning.{owned_of}
-use Rattle.flash_table.specs.declared.pass.OpenBlock.{OpenBlock}
-use Rattle.flash_table.specs.declared.broom_seat.BroomBlocks.{BroomBlocks}
-use Rattle.flash_table.proofs.Asking.{of_broom}
-use Rattle.flash_table.proofs.Here.{count_here}
-use Rattle.flash_table.proofs.Blocks.{counted_just}
-use Rattle.flash_table.proofs.Rows.{just_now}
-use Rattle.flash_table.proofs.Told.{same_block, count_can, count_view}
-use Rattle.flash_table.proofs.ToldBrooms.{stays_broom}
+use Rattle.flash_rule.specs.{declared.facts.Work.Work, declared.view.View.View, Plays.CanCount, Views.with_owned}
+use Rattle.flash_table.specs.{Flash.device, Flash.broom_view, Flash.own_blocks, Owning.owned_of}
+use Rattle.flash_table.specs.declared.{pass.OpenBlock.OpenBlock, broom_seat.BroomBlocks.BroomBlocks}
+use Rattle.flash_table.proofs.{Asking.of_broom, Rows.just_now, ToldBrooms.stays_broom, Told.same_block, Told.count_can, Told.count_view}
+use Rattle.flash_table.proofs.{Here.count_here, Blocks.counted_just, flash.Flash.count_copy.Goals.After-fetch_add}
 use Rattle.flash_table.proofs.flash.Flash.count_copy.Goals as goal
-use Rattle.flash_table.proofs.flash.Flash.count_copy.Goals.{After-fetch_add}
 
 pub fetch_add-requires : goal.fetch_add-requires
 fetch_add-requires c =

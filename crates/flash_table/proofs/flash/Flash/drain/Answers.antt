@@ -1,16 +1,10 @@
 use Rattle.std.proofs.Common.{◌≡◌, ap, ◌∙◌}
 use Rattle.geometry.specs.declared.pin_word.Phase.TheVariants.{Victim}
 use Rattle.flash_rule.specs.declared.view.View.{View}
-use Rattle.flash_table.specs.GivingUp.{left_drained}
-use Rattle.flash_table.specs.Flash.{broom_view, own_blocks}
-use Rattle.flash_table.specs.Owning.{reclaimed_as}
-use Rattle.flash_table.proofs.Asking.{of_broom}
-use Rattle.flash_table.proofs.HereBrooms.{drain_here}
-use Rattle.flash_table.proofs.Blocks.{drained_just}
-use Rattle.flash_table.proofs.Rows.{just_now}
+use Rattle.flash_table.specs.{GivingUp.left_drained, Owning.reclaimed_as, Flash.broom_view, Flash.own_blocks}
+use Rattle.flash_table.proofs.{Asking.of_broom, Rows.just_now, flash.Flash.drain.Goals.After-fetch_add, HereBrooms.drain_here, Blocks.drained_just}
 use Rattle.flash_table.proofs.ToldBrooms.{stays_broom, draining_same, drain_can, drained_view}
 use Rattle.flash_table.proofs.flash.Flash.drain.Goals as goal
-use Rattle.flash_table.proofs.flash.Flash.drain.Goals.{After-fetch_add}
 
 pub fetch_add-requires : goal.fetch_add-requires
 fetch_add-requires c =

@@ -1,22 +1,12 @@
 use Rattle.std.proofs.Common.{◌≡◌, ◌+◌, ◌<◌, ℕ, ap, ◌∙◌, subst}
-use Rattle.geometry.specs.Geometry.{blocks_of}
-use Rattle.geometry.specs.TableOrder.{page_index}
-use Rattle.geometry.specs.declared.pin_word.Phase.TheVariants.{Victim}
-use Rattle.flash_rule.specs.declared.view.View.{View}
-use Rattle.flash_rule.specs.BroomPlays.{GotStamp}
-use Rattle.flash_table.specs.Flash.{device, broom_view, own_blocks, geometry_of}
-use Rattle.flash_table.specs.Owning.{reclaimed_as}
-use Rattle.flash_table.specs.Steps.{IsOfVictim}
-use Rattle.flash_table.specs.declared.broom_seat.BroomSeat.{BroomSeat}
-use Rattle.flash_table.specs.declared.broom_seat.ReclaimedBlock.{ReclaimedBlock}
-use Rattle.flash_table.specs.declared.broom_seat.Reclaiming.TheVariants as reclaiming
-use Rattle.flash_table.specs.declared.flash.Flash.{Flash}
-use Rattle.flash_table.proofs.Asking.{of_broom}
-use Rattle.flash_table.proofs.Rows.{just_now}
-use Rattle.flash_table.proofs.HereBrooms.{stamp_here}
+use Rattle.geometry.specs.{Geometry.blocks_of, TableOrder.page_index, declared.pin_word.Phase.TheVariants.Victim}
+use Rattle.flash_rule.specs.{declared.view.View.View, BroomPlays.GotStamp}
+use Rattle.flash_table.specs.{Flash.device, Flash.broom_view, Flash.own_blocks, Flash.geometry_of, Owning.reclaimed_as, Steps.IsOfVictim}
+use Rattle.flash_table.specs.declared.{broom_seat.BroomSeat.BroomSeat, broom_seat.ReclaimedBlock.ReclaimedBlock, flash.Flash.Flash}
+use Rattle.flash_table.proofs.{Asking.of_broom, Rows.just_now, HereBrooms.stamp_here, flash.Flash.get_stamp.Goals.After-load}
 use Rattle.flash_table.proofs.ToldBrooms.{stays_broom, of_draining, draining_same, stamp_can, stamp_view, stamp_changed}
+use Rattle.flash_table.specs.declared.broom_seat.Reclaiming.TheVariants as reclaiming
 use Rattle.flash_table.proofs.flash.Flash.get_stamp.Goals as goal
-use Rattle.flash_table.proofs.flash.Flash.get_stamp.Goals.{After-load}
 
 written : (f : Flash) (s : BroomSeat) (o : ReclaimedBlock) (page : ℕ) → (own_blocks s).reclaiming ≡ reclaiming.Draining o
     → IsOfVictim (geometry_of f) (own_blocks s) page → (o.block < blocks_of (geometry_of f)) × (page < o.written)

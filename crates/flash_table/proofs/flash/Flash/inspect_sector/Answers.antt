@@ -1,8 +1,6 @@
 use Rattle.std.proofs.Common.{ap, ◌∙◌}
 use Rattle.flash_rule.specs.declared.view.View.{View}
-use Rattle.flash_table.proofs.Asking.{of_broom}
-use Rattle.flash_table.proofs.Rows.{just_now}
-use Rattle.flash_table.proofs.HereBrooms.{inspect_here}
+use Rattle.flash_table.proofs.{Asking.of_broom, Rows.just_now, HereBrooms.inspect_here}
 use Rattle.flash_table.proofs.ToldBrooms.{is_a_broom, stays_broom, inspected_by, inspected_changed}
 use Rattle.flash_table.proofs.flash.Flash.inspect_sector.Goals as goal
 

@@ -1,16 +1,11 @@
 use Rattle.std.proofs.Common.{◌≡◌, ap, sym, ◌∙◌, arith}
-use Rattle.geometry.specs.Limits.{Numbers}
-use Rattle.geometry.specs.declared.pin_word.PinWord.{PinWord}
+use Rattle.geometry.specs.{Limits.Numbers, declared.pin_word.PinWord.PinWord}
 use Rattle.geometry.proofs.PinBits.{pin_same}
-use Rattle.flash_rule.specs.declared.view.View.{View}
-use Rattle.flash_rule.specs.BroomPlays.{Loaded}
+use Rattle.flash_rule.specs.{declared.view.View.View, BroomPlays.Loaded}
 use Rattle.flash_table.specs.Flash.{device, broom_view}
-use Rattle.flash_table.proofs.Asking.{of_broom}
-use Rattle.flash_table.proofs.Rows.{just_now}
-use Rattle.flash_table.proofs.HereBrooms.{state_here}
+use Rattle.flash_table.proofs.{Asking.of_broom, Rows.just_now, HereBrooms.state_here, flash.Flash.load_state.Goals.After-load-found}
 use Rattle.flash_table.proofs.ToldBrooms.{is_a_broom, stays_broom, loaded_view, loaded_changed}
 use Rattle.flash_table.proofs.flash.Flash.load_state.Goals as goal
-use Rattle.flash_table.proofs.flash.Flash.load_state.Goals.{After-load-found}
 
 pub load-found-requires : goal.load-found-requires
 load-found-requires c =

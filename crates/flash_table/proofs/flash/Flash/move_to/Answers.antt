@@ -1,15 +1,10 @@
 use Rattle.std.proofs.Common.{◌≡◌, ap, sym, ◌∙◌, subst}
 use Rattle.geometry.specs.MapWords.{map_word}
-use Rattle.flash_rule.specs.declared.facts.Source.{Source}
-use Rattle.flash_rule.specs.declared.view.View.{View}
-use Rattle.flash_rule.specs.BroomPlays.{Moved}
+use Rattle.flash_rule.specs.{declared.facts.Source.Source, declared.view.View.View, BroomPlays.Moved}
 use Rattle.flash_table.specs.Flash.{broom_view}
-use Rattle.flash_table.proofs.Asking.{of_broom}
-use Rattle.flash_table.proofs.Rows.{just_now}
-use Rattle.flash_table.proofs.HereBrooms.{move_here}
+use Rattle.flash_table.proofs.{Asking.of_broom, Rows.just_now, HereBrooms.move_here, flash.Flash.move_to.Goals.After-compare_exchange-found}
 use Rattle.flash_table.proofs.ToldBrooms.{stays_broom, source_same, moved_view, found_or_not}
 use Rattle.flash_table.proofs.flash.Flash.move_to.Goals as goal
-use Rattle.flash_table.proofs.flash.Flash.move_to.Goals.{After-compare_exchange-found}
 
 pub compare_exchange-found-requires : goal.compare_exchange-found-requires
 compare_exchange-found-requires c =

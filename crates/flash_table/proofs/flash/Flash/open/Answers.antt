@@ -1,14 +1,9 @@
 use Rattle.std.proofs.Common.{◌≡◌, ℕ, zero, suc, ◌+◌, ◌-◌, ◌<◌, List, [], None, Some, length, slice_get, sym, refl, ap, ◌∙◌, subst, arith}
 use Rattle.atomic_table.specs.Table.{opening}
-use Rattle.geometry.specs.Geometry.{numbers_of}
-use Rattle.geometry.specs.Limits.{Numbers}
-use Rattle.flash_rule.specs.declared.view.View.{View}
-use Rattle.flash_rule.specs.Seats.{Ruled, dealer}
-use Rattle.flash_rule.proofs.Opening.{opening_ruled}
-use Rattle.flash_rule.proofs.Owning.{none_some}
-use Rattle.flash_table.specs.declared.pass.Pass.{Pass}
-use Rattle.flash_table.specs.Flash.{spare_of}
-use Rattle.flash_table.specs.declared.broom_seat.Reclaiming.TheVariants.{Nothing}
+use Rattle.geometry.specs.{Geometry.numbers_of, Limits.Numbers}
+use Rattle.flash_rule.specs.{declared.view.View.View, Seats.Ruled, Seats.dealer}
+use Rattle.flash_rule.proofs.{Opening.opening_ruled, Owning.none_some}
+use Rattle.flash_table.specs.{declared.pass.Pass.Pass, declared.broom_seat.Reclaiming.TheVariants.Nothing, Flash.spare_of}
 use Rattle.flash_table.proofs.Dealing.{deal_here, deals_next, no_broom_yet, next_owned, deal_broom_here, deals_next_broom}
 use Rattle.std.proofs.lemmas.Grind.{common_steps}
 use Rattle.flash_table.proofs.flash.Flash.open.Goals as goal

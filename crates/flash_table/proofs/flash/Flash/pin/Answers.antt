@@ -1,13 +1,9 @@
 use Rattle.std.proofs.Common.{◌≡◌, ℕ, List, ap, ◌∙◌}
-use Rattle.flash_rule.specs.declared.facts.Pin.TheVariants.{Candidate}
-use Rattle.flash_rule.specs.declared.view.View.{View}
-use Rattle.flash_rule.specs.Plays.{Pinned}
+use Rattle.flash_rule.specs.{declared.facts.Pin.TheVariants.Candidate, declared.view.View.View, Plays.Pinned}
 use Rattle.flash_table.specs.Flash.{view_of}
-use Rattle.flash_table.proofs.Asking.{of_pass}
-use Rattle.flash_table.proofs.Here.{pin_here}
+use Rattle.flash_table.proofs.{Asking.of_pass, Here.pin_here, flash.Flash.pin.Goals.After-fetch_add-found}
 use Rattle.flash_table.proofs.Told.{stays_pass, by_outcome, pin_pinned, pin_yes, pin_no}
 use Rattle.flash_table.proofs.flash.Flash.pin.Goals as goal
-use Rattle.flash_table.proofs.flash.Flash.pin.Goals.{After-fetch_add-found}
 
 pub fetch_add-found-requires : goal.fetch_add-found-requires
 fetch_add-found-requires c =

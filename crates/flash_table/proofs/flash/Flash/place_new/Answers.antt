@@ -1,14 +1,10 @@
 use Rattle.std.proofs.Common.{ℕ, List, refl, ap, ◌∙◌}
 use Rattle.geometry.specs.History.{WriteNew}
-use Rattle.flash_rule.specs.declared.view.View.{View}
-use Rattle.flash_rule.specs.Plays.{Placed}
+use Rattle.flash_rule.specs.{declared.view.View.View, Plays.Placed}
 use Rattle.flash_rule.proofs.Steps.{called}
 use Rattle.flash_table.specs.Flash.{view_of}
-use Rattle.flash_table.proofs.Asking.{of_pass}
-use Rattle.flash_table.proofs.Here.{new_here}
-use Rattle.flash_table.proofs.Told.{stays_pass, new_changed}
+use Rattle.flash_table.proofs.{Asking.of_pass, Here.new_here, Told.stays_pass, Told.new_changed, flash.Flash.place_new.Goals.After-compare_exchange-found}
 use Rattle.flash_table.proofs.flash.Flash.place_new.Goals as goal
-use Rattle.flash_table.proofs.flash.Flash.place_new.Goals.{After-compare_exchange-found}
 
 pub compare_exchange-found-requires : goal.compare_exchange-found-requires
 compare_exchange-found-requires c =

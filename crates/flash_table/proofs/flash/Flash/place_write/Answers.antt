@@ -1,14 +1,10 @@
 use Rattle.std.proofs.Common.{ℕ, List, ap, ◌∙◌}
 use Rattle.geometry.specs.History.{Write}
-use Rattle.flash_rule.specs.declared.view.View.{View}
-use Rattle.flash_rule.specs.Plays.{Placed}
+use Rattle.flash_rule.specs.{declared.view.View.View, Plays.Placed}
 use Rattle.flash_rule.proofs.Steps.{called}
 use Rattle.flash_table.specs.Flash.{view_of}
-use Rattle.flash_table.proofs.Asking.{of_pass}
-use Rattle.flash_table.proofs.Here.{write_here}
-use Rattle.flash_table.proofs.Told.{stays_pass, write_changed}
+use Rattle.flash_table.proofs.{Asking.of_pass, Here.write_here, Told.stays_pass, Told.write_changed, flash.Flash.place_write.Goals.After-swap-found}
 use Rattle.flash_table.proofs.flash.Flash.place_write.Goals as goal
-use Rattle.flash_table.proofs.flash.Flash.place_write.Goals.{After-swap-found}
 
 pub swap-found-requires : goal.swap-found-requires
 swap-found-requires c =

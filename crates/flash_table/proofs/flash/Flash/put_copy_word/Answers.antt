@@ -1,16 +1,10 @@
 use Rattle.std.proofs.Common.{◌≡◌, ◌+◌, ap, ◌∙◌, arith}
 use Rattle.geometry.specs.TableOrder.{page_index}
 use Rattle.flash_rule.specs.declared.view.View.{View}
-use Rattle.flash_table.specs.Flash.{device, broom_view, own_blocks}
-use Rattle.flash_table.specs.Owning.{owned_of}
-use Rattle.flash_table.specs.Steps.{HasPut}
-use Rattle.flash_table.proofs.Asking.{of_broom}
-use Rattle.flash_table.proofs.Here.{put_here, put_within}
-use Rattle.flash_table.proofs.Rows.{just_now}
-use Rattle.flash_table.proofs.Told.{put_can, put_view}
-use Rattle.flash_table.proofs.ToldBrooms.{stays_broom}
+use Rattle.flash_table.specs.{Flash.device, Flash.broom_view, Flash.own_blocks, Owning.owned_of, Steps.HasPut}
+use Rattle.flash_table.proofs.{Asking.of_broom, Rows.just_now, Here.put_here, Here.put_within}
+use Rattle.flash_table.proofs.{Told.put_can, Told.put_view, ToldBrooms.stays_broom, flash.Flash.put_copy_word.Goals.After-store}
 use Rattle.flash_table.proofs.flash.Flash.put_copy_word.Goals as goal
-use Rattle.flash_table.proofs.flash.Flash.put_copy_word.Goals.{After-store}
 
 pub overflow_add-place : goal.overflow_add-place
 overflow_add-place c =

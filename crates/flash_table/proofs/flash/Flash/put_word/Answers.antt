@@ -1,14 +1,10 @@
 use Rattle.std.proofs.Common.{◌≡◌, ◌+◌, ap, ◌∙◌, arith}
 use Rattle.geometry.specs.TableOrder.{page_index}
 use Rattle.flash_rule.specs.declared.view.View.{View}
-use Rattle.flash_table.specs.Flash.{device, view_of}
-use Rattle.flash_table.specs.Owning.{owned_of}
-use Rattle.flash_table.specs.Steps.{HasPut}
-use Rattle.flash_table.proofs.Asking.{of_pass}
-use Rattle.flash_table.proofs.Here.{put_here, put_within}
-use Rattle.flash_table.proofs.Told.{stays_pass, put_can, put_view}
+use Rattle.flash_table.specs.{Flash.device, Flash.view_of, Owning.owned_of, Steps.HasPut}
+use Rattle.flash_table.proofs.{Asking.of_pass, Here.put_here, Here.put_within}
+use Rattle.flash_table.proofs.{Told.stays_pass, Told.put_can, Told.put_view, flash.Flash.put_word.Goals.After-store}
 use Rattle.flash_table.proofs.flash.Flash.put_word.Goals as goal
-use Rattle.flash_table.proofs.flash.Flash.put_word.Goals.{After-store}
 
 pub overflow_add-place : goal.overflow_add-place
 overflow_add-place c =

@@ -1,15 +1,10 @@
 use Rattle.std.proofs.Common.{◌≡◌, ap, ◌∙◌}
 use Rattle.flash_rule.specs.declared.view.View.{View}
-use Rattle.flash_table.specs.Flash.{broom_view, own_blocks}
-use Rattle.flash_table.specs.GivingUp.{left_retired}
-use Rattle.flash_table.proofs.Asking.{of_broom}
-use Rattle.flash_table.proofs.HereErasing.{retired_here}
-use Rattle.flash_table.proofs.Blocks.{erased_just}
-use Rattle.flash_table.proofs.Rows.{just_now}
-use Rattle.flash_table.proofs.ToldBrooms.{stays_broom}
+use Rattle.flash_table.specs.{Flash.broom_view, Flash.own_blocks, GivingUp.left_retired}
+use Rattle.flash_table.proofs.{Asking.of_broom, Rows.just_now, HereErasing.retired_here}
+use Rattle.flash_table.proofs.{Blocks.erased_just, ToldBrooms.stays_broom, flash.Flash.retire_block.Goals.After-fetch_add}
 use Rattle.flash_table.proofs.ToldErasing.{same_erased, last_erase, can_retire, retired_view}
 use Rattle.flash_table.proofs.flash.Flash.retire_block.Goals as goal
-use Rattle.flash_table.proofs.flash.Flash.retire_block.Goals.{After-fetch_add}
 
 pub fetch_add-requires : goal.fetch_add-requires
 fetch_add-requires c =

@@ -1,10 +1,7 @@
 use Rattle.std.proofs.Common.{ap, ◌∙◌}
-use Rattle.flash_rule.specs.declared.view.View.{View}
-use Rattle.flash_rule.specs.Views.{is_player}
+use Rattle.flash_rule.specs.{declared.view.View.View, Views.is_player}
 use Rattle.flash_table.specs.Flash.{device}
-use Rattle.flash_table.proofs.Asking.{IsSeatOf}
-use Rattle.flash_table.proofs.Here.{take_here, test_here}
-use Rattle.flash_table.proofs.ToldTaking.{tested_free, tested_taken, took_by}
+use Rattle.flash_table.proofs.{Asking.IsSeatOf, Here.take_here, Here.test_here, ToldTaking.tested_free, ToldTaking.tested_taken, ToldTaking.took_by}
 use Rattle.flash_table.proofs.flash.Flash.take_free.Goals as goal
 
 pub load-seen-requires : goal.load-seen-requires

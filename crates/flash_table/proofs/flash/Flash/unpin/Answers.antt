@@ -1,12 +1,8 @@
 use Rattle.std.proofs.Common.{◌≡◌, ap, ◌∙◌}
-use Rattle.flash_rule.specs.declared.facts.Pin.TheVariants.{Clear}
-use Rattle.flash_rule.specs.declared.view.View.{View}
+use Rattle.flash_rule.specs.declared.{facts.Pin.TheVariants.Clear, view.View.View}
 use Rattle.flash_table.specs.Flash.{view_of}
-use Rattle.flash_table.proofs.Asking.{of_pass}
-use Rattle.flash_table.proofs.Here.{unpin_here}
-use Rattle.flash_table.proofs.Told.{stays_pass, unpin_view}
+use Rattle.flash_table.proofs.{Asking.of_pass, Here.unpin_here, Told.stays_pass, Told.unpin_view, flash.Flash.unpin.Goals.After-fetch_sub}
 use Rattle.flash_table.proofs.flash.Flash.unpin.Goals as goal
-use Rattle.flash_table.proofs.flash.Flash.unpin.Goals.{After-fetch_sub}
 
 pub fetch_sub-requires : goal.fetch_sub-requires
 fetch_sub-requires c =
