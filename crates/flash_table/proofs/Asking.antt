@@ -21,11 +21,15 @@ pass_player role.Dealer is = absurd (cc)
 pass_player role.Note is = absurd (cc)
 pass_player role.Gone is = absurd (cc)
 
-pub of_pass : (f : Flash) (p : Pass) → IsPassOf f p → IsSeatOf f p.seat
-of_pass f p h = record { table = h.table; player = pass_player p.seat.me.0.role h.role; numbers = h.numbers }
+pub of_pass : {f : Flash} {p : Pass} → IsPassOf f p → IsSeatOf f p.seat
+of_pass {f} {p} h = record { table = h.table; player = pass_player p.seat.me.0.role h.role; numbers = h.numbers }
 
-pub of_broom : (f : Flash) (s : BroomSeat) → IsBroomOf f s → IsSeatOf f s.seat
-of_broom f s h = record { table = h.table; player = ap is_player h.role.1; numbers = h.numbers }
+pub of_broom : {f : Flash} {s : BroomSeat} → IsBroomOf f s → IsSeatOf f s.seat
+of_broom h = record { table = h.table; player = ap is_player h.role.1; numbers = h.numbers }
+
+-- which player a seat is, and of a device of which numbers
+abbrev pub whose : View → Role × Numbers
+whose v = (v.role, v.numbers)
 
 -- how many slots the table has
 abbrev pub slots_of : Flash → ℕ
@@ -49,7 +53,7 @@ abbrev pub AsksJoin : (f : Flash) (x : Seat (Unit {0}) View) (n : Note) (both : 
 AsksJoin f x n both = (x.table_id ≡ f.table.shared.table_id) × (n.seat.table_id ≡ f.table.shared.table_id) × (n.seat.me.1 ≡ [])
     × (0 < f.table.shared.table_id.words) × Joins (Ruled (numbers_of f.table.shared.key)) x.id x.me.0 n.seat.id (note_view n) both gone
 
-module _ (f : Flash) (x : Seat (Unit {0}) View) (h : IsSeatOf f x) where
+module _ {f : Flash} {x : Seat (Unit {0}) View} (h : IsSeatOf f x) where
   -- a step that brings numbers beside its place
   pub asks_with : (A : Type 0) (change : A → ℕ → ℕ) (told : ℕ → A → ℕ → Sitter → Type 0) (word place : ℕ) (a b : A) → IsPlace f place → word ≡ place
       → a ≡ b → Allows (Ruled (device f)) (slots_of f) x.id x.me place (change b) (told place b) → Asks f x word (change a) (told word a)

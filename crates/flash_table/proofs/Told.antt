@@ -1,4 +1,5 @@
 -- What a step's play makes of a pass, and of any seat with an open block.
+use Rattle.flash_table.proofs.Asking.{whose}
 use Rattle.std.proofs.Common.{◌≡◌, ℕ, ◌+◌, ◌<◌, Bool, true, false, List, [], ◌∷◌, ◌++◌, length, Option, Some, None, sym, refl, ap, ◌∙◌, subst, arith}
 use Rattle.geometry.specs.{PinWords.FitsPin, PinWords.pin_word, Limits.Numbers, Geometry.blocks_of, Geometry.pages_of, MapWords.map_word, MapWords.FitsMap}
 use Rattle.geometry.specs.declared.pin_word.{PinWord.PinWord, TheConstants.NEXT_PHASE, TheConstants.PAGE_WRITTEN, TheConstants.READER}
@@ -19,9 +20,8 @@ use Rattle.flash_table.specs.{GivingUp.closed_pass, GivingUp.left_closed, Steps.
 use Rattle.flash_table.specs.Flash.{IsPassOf, Strayed, view_of, device}
 use Rattle.flash_table.proofs.Asking.{IsSeatOf, slots_of}
 
-pub stays_pass : (f : Flash) (p q : Pass) → IsPassOf f p → q.seat.table_id ≡ p.seat.table_id → (view_of q).role ≡ (view_of p).role
-    → (view_of q).numbers ≡ (view_of p).numbers → IsPassOf f q
-stays_pass f p q h table role numbers = record { table = table ∙ h.table; role = ap is_pass role ∙ h.role; numbers = numbers ∙ h.numbers }
+pub stays_pass : {f : Flash} {p q : Pass} → IsPassOf f p → q.seat.table_id ≡ p.seat.table_id → whose (view_of q) ≡ whose (view_of p) → IsPassOf f q
+stays_pass h table same = record { table = table ∙ h.table; role = ap (λ w. is_pass w.0) same ∙ h.role; numbers = ap (λ w. w.1) same ∙ h.numbers }
 
 pub without_one : (o : Owned) → without o.block (o ∷ []) ≡ []
 without_one o = rw (eq_self o.block) refl
@@ -56,7 +56,7 @@ module _ (g : Geometry) (v : View) (opened : Option OpenBlock) (o : OpenBlock) (
   close_can t = let P : OpenBlock → Type 0 = λ x. CanClose v (owned_of x) × (x.block < blocks_of g) in subst P (same_block t.0 o opened t.1 is) (t.2, t.3)
 
 -- ---- what a step on it makes of the seat of a pass or a broom
-module _ (f : Flash) (x : Seat (Unit {0}) View) (h : IsSeatOf f x) (n : ℕ) (after : Sitter) (word : ℕ) (o : OpenBlock) where
+module _ {f : Flash} {x : Seat (Unit {0}) View} (h : IsSeatOf f x) (n : ℕ) (after : Sitter) (word : ℕ) (o : OpenBlock) where
   pub put_view : (i w : ℕ) → CanPut x.me.0 (owned_of o) → i ≡ length (words_in x.me.0.work (owned_of o)) → word ≡ page_index (device f) o.block o.written + i
       → put_told (step (slots_of f) word w 0 none) x.me n after
       → after.0 ≡ record x.me.0 { work = Some (record { page = next_page (owned_of o); words = words_in x.me.0.work (owned_of o) ++ w ∷ [] }) }
@@ -97,7 +97,7 @@ module _ (p : Pass) (o : OpenBlock) (is : p.opened ≡ Some o) where
       changed ∙ (λ i. record (view_of p) { owns = alone i; work = None; ceded = (view_of p).ceded ++ closed i })
 
 -- ---- what a step makes of a pass
-module _ (f : Flash) (p : Pass) (h : IsPassOf f p) (n : ℕ) (after : Sitter) where
+module _ {f : Flash} {p : Pass} (h : IsPassOf f p) (n : ℕ) (after : Sitter) where
   -- ---- place
   pub trim_changed : (s : ℕ) → trim_told (step (slots_of f) s 0 0 none) p.seat.me n after → (t : ℕ) × Placed (view_of p) (Trim t s) s n after.0
   trim_changed s told = let t = pass_of (view_of p).role h.role in (t.0, told.1 t.0 t.1)

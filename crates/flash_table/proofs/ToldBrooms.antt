@@ -1,4 +1,5 @@
 -- What a step's play makes of a broom's seat.
+use Rattle.flash_table.proofs.Asking.{whose}
 use Rattle.std.specs.{Prelude.◌&&◌, Prelude.Bool, Prelude.false, Bool.MatchBool}
 use Rattle.flash_rule.specs.BroomPlays.{Inspected, is_page_of, GotStamp, CanGetStamp, CanMove, Moved, stamp_told, source_told, move_told, Loaded, IsLastLoaded}
 use Rattle.flash_rule.specs.BroomPlays.{IsInspected, CanClaim, Claimed, CanDrain, state_told, claim_told, drain_told}
@@ -59,9 +60,9 @@ inspected_changed v w b generation s n h = by_test (is_page_of b generation h.fo
   by_test true is = let e = h.stopped is in e ∙ (λ i. record v { named = (sym e i).named; inspection = (sym e i).inspection })
   by_test false is = let e = h.passed is in e ∙ (λ i. record v { named = (sym e i).named; inspection = (sym e i).inspection })
 
-pub stays_broom : (f : Flash) (s t : BroomSeat) → IsBroomOf f s → t.seat.table_id ≡ s.seat.table_id → (broom_view t).role ≡ (broom_view s).role
-    → (broom_view t).numbers ≡ (broom_view s).numbers → IsBroomOf f t
-stays_broom f s t h table role numbers = record { table = table ∙ h.table; role = (h.role.0, role ∙ h.role.1); numbers = numbers ∙ h.numbers }
+pub stays_broom : {f : Flash} {s t : BroomSeat} → IsBroomOf f s → t.seat.table_id ≡ s.seat.table_id → whose (broom_view t) ≡ whose (broom_view s)
+    → IsBroomOf f t
+stays_broom h table same = record { table = table ∙ h.table; role = (h.role.0, ap (λ w. w.0) same ∙ h.role.1); numbers = ap (λ w. w.1) same ∙ h.numbers }
 
 -- ---- the block that a broom drains or erases is one
 draining_one : (a b : ReclaimedBlock) → reclaiming.Draining a ≡ reclaiming.Draining b → a ≡ b
@@ -96,7 +97,7 @@ loaded_changed v w b n h =
     (drained_or_not h.state.phase)
 
 -- ---- what each step on a state asks for
-module _ (f : Flash) (s : BroomSeat) (h : IsBroomOf f s) where
+module _ {f : Flash} {s : BroomSeat} (h : IsBroomOf f s) where
   pub is_a_broom : is_broom (broom_view s).role ≡ true
   is_a_broom = ap is_broom h.role.1
 
@@ -121,13 +122,13 @@ module _ (f : Flash) (s : BroomSeat) (h : IsBroomOf f s) where
       (its.0, record { own = draining_at (own_blocks s) (broom_view s).owns s.owns o is; victim = refl; emptied = its.1 })
 
 -- ---- and what it makes of the seat
-module _ (f : Flash) (s : BroomSeat) (h : IsBroomOf f s) (n : ℕ) (after : Sitter) where
+module _ {f : Flash} {s : BroomSeat} (h : IsBroomOf f s) (n : ℕ) (after : Sitter) where
   pin_there : (word b : ℕ) → word ≡ pin_index (device f) b → word ≡ pin_index (broom_view s).numbers b
   pin_there word b at = at ∙ ap (λ y. pin_index y b) (sym h.numbers)
 
   pub loaded_view : (word b : ℕ) → b < (device f).blocks → word ≡ pin_index (device f) b → state_told (step (slots_of f) word 0 0 none) s.seat.me n after
       → Loaded (broom_view s) b n after.0
-  loaded_view word b low at told = told.1 b (low_here f s h b low) (pin_there word b at)
+  loaded_view word b low at told = told.1 b (low_here h b low) (pin_there word b at)
 
   pub claimed_view : (word b old : ℕ) (p : PinWord) → CanClaim (broom_view s) b p → word ≡ pin_index (device f) b → old ≡ pin_word p
       → claim_told (step (slots_of f) word old (old + NEXT_PHASE) none) s.seat.me n after
@@ -150,13 +151,13 @@ stamp_changed v w o n h =
     (λ below. let e = h.sector below in e ∙ (λ i. record v { source = (sym e i).source; cleared = (sym e i).cleared }))
     (λ above. let e = h.dead (omega arith) in e ∙ (λ i. record v { source = (sym e i).source; cleared = (sym e i).cleared }))
 
-module _ (f : Flash) (s : BroomSeat) (h : IsBroomOf f s) where
+module _ {f : Flash} {s : BroomSeat} (h : IsBroomOf f s) where
   pub stamp_can : (o : ReclaimedBlock) (page : ℕ) → (own_blocks s).reclaiming ≡ reclaiming.Draining o → page < o.written
       → page ≡ (broom_view s).cleared → CanGetStamp (broom_view s) (reclaimed_as Victim o)
   stamp_can o page is below cleared =
       record { own = draining_at (own_blocks s) (broom_view s).owns s.owns o is; victim = refl; written = subst (λ k. k < o.written) cleared below }
 
-module _ (f : Flash) (s : BroomSeat) (h : IsBroomOf f s) (n : ℕ) (after : Sitter) where
+module _ {f : Flash} {s : BroomSeat} (h : IsBroomOf f s) (n : ℕ) (after : Sitter) where
   pub stamp_view : (word page : ℕ) (o : ReclaimedBlock) → CanGetStamp (broom_view s) (reclaimed_as Victim o) → page ≡ (broom_view s).cleared
       → word ≡ page_index (device f) o.block page + (device f).words
       → stamp_told (step (slots_of f) word 0 0 none) s.seat.me n after → GotStamp (broom_view s) (reclaimed_as Victim o) n after.0

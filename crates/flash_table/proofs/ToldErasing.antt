@@ -34,7 +34,7 @@ wiped_within z b i low below =
     let within = page_within z b r.0 r.1 low r.2 (omega arith) in
     let here = wiped_index z b r.0 r.1 i r.4 in omega arith
 
-module _ (f : Flash) (s : BroomSeat) (h : IsBroomOf f s) where
+module _ {f : Flash} {s : BroomSeat} (h : IsBroomOf f s) where
   -- ---- what the calls ask is what the rule asks
   pub can_condemn : (b : ℕ) (p : PinWord) → (own_blocks s).reclaiming ≡ reclaiming.Nothing → b < (device f).blocks → IsUnread (broom_view s) b p
       → CanCondemn (broom_view s) b p
@@ -83,7 +83,7 @@ module _ (f : Flash) (s : BroomSeat) (h : IsBroomOf f s) where
   pub last_erase : (o : ReclaimedBlock) → (own_blocks s).reclaiming ≡ reclaiming.Erasing o → (x : ReclaimedBlock) × IsLastErase f s x → IsLastErase f s o
   last_erase o is some = of_erased (λ x. IsLastErase f s x) o is some.0 some.1.erases.its some.1
 
-module _ (f : Flash) (s : BroomSeat) (h : IsBroomOf f s) (n : ℕ) (after : Sitter) where
+module _ {f : Flash} {s : BroomSeat} (h : IsBroomOf f s) (n : ℕ) (after : Sitter) where
   -- ---- what a step's play makes of the seat
   pub condemned : (word b old : ℕ) (p : PinWord) → word ≡ pin_index (device f) b → old ≡ pin_word p → CanCondemn (broom_view s) b p
       → condemn_told (step (slots_of f) word old (old + NEXT_PHASE) none) s.seat.me n after → Condemned (broom_view s) b p n after.0
@@ -98,15 +98,15 @@ module _ (f : Flash) (s : BroomSeat) (h : IsBroomOf f s) (n : ℕ) (after : Sitt
 
   pub freed_view : (word added : ℕ) (o : ReclaimedBlock) → CanLiveOn f s o → word ≡ pin_index (device f) o.block
       → freed_told (step (slots_of f) word added 0 none) s.seat.me n after → after.0 ≡ left_free (broom_view s) o
-  freed_view word added o lives at told = told.1 (reclaimed_as Erasing o) (can_renew f s h o lives) (at ∙ ap (λ y. pin_index y o.block) (sym h.numbers))
+  freed_view word added o lives at told = told.1 (reclaimed_as Erasing o) (can_renew h o lives) (at ∙ ap (λ y. pin_index y o.block) (sym h.numbers))
 
   pub kept_view : (word added : ℕ) (o : ReclaimedBlock) → CanLiveOn f s o → word ≡ pin_index (device f) o.block
       → kept_told (step (slots_of f) word added 0 none) s.seat.me n after
       → after.0 ≡ record (broom_view s) {
         owns = with_owned (owned_of (record { block = o.block; generation = o.generation + 1; written = 0 })) (broom_view s).owns;
       }
-  kept_view word added o lives at told = told.1 (reclaimed_as Erasing o) (can_renew f s h o lives) (at ∙ ap (λ y. pin_index y o.block) (sym h.numbers))
+  kept_view word added o lives at told = told.1 (reclaimed_as Erasing o) (can_renew h o lives) (at ∙ ap (λ y. pin_index y o.block) (sym h.numbers))
 
   pub retired_view : (word : ℕ) (o : ReclaimedBlock) → IsLastErase f s o → word ≡ pin_index (device f) o.block
       → retired_told (step (slots_of f) word NEXT_PHASE 0 none) s.seat.me n after → after.0 ≡ left_retired (broom_view s) o
-  retired_view word o last at told = told.1 (reclaimed_as Erasing o) (can_retire f s h o last) (at ∙ ap (λ y. pin_index y o.block) (sym h.numbers))
+  retired_view word o last at told = told.1 (reclaimed_as Erasing o) (can_retire h o last) (at ∙ ap (λ y. pin_index y o.block) (sym h.numbers))

@@ -1,17 +1,18 @@
+use Rattle.flash_table.proofs.Asking.{whose}
 use Rattle.std.proofs.{Common.ap, Common.◌∙◌, Common.subst, Common.arith, lemmas.Grind.common_steps}
-use Rattle.flash_rule.specs.{declared.view.View.View, BroomPlays.Named}
+use Rattle.flash_rule.specs.{BroomPlays.Named}
 use Rattle.flash_table.specs.Flash.{broom_view}
 use Rattle.flash_table.proofs.{Asking.of_broom, Rows.just_now, HereBrooms.broom_look_here, ToldBrooms.stays_broom, ToldBrooms.unpacked}
 use Rattle.flash_table.proofs.flash.Flash.broom_look.Goals as goal
 
 pub load-found-requires : goal.load-found-requires
 load-found-requires c =
-    let s = c.args.broom.now in broom_look_here c.args.self.now s.seat (of_broom c.args.self.now s c.requires.broom) c.args.sector c.requires.sector
+    let s = c.args.broom.now in broom_look_here (of_broom c.requires.broom) c.args.sector c.requires.sector
 
 pub invariant_of-broom : goal.invariant_of-broom
 invariant_of-broom c =
     let s = c.args.broom.now in
-    record { bare = c.load-found.ensures.2.0 ∙ s.bare; owns = just_now _ _ _ (ap (λ (w : View). w.owns) c.load-found.ensures.2.1.changed) s.owns }
+    record { bare = c.load-found.ensures.2.0 ∙ s.bare; owns = just_now c.load-found.ensures.2.1.changed s.owns }
 
 pub returns-clause-named : goal.returns-clause-named
 returns-clause-named c =
@@ -22,8 +23,7 @@ returns-clause-named c =
 pub returns-clause-broom : goal.returns-clause-broom
 returns-clause-broom c =
     let changed = c.load-found.ensures.2.1.changed in
-    stays_broom c.args.self.now c.args.broom.now _ c.requires.broom c.load-found.ensures.0 (ap (λ (w : View). w.role) changed)
-    (ap (λ (w : View). w.numbers) changed)
+    stays_broom c.requires.broom c.load-found.ensures.0 (ap whose changed)
 
 pub returns-clause-fits : goal.returns-clause-fits
 returns-clause-fits c = grind (arith, common_steps)

@@ -1,3 +1,4 @@
+use Rattle.flash_table.proofs.Asking.{whose}
 use Rattle.std.proofs.Common.{◌≡◌, ap, ◌∙◌}
 use Rattle.flash_rule.specs.declared.view.View.{View}
 use Rattle.flash_table.specs.{Flash.view_of, Owning.owned_of, GivingUp.closed_pass}
@@ -10,7 +11,7 @@ fetch_add-requires c =
     let f = c.args.self.now in
     let p = c.args.pass.now in
     let can = close_can f.geometry (view_of p) p.opened c.in-Some.opened c.in-Some.is c.requires.settled in
-    close_here f p.seat (of_pass f p c.requires.pass) c.pin_at-word.result (owned_of c.in-Some.opened) can.1 c.pin_at-word.ensures can.0
+    close_here (of_pass c.requires.pass) c.pin_at-word.result (owned_of c.in-Some.opened) can.1 c.pin_at-word.ensures can.0
 
 closed : (c : After-fetch_add) → c.fetch_add.new.seat.me.0 ≡ closed_pass (view_of c.args.pass.now) c.args.pass.now.opened
 closed c =
@@ -18,7 +19,7 @@ closed c =
     let p = c.args.pass.now in
     let o = c.in-Some.opened in
     let can = close_can f.geometry (view_of p) p.opened o c.in-Some.is c.requires.settled in
-    pass_closed p o c.in-Some.is c.fetch_add.new.seat.me.0 (close_view f p.seat (of_pass f p c.requires.pass) c.fetch_add.result c.fetch_add.new.seat.me
+    pass_closed p o c.in-Some.is c.fetch_add.new.seat.me.0 (close_view (of_pass c.requires.pass) c.fetch_add.result c.fetch_add.new.seat.me
     c.pin_at-word.result o can.0 c.pin_at-word.ensures c.fetch_add.ensures.2)
 
 pub invariant_of-pass : goal.invariant_of-pass
@@ -33,5 +34,4 @@ returns-clause-told c = closed (goal.at.returns-clause-told c).After-fetch_add
 pub returns-clause-pass : goal.returns-clause-pass
 returns-clause-pass c =
     let changed = closed (goal.at.returns-clause-pass c).After-fetch_add in
-    stays_pass c.args.self.now c.args.pass.now _ c.requires.pass c.fetch_add.ensures.0 (ap (λ (w : View). w.role) changed)
-    (ap (λ (w : View). w.numbers) changed)
+    stays_pass c.requires.pass c.fetch_add.ensures.0 (ap whose changed)

@@ -1,5 +1,5 @@
+use Rattle.flash_table.proofs.Asking.{whose}
 use Rattle.std.proofs.Common.{◌≡◌, ap, ◌∙◌}
-use Rattle.flash_rule.specs.declared.view.View.{View}
 use Rattle.flash_table.specs.{Flash.broom_view, Flash.own_blocks, GivingUp.left_closed, Owning.owned_of}
 use Rattle.flash_table.proofs.{Asking.of_broom, Rows.just_now, ToldBrooms.stays_broom, flash.Flash.close_destination.Goals.After-fetch_add}
 use Rattle.flash_table.proofs.{Here.close_here, Blocks.closed_just, Told.same_block, Told.close_can, Told.close_view}
@@ -10,7 +10,7 @@ fetch_add-requires c =
     let f = c.args.self.now in
     let s = c.args.broom.now in
     let can = close_can f.geometry (broom_view s) (own_blocks s).destination c.in-Some.opened c.in-Some.is c.requires.settled in
-    close_here f s.seat (of_broom f s c.requires.broom) c.pin_at-word.result (owned_of c.in-Some.opened) can.1 c.pin_at-word.ensures can.0
+    close_here (of_broom c.requires.broom) c.pin_at-word.result (owned_of c.in-Some.opened) can.1 c.pin_at-word.ensures can.0
 
 closed : (c : After-fetch_add) → c.fetch_add.new.seat.me.0 ≡ left_closed (broom_view c.args.broom.now) c.in-Some.opened
 closed c =
@@ -18,8 +18,7 @@ closed c =
     let s = c.args.broom.now in
     let o = c.in-Some.opened in
     let can = close_can f.geometry (broom_view s) (own_blocks s).destination o c.in-Some.is c.requires.settled in
-    close_view f s.seat (of_broom f s c.requires.broom) c.fetch_add.result c.fetch_add.new.seat.me c.pin_at-word.result o can.0 c.pin_at-word.ensures
-    c.fetch_add.ensures.2
+    close_view (of_broom c.requires.broom) c.fetch_add.result c.fetch_add.new.seat.me c.pin_at-word.result o can.0 c.pin_at-word.ensures c.fetch_add.ensures.2
 
 pub invariant_of-broom : goal.invariant_of-broom
 invariant_of-broom c =
@@ -27,7 +26,7 @@ invariant_of-broom c =
     let changed = closed (goal.at.invariant_of-broom c).After-fetch_add in
     record {
       bare = c.fetch_add.ensures.2.0 ∙ s.bare;
-      owns = just_now _ _ _ (ap (λ (w : View). w.owns) changed)
+      owns = just_now changed
           (closed_just (own_blocks s) (broom_view s).owns s.owns c.in-Some.opened c.in-Some.is);
     }
 
@@ -40,5 +39,4 @@ returns-clause-closed c o is =
 pub returns-clause-broom : goal.returns-clause-broom
 returns-clause-broom c =
     let changed = closed (goal.at.returns-clause-broom c).After-fetch_add in
-    stays_broom c.args.self.now c.args.broom.now _ c.requires.broom c.fetch_add.ensures.0 (ap (λ (w : View). w.role) changed)
-    (ap (λ (w : View). w.numbers) changed)
+    stays_broom c.requires.broom c.fetch_add.ensures.0 (ap whose changed)

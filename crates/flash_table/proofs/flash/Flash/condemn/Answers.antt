@@ -1,5 +1,6 @@
+use Rattle.flash_table.proofs.Asking.{whose}
 use Rattle.std.proofs.Common.{sym, refl, ap, ◌∙◌}
-use Rattle.flash_rule.specs.{declared.view.View.View, BroomPlays.Condemned}
+use Rattle.flash_rule.specs.{BroomPlays.Condemned}
 use Rattle.flash_table.specs.{Flash.broom_view, Flash.own_blocks, declared.broom_seat.ReclaimedBlock.ReclaimedBlock}
 use Rattle.flash_table.proofs.{Asking.of_broom, Rows.just_now, ToldBrooms.is_a_broom, ToldBrooms.stays_broom}
 use Rattle.flash_table.proofs.{HereErasing.condemn_here, Blocks.condemned_just, ToldErasing.can_condemn, ToldErasing.condemned}
@@ -8,19 +9,15 @@ use Rattle.flash_table.proofs.flash.Flash.condemn.Goals as goal
 
 pub compare_exchange-found-requires : goal.compare_exchange-found-requires
 compare_exchange-found-requires c =
-    let f = c.args.self.now in
-    let s = c.args.broom.now in
-    condemn_here f s.seat (of_broom f s c.requires.broom) c.pin_at-word.result c.args.block c.pack-old.result c.args.expected c.requires.block
-    c.pin_at-word.ensures c.pack-old.ensures (is_a_broom f s c.requires.broom)
-    (can_condemn f s c.requires.broom c.args.block c.args.expected c.requires.rested c.requires.block c.requires.expected)
+    condemn_here (of_broom c.requires.broom) c.pin_at-word.result c.args.block c.pack-old.result c.args.expected c.requires.block
+    c.pin_at-word.ensures c.pack-old.ensures (is_a_broom c.requires.broom)
+    (can_condemn c.requires.broom c.args.block c.args.expected c.requires.rested c.requires.block c.requires.expected)
 
 its : (c : After-compare_exchange-found)
     → Condemned (broom_view c.args.broom.now) c.args.block c.args.expected c.compare_exchange-found.result c.compare_exchange-found.new.seat.me.0
 its c =
-    let f = c.args.self.now in
-    let s = c.args.broom.now in
-    let can = can_condemn f s c.requires.broom c.args.block c.args.expected c.requires.rested c.requires.block c.requires.expected in
-    condemned f s c.requires.broom c.compare_exchange-found.result c.compare_exchange-found.new.seat.me c.pin_at-word.result c.args.block
+    let can = can_condemn c.requires.broom c.args.block c.args.expected c.requires.rested c.requires.block c.requires.expected in
+    condemned c.requires.broom c.compare_exchange-found.result c.compare_exchange-found.new.seat.me c.pin_at-word.result c.args.block
     c.pack-old.result c.args.expected c.pin_at-word.ensures c.pack-old.ensures can c.compare_exchange-found.ensures.2
 
 -- ---- its word wasn't the one expected
@@ -28,7 +25,7 @@ pub invariant_of-broom : goal.invariant_of-broom
 invariant_of-broom c =
     let s = c.args.broom.now in
     let changed = (its (goal.at.invariant_of-broom c).After-compare_exchange-found).busy (λ is. c.if-found-old.true (is ∙ sym c.pack-old.ensures)) in
-    record { bare = c.compare_exchange-found.ensures.2.0 ∙ s.bare; owns = just_now _ _ _ (ap (λ (w : View). w.owns) changed) s.owns }
+    record { bare = c.compare_exchange-found.ensures.2.0 ∙ s.bare; owns = just_now changed s.owns }
 
 pub returns-then-found-old-clause-condemned : goal.returns-then-found-old-clause-condemned
 returns-then-found-old-clause-condemned c =
@@ -39,8 +36,7 @@ pub returns-then-found-old-clause-broom : goal.returns-then-found-old-clause-bro
 returns-then-found-old-clause-broom c =
     let told = its (goal.at.returns-then-found-old-clause-broom c).After-compare_exchange-found in
     let changed = told.busy (λ is. c.if-found-old.true (is ∙ sym c.pack-old.ensures)) in
-    stays_broom c.args.self.now c.args.broom.now _ c.requires.broom c.compare_exchange-found.ensures.0 (ap (λ (w : View). w.role) changed)
-    (ap (λ (w : View). w.numbers) changed)
+    stays_broom c.requires.broom c.compare_exchange-found.ensures.0 (ap whose changed)
 
 -- ---- the block is the broom's to erase
 pub invariant_of-broom-2 : goal.invariant_of-broom-2
@@ -51,7 +47,7 @@ invariant_of-broom-2 c =
     let o : ReclaimedBlock = record { block = c.args.block; generation = c.args.expected.generation; written = c.args.expected.written } in
     record {
       bare = c.compare_exchange-found.ensures.2.0 ∙ s.bare;
-      owns = just_now _ _ _ (ap (λ (w : View). w.owns) (told.won is))
+      owns = just_now ((told.won is))
           (condemned_just (own_blocks s) (broom_view s).owns s.owns o c.requires.rested (told.fresh is));
     }
 
@@ -63,5 +59,4 @@ returns-clause-condemned c =
 pub returns-clause-broom : goal.returns-clause-broom
 returns-clause-broom c =
     let changed = (its (goal.at.returns-clause-broom c).After-compare_exchange-found).won (c.if-found-old.false ∙ c.pack-old.ensures) in
-    stays_broom c.args.self.now c.args.broom.now _ c.requires.broom c.compare_exchange-found.ensures.0 (ap (λ (w : View). w.role) changed)
-    (ap (λ (w : View). w.numbers) changed)
+    stays_broom c.requires.broom c.compare_exchange-found.ensures.0 (ap whose changed)

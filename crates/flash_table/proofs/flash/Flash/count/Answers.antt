@@ -1,3 +1,4 @@
+use Rattle.flash_table.proofs.Asking.{whose}
 use Rattle.std.proofs.Common.{◌≡◌, ◌+◌, ◌∷◌, ◌++◌, [], Some, ap, ◌∙◌}
 use Rattle.flash_rule.specs.{declared.facts.Work.Work, declared.view.View.View, Plays.CanCount}
 use Rattle.geometry.specs.TableOrder.{pin_index}
@@ -12,7 +13,7 @@ fetch_add-requires c =
     let p = c.args.pass.now in
     let o = c.in-Some.opened in
     let can = count_can f.geometry (view_of p) p.opened o c.in-Some.is c.requires.filled in
-    count_here f p.seat (of_pass f p c.requires.pass) c.pin_at-word.result (owned_of o) can.0 can.3 c.pin_at-word.ensures can.1
+    count_here (of_pass c.requires.pass) c.pin_at-word.result (owned_of o) can.0 can.3 c.pin_at-word.ensures can.1
 
 counted : (c : After-fetch_add) (o : OpenBlock) (x : Work) → c.args.pass.now.opened ≡ Some o → CanCount (view_of c.args.pass.now) (owned_of o) x
     → c.fetch_add.new.seat.me.0 ≡ record (view_of c.args.pass.now) {
@@ -24,7 +25,7 @@ counted c o x is can =
     let p = c.args.pass.now in
     let same = same_block c.in-Some.opened o p.opened c.in-Some.is is in
     pass_counted p o is c.fetch_add.new.seat.me.0 x.page
-    (count_view f p.seat (of_pass f p c.requires.pass) c.fetch_add.result c.fetch_add.new.seat.me c.pin_at-word.result o x can
+    (count_view (of_pass c.requires.pass) c.fetch_add.result c.fetch_add.new.seat.me c.pin_at-word.result o x can
     (c.pin_at-word.ensures ∙ ap (λ (y : OpenBlock). pin_index (device f) y.block) same) c.fetch_add.ensures.2)
 
 pub invariant_of-pass : goal.invariant_of-pass
@@ -43,4 +44,4 @@ returns-clause-pass c =
     let p = c.args.pass.now in
     let can = count_can f.geometry (view_of p) p.opened c.in-Some.opened c.in-Some.is c.requires.filled in
     let changed = counted (goal.at.returns-clause-pass c).After-fetch_add c.in-Some.opened can.0 c.in-Some.is can.1 in
-    stays_pass f p _ c.requires.pass c.fetch_add.ensures.0 (ap (λ (w : View). w.role) changed) (ap (λ (w : View). w.numbers) changed)
+    stays_pass c.requires.pass c.fetch_add.ensures.0 (ap whose changed)

@@ -1,6 +1,7 @@
+use Rattle.flash_table.proofs.Asking.{whose}
 use Rattle.std.proofs.Common.{◌≡◌, ◌+◌, ◌∷◌, ◌++◌, [], Some, refl, ap, ◌∙◌}
 use Rattle.geometry.specs.TableOrder.{pin_index}
-use Rattle.flash_rule.specs.{declared.facts.Work.Work, declared.view.View.View, Plays.CanCount, Views.with_owned}
+use Rattle.flash_rule.specs.{declared.facts.Work.Work, Plays.CanCount, Views.with_owned}
 use Rattle.flash_table.specs.{Flash.device, Flash.broom_view, Flash.own_blocks, Owning.owned_of}
 use Rattle.flash_table.specs.declared.{pass.OpenBlock.OpenBlock, broom_seat.BroomBlocks.BroomBlocks}
 use Rattle.flash_table.proofs.{Asking.of_broom, Rows.just_now, ToldBrooms.stays_broom, Told.same_block, Told.count_can, Told.count_view}
@@ -13,7 +14,7 @@ fetch_add-requires c =
     let s = c.args.broom.now in
     let o = c.in-Some.opened in
     let can = count_can f.geometry (broom_view s) (own_blocks s).destination o c.in-Some.is c.requires.filled in
-    count_here f s.seat (of_broom f s c.requires.broom) c.pin_at-word.result (owned_of o) can.0 can.3 c.pin_at-word.ensures can.1
+    count_here (of_broom c.requires.broom) c.pin_at-word.result (owned_of o) can.0 can.3 c.pin_at-word.ensures can.1
 
 counted : (c : After-fetch_add) (o : OpenBlock) (x : Work) → (own_blocks c.args.broom.now).destination ≡ Some o
     → CanCount (broom_view c.args.broom.now) (owned_of o) x
@@ -25,7 +26,7 @@ counted c o x is can =
     let f = c.args.self.now in
     let s = c.args.broom.now in
     let same = same_block c.in-Some.opened o (own_blocks s).destination c.in-Some.is is in
-    count_view f s.seat (of_broom f s c.requires.broom) c.fetch_add.result c.fetch_add.new.seat.me c.pin_at-word.result o x can
+    count_view (of_broom c.requires.broom) c.fetch_add.result c.fetch_add.new.seat.me c.pin_at-word.result o x can
     (c.pin_at-word.ensures ∙ ap (λ (y : OpenBlock). pin_index (device f) y.block) same) c.fetch_add.ensures.2
 
 pub invariant_of-broom : goal.invariant_of-broom
@@ -36,7 +37,7 @@ invariant_of-broom c =
     let changed = counted (goal.at.invariant_of-broom c).After-fetch_add o can.0 c.in-Some.is can.1 in
     record {
       bare = c.fetch_add.ensures.2.0 ∙ s.bare;
-      owns = just_now _ _ _ (ap (λ (w : View). w.owns) changed)
+      owns = just_now changed
           (counted_just (own_blocks s) (broom_view s).owns s.owns o (record o { written = o.written + 1 }) c.in-Some.is refl);
     }
 
@@ -55,4 +56,4 @@ returns-clause-broom c =
     let s = c.args.broom.now in
     let can = count_can f.geometry (broom_view s) (own_blocks s).destination c.in-Some.opened c.in-Some.is c.requires.filled in
     let changed = counted (goal.at.returns-clause-broom c).After-fetch_add c.in-Some.opened can.0 c.in-Some.is can.1 in
-    stays_broom f s _ c.requires.broom c.fetch_add.ensures.0 (ap (λ (w : View). w.role) changed) (ap (λ (w : View). w.numbers) changed)
+    stays_broom c.requires.broom c.fetch_add.ensures.0 (ap whose changed)

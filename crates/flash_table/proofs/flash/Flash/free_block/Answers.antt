@@ -1,5 +1,5 @@
+use Rattle.flash_table.proofs.Asking.{whose}
 use Rattle.std.proofs.Common.{◌≡◌, ap, ◌∙◌, arith}
-use Rattle.flash_rule.specs.declared.view.View.{View}
 use Rattle.flash_table.specs.{Flash.broom_view, Flash.own_blocks, GivingUp.left_free}
 use Rattle.flash_table.proofs.{Asking.of_broom, Rows.just_now, ToldBrooms.stays_broom}
 use Rattle.flash_table.proofs.{HereErasing.freed_here, Blocks.erased_just, flash.Flash.free_block.Goals.After-fetch_add}
@@ -8,20 +8,16 @@ use Rattle.flash_table.proofs.flash.Flash.free_block.Goals as goal
 
 pub fetch_add-requires : goal.fetch_add-requires
 fetch_add-requires c =
-    let f = c.args.self.now in
-    let s = c.args.broom.now in
     let o = c.in-Erasing.erased in
-    let t = live_on f s c.requires.broom o c.in-Erasing.is c.requires.wiped in
-    freed_here f s.seat (of_broom f s c.requires.broom) c.pin_at-word.result _ _ t.erases.low c.pin_at-word.ensures
-    (omega (arith, c.freed.ensures)) (can_renew f s c.requires.broom o t)
+    let t = live_on c.requires.broom o c.in-Erasing.is c.requires.wiped in
+    freed_here (of_broom c.requires.broom) c.pin_at-word.result _ _ t.erases.low c.pin_at-word.ensures
+    (omega (arith, c.freed.ensures)) (can_renew c.requires.broom o t)
 
 freed : (c : After-fetch_add) → c.fetch_add.new.seat.me.0 ≡ left_free (broom_view c.args.broom.now) c.in-Erasing.erased
 freed c =
-    let f = c.args.self.now in
-    let s = c.args.broom.now in
     let o = c.in-Erasing.erased in
-    freed_view f s c.requires.broom c.fetch_add.result c.fetch_add.new.seat.me c.pin_at-word.result c.freed.result o
-    (live_on f s c.requires.broom o c.in-Erasing.is c.requires.wiped) c.pin_at-word.ensures c.fetch_add.ensures.2
+    freed_view c.requires.broom c.fetch_add.result c.fetch_add.new.seat.me c.pin_at-word.result c.freed.result o
+    (live_on c.requires.broom o c.in-Erasing.is c.requires.wiped) c.pin_at-word.ensures c.fetch_add.ensures.2
 
 pub invariant_of-broom : goal.invariant_of-broom
 invariant_of-broom c =
@@ -29,7 +25,7 @@ invariant_of-broom c =
     let changed = freed (goal.at.invariant_of-broom c).After-fetch_add in
     record {
       bare = c.fetch_add.ensures.2.0 ∙ s.bare;
-      owns = just_now _ _ _ (ap (λ (w : View). w.owns) changed)
+      owns = just_now changed
           (erased_just (own_blocks s) (broom_view s).owns s.owns c.in-Erasing.erased c.in-Erasing.is);
     }
 
@@ -42,5 +38,4 @@ returns-clause-freed c x is =
 pub returns-clause-broom : goal.returns-clause-broom
 returns-clause-broom c =
     let changed = freed (goal.at.returns-clause-broom c).After-fetch_add in
-    stays_broom c.args.self.now c.args.broom.now _ c.requires.broom c.fetch_add.ensures.0 (ap (λ (w : View). w.role) changed)
-    (ap (λ (w : View). w.numbers) changed)
+    stays_broom c.requires.broom c.fetch_add.ensures.0 (ap whose changed)

@@ -1,6 +1,7 @@
+use Rattle.flash_table.proofs.Asking.{whose}
 use Rattle.std.proofs.Common.{◌≡◌, ◌+◌, ◌<◌, ℕ, ap, ◌∙◌, subst}
 use Rattle.geometry.specs.{Geometry.blocks_of, TableOrder.page_index, declared.pin_word.Phase.TheVariants.Victim}
-use Rattle.flash_rule.specs.{declared.view.View.View, BroomPlays.GotStamp}
+use Rattle.flash_rule.specs.{BroomPlays.GotStamp}
 use Rattle.flash_table.specs.{Flash.device, Flash.broom_view, Flash.own_blocks, Flash.geometry_of, Owning.reclaimed_as, Steps.IsOfVictim}
 use Rattle.flash_table.specs.declared.{broom_seat.BroomSeat.BroomSeat, broom_seat.ReclaimedBlock.ReclaimedBlock, flash.Flash.Flash}
 use Rattle.flash_table.proofs.{Asking.of_broom, Rows.just_now, HereBrooms.stamp_here, flash.Flash.get_stamp.Goals.After-load}
@@ -13,8 +14,7 @@ written : (f : Flash) (s : BroomSeat) (o : ReclaimedBlock) (page : ℕ) → (own
 written f s o page is = of_draining (λ (y : ReclaimedBlock). (y.block < blocks_of (geometry_of f)) × (page < y.written)) (own_blocks s).reclaiming o is
 
 pub page_word_at-place-requires-clause-block : goal.page_word_at-place-requires-clause-block
-page_word_at-place-requires-clause-block c =
-    (written c.args.self.now c.args.broom.now c.in-Draining.victim c.args.page c.in-Draining.is c.requires.next).0
+page_word_at-place-requires-clause-block c = (written c.args.self.now c.args.broom.now c.in-Draining.victim c.args.page c.in-Draining.is c.requires.next).0
 
 pub load-requires : goal.load-requires
 load-requires c =
@@ -24,10 +24,10 @@ load-requires c =
     let its = written f s o c.args.page c.in-Draining.is c.requires.next in
     let at : c.page_word_at-place.result ≡ page_index (device f) o.block c.args.page + (device f).words =
     c.page_word_at-place.ensures ∙ ap (λ i. page_index (device f) o.block c.args.page + i) c.words.ensures.value in
-    stamp_here f s.seat (of_broom f s c.requires.broom) c.page_word_at-place.result (reclaimed_as Victim o) its.0
+    stamp_here (of_broom c.requires.broom) c.page_word_at-place.result (reclaimed_as Victim o) its.0
     (subst (λ k. k < (device f).pages) c.requires.cleared c.requires.page)
     (at ∙ ap (λ k. page_index (device f) o.block k + (device f).words) c.requires.cleared)
-    (stamp_can f s c.requires.broom o c.args.page c.in-Draining.is its.1 c.requires.cleared)
+    (stamp_can c.requires.broom o c.args.page c.in-Draining.is its.1 c.requires.cleared)
 
 got : (c : After-load) → GotStamp (broom_view c.args.broom.now) (reclaimed_as Victim c.in-Draining.victim) c.load.result c.load.new.seat.me.0
 got c =
@@ -35,15 +35,15 @@ got c =
     let s = c.args.broom.now in
     let o = c.in-Draining.victim in
     let its = written f s o c.args.page c.in-Draining.is c.requires.next in
-    let can = stamp_can f s c.requires.broom o c.args.page c.in-Draining.is its.1 c.requires.cleared in
-    stamp_view f s c.requires.broom c.load.result c.load.new.seat.me c.page_word_at-place.result c.args.page o can c.requires.cleared
+    let can = stamp_can c.requires.broom o c.args.page c.in-Draining.is its.1 c.requires.cleared in
+    stamp_view c.requires.broom c.load.result c.load.new.seat.me c.page_word_at-place.result c.args.page o can c.requires.cleared
     (c.page_word_at-place.ensures ∙ ap (λ i. page_index (device f) o.block c.args.page + i) c.words.ensures.value) c.load.ensures.2
 
 pub invariant_of-broom : goal.invariant_of-broom
 invariant_of-broom c =
     let s = c.args.broom.now in
     let changed = stamp_changed _ _ _ _ (got (goal.at.invariant_of-broom c).After-load) in
-    record { bare = c.load.ensures.2.0 ∙ s.bare; owns = just_now _ _ _ (ap (λ (w : View). w.owns) changed) s.owns }
+    record { bare = c.load.ensures.2.0 ∙ s.bare; owns = just_now changed s.owns }
 
 pub returns-clause-stamp : goal.returns-clause-stamp
 returns-clause-stamp c e is =
@@ -55,4 +55,4 @@ returns-clause-stamp c e is =
 pub returns-clause-broom : goal.returns-clause-broom
 returns-clause-broom c =
     let changed = stamp_changed _ _ _ _ (got (goal.at.returns-clause-broom c).After-load) in
-    stays_broom c.args.self.now c.args.broom.now _ c.requires.broom c.load.ensures.0 (ap (λ (w : View). w.role) changed) (ap (λ (w : View). w.numbers) changed)
+    stays_broom c.requires.broom c.load.ensures.0 (ap whose changed)

@@ -1,5 +1,6 @@
+use Rattle.flash_table.proofs.Asking.{whose}
 use Rattle.std.proofs.Common.{◌≡◌, ◌+◌, Some, refl, ap, ◌∙◌}
-use Rattle.flash_rule.specs.{declared.view.View.View, Views.with_owned}
+use Rattle.flash_rule.specs.{Views.with_owned}
 use Rattle.flash_table.specs.{Flash.broom_view, Flash.own_blocks, Owning.owned_of}
 use Rattle.flash_table.specs.declared.{broom_seat.ReclaimedBlock.ReclaimedBlock, broom_seat.BroomBlocks.BroomBlocks, pass.OpenBlock.OpenBlock}
 use Rattle.flash_table.proofs.{Asking.of_broom, Rows.just_now, ToldBrooms.stays_broom}
@@ -10,12 +11,10 @@ use Rattle.flash_table.proofs.flash.Flash.keep_block.Goals as goal
 
 pub fetch_add-requires : goal.fetch_add-requires
 fetch_add-requires c =
-    let f = c.args.self.now in
-    let s = c.args.broom.now in
     let o = c.in-Erasing.erased in
-    let t = live_on f s c.requires.broom o c.in-Erasing.is c.requires.wiped in
-    kept_here f s.seat (of_broom f s c.requires.broom) c.pin_at-word.result c.kept.result _ t.erases.low c.pin_at-word.ensures c.kept.ensures
-    (can_renew f s c.requires.broom o t)
+    let t = live_on c.requires.broom o c.in-Erasing.is c.requires.wiped in
+    kept_here (of_broom c.requires.broom) c.pin_at-word.result c.kept.result _ t.erases.low c.pin_at-word.ensures c.kept.ensures
+    (can_renew c.requires.broom o t)
 
 -- the block in its next generation
 abbrev renewed : ReclaimedBlock → OpenBlock
@@ -26,11 +25,9 @@ kept : (c : After-fetch_add)
       owns = with_owned (owned_of (renewed c.in-Erasing.erased)) (broom_view c.args.broom.now).owns;
     }
 kept c =
-    let f = c.args.self.now in
-    let s = c.args.broom.now in
     let o = c.in-Erasing.erased in
-    kept_view f s c.requires.broom c.fetch_add.result c.fetch_add.new.seat.me c.pin_at-word.result c.kept.result o
-    (live_on f s c.requires.broom o c.in-Erasing.is c.requires.wiped) c.pin_at-word.ensures c.fetch_add.ensures.2
+    kept_view c.requires.broom c.fetch_add.result c.fetch_add.new.seat.me c.pin_at-word.result c.kept.result o
+    (live_on c.requires.broom o c.in-Erasing.is c.requires.wiped) c.pin_at-word.ensures c.fetch_add.ensures.2
 
 pub invariant_of-broom : goal.invariant_of-broom
 invariant_of-broom c =
@@ -39,7 +36,7 @@ invariant_of-broom c =
     let changed = kept (goal.at.invariant_of-broom c).After-fetch_add in
     record {
       bare = c.fetch_add.ensures.2.0 ∙ s.bare;
-      owns = just_now _ _ _ (ap (λ (w : View). w.owns) changed)
+      owns = just_now changed
           (kept_just (own_blocks s) (broom_view s).owns s.owns o (renewed o) c.in-Erasing.is c.requires.no_spare refl);
     }
 
@@ -59,5 +56,4 @@ returns-clause-blocks c x is =
 pub returns-clause-broom : goal.returns-clause-broom
 returns-clause-broom c =
     let changed = kept (goal.at.returns-clause-broom c).After-fetch_add in
-    stays_broom c.args.self.now c.args.broom.now _ c.requires.broom c.fetch_add.ensures.0 (ap (λ (w : View). w.role) changed)
-    (ap (λ (w : View). w.numbers) changed)
+    stays_broom c.requires.broom c.fetch_add.ensures.0 (ap whose changed)

@@ -1,3 +1,4 @@
+use Rattle.flash_table.proofs.Asking.{whose}
 use Rattle.std.proofs.Common.{◌≡◌, ap, ◌∙◌}
 use Rattle.flash_rule.specs.declared.{facts.Pin.TheVariants.Clear, view.View.View}
 use Rattle.flash_table.specs.Flash.{view_of}
@@ -6,12 +7,10 @@ use Rattle.flash_table.proofs.flash.Flash.unpin.Goals as goal
 
 pub fetch_sub-requires : goal.fetch_sub-requires
 fetch_sub-requires c =
-    let p = c.args.pass.now in
-    unpin_here c.args.self.now p.seat (of_pass c.args.self.now p c.requires.pass) c.pin_at-word.result c.args.block c.requires.block c.pin_at-word.ensures
-    c.requires.pass.role c.requires.pinned
+    unpin_here (of_pass c.requires.pass) c.pin_at-word.result c.args.block c.requires.block c.pin_at-word.ensures c.requires.pass.role c.requires.pinned
 
 cleared : (c : After-fetch_sub) → c.fetch_sub.new.seat.me.0 ≡ record (view_of c.args.pass.now) { pin = Clear }
-cleared c = unpin_view c.args.self.now c.args.pass.now c.requires.pass c.fetch_sub.result c.fetch_sub.new.seat.me c.pin_at-word.result c.args.block
+cleared c = unpin_view c.requires.pass c.fetch_sub.result c.fetch_sub.new.seat.me c.pin_at-word.result c.args.block
     c.requires.pinned c.pin_at-word.ensures c.fetch_sub.ensures.2
 
 pub invariant_of-pass : goal.invariant_of-pass
@@ -25,5 +24,4 @@ returns-clause-told c = cleared (goal.at.returns-clause-told c).After-fetch_sub
 pub returns-clause-pass : goal.returns-clause-pass
 returns-clause-pass c =
     let changed = cleared (goal.at.returns-clause-pass c).After-fetch_sub in
-    stays_pass c.args.self.now c.args.pass.now _ c.requires.pass c.fetch_sub.ensures.0 (ap (λ (w : View). w.role) changed)
-    (ap (λ (w : View). w.numbers) changed)
+    stays_pass c.requires.pass c.fetch_sub.ensures.0 (ap whose changed)
