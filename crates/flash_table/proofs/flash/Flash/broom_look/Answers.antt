@@ -21,9 +21,7 @@ returns-clause-named c =
     subst (λ n. Named (broom_view c.args.broom.now) c.args.sector n c.load-found.new.seat.me.0) word told
 
 pub returns-clause-broom : goal.returns-clause-broom
-returns-clause-broom c =
-    let changed = c.load-found.ensures.2.1.changed in
-    stays_broom c.requires.broom c.load-found.ensures.0 (ap whose changed)
+returns-clause-broom c = stays_broom c.requires.broom c.load-found.ensures.0 (ap whose c.load-found.ensures.2.1.changed)
 
 pub returns-clause-fits : goal.returns-clause-fits
 returns-clause-fits c = grind (arith, common_steps)

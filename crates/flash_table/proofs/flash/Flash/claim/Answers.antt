@@ -35,8 +35,7 @@ returns-then-found-expected-clause-claimed c =
 pub returns-then-found-expected-clause-broom : goal.returns-then-found-expected-clause-broom
 returns-then-found-expected-clause-broom c =
     let told = claimed (goal.at.returns-then-found-expected-clause-broom c).After-compare_exchange-found in
-    let changed = told.lost (λ is. c.if-found-expected.true (is ∙ sym c.pack-expected.ensures)) in
-    stays_broom c.requires.broom c.compare_exchange-found.ensures.0 (ap whose changed)
+    stays_broom c.requires.broom c.compare_exchange-found.ensures.0 (ap whose (told.lost (λ is. c.if-found-expected.true (is ∙ sym c.pack-expected.ensures))))
 
 -- ---- the block is the broom's victim
 pub invariant_of-broom-2 : goal.invariant_of-broom-2
@@ -57,6 +56,5 @@ returns-clause-claimed c =
 
 pub returns-clause-broom : goal.returns-clause-broom
 returns-clause-broom c =
-    let told = claimed (goal.at.returns-clause-broom c).After-compare_exchange-found in
-    let changed = told.won (c.if-found-expected.false ∙ c.pack-expected.ensures) in
+    let changed = (claimed (goal.at.returns-clause-broom c).After-compare_exchange-found).won (c.if-found-expected.false ∙ c.pack-expected.ensures) in
     stays_broom c.requires.broom c.compare_exchange-found.ensures.0 (ap whose changed)

@@ -35,8 +35,7 @@ returns-then-found-old-clause-condemned c =
 pub returns-then-found-old-clause-broom : goal.returns-then-found-old-clause-broom
 returns-then-found-old-clause-broom c =
     let told = its (goal.at.returns-then-found-old-clause-broom c).After-compare_exchange-found in
-    let changed = told.busy (λ is. c.if-found-old.true (is ∙ sym c.pack-old.ensures)) in
-    stays_broom c.requires.broom c.compare_exchange-found.ensures.0 (ap whose changed)
+    stays_broom c.requires.broom c.compare_exchange-found.ensures.0 (ap whose (told.busy (λ is. c.if-found-old.true (is ∙ sym c.pack-old.ensures))))
 
 -- ---- the block is the broom's to erase
 pub invariant_of-broom-2 : goal.invariant_of-broom-2
@@ -53,8 +52,7 @@ invariant_of-broom-2 c =
 
 pub returns-clause-condemned : goal.returns-clause-condemned
 returns-clause-condemned c =
-    let told = its (goal.at.returns-clause-condemned c).After-compare_exchange-found in
-    record { changed = told.won (c.if-found-old.false ∙ c.pack-old.ensures); blocks = refl }
+    record { changed = (its (goal.at.returns-clause-condemned c).After-compare_exchange-found).won (c.if-found-old.false ∙ c.pack-old.ensures); blocks = refl }
 
 pub returns-clause-broom : goal.returns-clause-broom
 returns-clause-broom c =

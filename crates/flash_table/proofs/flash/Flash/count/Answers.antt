@@ -9,10 +9,9 @@ use Rattle.flash_table.proofs.flash.Flash.count.Goals as goal
 
 pub fetch_add-requires : goal.fetch_add-requires
 fetch_add-requires c =
-    let f = c.args.self.now in
     let p = c.args.pass.now in
     let o = c.in-Some.opened in
-    let can = count_can f.geometry (view_of p) p.opened o c.in-Some.is c.requires.filled in
+    let can = count_can c.args.self.now.geometry (view_of p) p.opened o c.in-Some.is c.requires.filled in
     count_here (of_pass c.requires.pass) c.pin_at-word.result (owned_of o) can.0 can.3 c.pin_at-word.ensures can.1
 
 counted : (c : After-fetch_add) (o : OpenBlock) (x : Work) → c.args.pass.now.opened ≡ Some o → CanCount (view_of c.args.pass.now) (owned_of o) x
@@ -21,12 +20,11 @@ counted : (c : After-fetch_add) (o : OpenBlock) (x : Work) → c.args.pass.now.o
       owns = owned_of (record o { written = o.written + 1 }) ∷ [];
     }
 counted c o x is can =
-    let f = c.args.self.now in
     let p = c.args.pass.now in
     let same = same_block c.in-Some.opened o p.opened c.in-Some.is is in
     pass_counted p o is c.fetch_add.new.seat.me.0 x.page
     (count_view (of_pass c.requires.pass) c.fetch_add.result c.fetch_add.new.seat.me c.pin_at-word.result o x can
-    (c.pin_at-word.ensures ∙ ap (λ (y : OpenBlock). pin_index (device f) y.block) same) c.fetch_add.ensures.2)
+    (c.pin_at-word.ensures ∙ ap (λ (y : OpenBlock). pin_index (device c.args.self.now) y.block) same) c.fetch_add.ensures.2)
 
 pub invariant_of-pass : goal.invariant_of-pass
 invariant_of-pass c =
@@ -40,8 +38,7 @@ returns-clause-told c = counted (goal.at.returns-clause-told c).After-fetch_add
 
 pub returns-clause-pass : goal.returns-clause-pass
 returns-clause-pass c =
-    let f = c.args.self.now in
     let p = c.args.pass.now in
-    let can = count_can f.geometry (view_of p) p.opened c.in-Some.opened c.in-Some.is c.requires.filled in
+    let can = count_can c.args.self.now.geometry (view_of p) p.opened c.in-Some.opened c.in-Some.is c.requires.filled in
     let changed = counted (goal.at.returns-clause-pass c).After-fetch_add c.in-Some.opened can.0 c.in-Some.is can.1 in
     stays_pass c.requires.pass c.fetch_add.ensures.0 (ap whose changed)

@@ -10,10 +10,9 @@ use Rattle.flash_table.proofs.flash.Flash.count_copy.Goals as goal
 
 pub fetch_add-requires : goal.fetch_add-requires
 fetch_add-requires c =
-    let f = c.args.self.now in
     let s = c.args.broom.now in
     let o = c.in-Some.opened in
-    let can = count_can f.geometry (broom_view s) (own_blocks s).destination o c.in-Some.is c.requires.filled in
+    let can = count_can c.args.self.now.geometry (broom_view s) (own_blocks s).destination o c.in-Some.is c.requires.filled in
     count_here (of_broom c.requires.broom) c.pin_at-word.result (owned_of o) can.0 can.3 c.pin_at-word.ensures can.1
 
 counted : (c : After-fetch_add) (o : OpenBlock) (x : Work) → (own_blocks c.args.broom.now).destination ≡ Some o
@@ -23,21 +22,18 @@ counted : (c : After-fetch_add) (o : OpenBlock) (x : Work) → (own_blocks c.arg
       owns = with_owned (owned_of (record o { written = o.written + 1 })) (broom_view c.args.broom.now).owns;
     }
 counted c o x is can =
-    let f = c.args.self.now in
-    let s = c.args.broom.now in
-    let same = same_block c.in-Some.opened o (own_blocks s).destination c.in-Some.is is in
+    let same = same_block c.in-Some.opened o (own_blocks c.args.broom.now).destination c.in-Some.is is in
     count_view (of_broom c.requires.broom) c.fetch_add.result c.fetch_add.new.seat.me c.pin_at-word.result o x can
-    (c.pin_at-word.ensures ∙ ap (λ (y : OpenBlock). pin_index (device f) y.block) same) c.fetch_add.ensures.2
+    (c.pin_at-word.ensures ∙ ap (λ (y : OpenBlock). pin_index (device c.args.self.now) y.block) same) c.fetch_add.ensures.2
 
 pub invariant_of-broom : goal.invariant_of-broom
 invariant_of-broom c =
     let s = c.args.broom.now in
     let o = c.in-Some.opened in
     let can = count_can c.args.self.now.geometry (broom_view s) (own_blocks s).destination o c.in-Some.is c.requires.filled in
-    let changed = counted (goal.at.invariant_of-broom c).After-fetch_add o can.0 c.in-Some.is can.1 in
     record {
       bare = c.fetch_add.ensures.2.0 ∙ s.bare;
-      owns = just_now changed
+      owns = just_now (counted (goal.at.invariant_of-broom c).After-fetch_add o can.0 c.in-Some.is can.1)
           (counted_just (own_blocks s) (broom_view s).owns s.owns o (record o { written = o.written + 1 }) c.in-Some.is refl);
     }
 
@@ -52,8 +48,7 @@ returns-clause-blocks c o is =
 
 pub returns-clause-broom : goal.returns-clause-broom
 returns-clause-broom c =
-    let f = c.args.self.now in
     let s = c.args.broom.now in
-    let can = count_can f.geometry (broom_view s) (own_blocks s).destination c.in-Some.opened c.in-Some.is c.requires.filled in
+    let can = count_can c.args.self.now.geometry (broom_view s) (own_blocks s).destination c.in-Some.opened c.in-Some.is c.requires.filled in
     let changed = counted (goal.at.returns-clause-broom c).After-fetch_add c.in-Some.opened can.0 c.in-Some.is can.1 in
     stays_broom c.requires.broom c.fetch_add.ensures.0 (ap whose changed)

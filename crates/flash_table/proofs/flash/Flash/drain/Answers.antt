@@ -21,10 +21,9 @@ drained c =
 pub invariant_of-broom : goal.invariant_of-broom
 invariant_of-broom c =
     let s = c.args.broom.now in
-    let changed = drained (goal.at.invariant_of-broom c).After-fetch_add in
     record {
       bare = c.fetch_add.ensures.2.0 ∙ s.bare;
-      owns = just_now changed
+      owns = just_now (drained (goal.at.invariant_of-broom c).After-fetch_add)
           (drained_just (own_blocks s) (broom_view s).owns s.owns c.in-Draining.victim c.in-Draining.is);
     }
 
@@ -35,6 +34,4 @@ returns-clause-drained c e is =
     ∙ ap (left_drained (broom_view s)) (draining_same c.in-Draining.victim e (own_blocks s).reclaiming c.in-Draining.is is)
 
 pub returns-clause-broom : goal.returns-clause-broom
-returns-clause-broom c =
-    let changed = drained (goal.at.returns-clause-broom c).After-fetch_add in
-    stays_broom c.requires.broom c.fetch_add.ensures.0 (ap whose changed)
+returns-clause-broom c = stays_broom c.requires.broom c.fetch_add.ensures.0 (ap whose (drained (goal.at.returns-clause-broom c).After-fetch_add))

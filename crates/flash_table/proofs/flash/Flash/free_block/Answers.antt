@@ -22,10 +22,9 @@ freed c =
 pub invariant_of-broom : goal.invariant_of-broom
 invariant_of-broom c =
     let s = c.args.broom.now in
-    let changed = freed (goal.at.invariant_of-broom c).After-fetch_add in
     record {
       bare = c.fetch_add.ensures.2.0 ∙ s.bare;
-      owns = just_now changed
+      owns = just_now (freed (goal.at.invariant_of-broom c).After-fetch_add)
           (erased_just (own_blocks s) (broom_view s).owns s.owns c.in-Erasing.erased c.in-Erasing.is);
     }
 
@@ -36,6 +35,4 @@ returns-clause-freed c x is =
     ∙ ap (left_free (broom_view s)) (same_erased (own_blocks s).reclaiming c.in-Erasing.erased x c.in-Erasing.is is)
 
 pub returns-clause-broom : goal.returns-clause-broom
-returns-clause-broom c =
-    let changed = freed (goal.at.returns-clause-broom c).After-fetch_add in
-    stays_broom c.requires.broom c.fetch_add.ensures.0 (ap whose changed)
+returns-clause-broom c = stays_broom c.requires.broom c.fetch_add.ensures.0 (ap whose (freed (goal.at.returns-clause-broom c).After-fetch_add))

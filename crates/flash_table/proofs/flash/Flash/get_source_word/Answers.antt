@@ -22,13 +22,10 @@ invariant_of-broom c =
 
 pub returns-clause-value : goal.returns-clause-value
 returns-clause-value c x value is live =
-    let s = c.args.broom.now in
     let t = c.requires.source in
-    let same = source_same x t.0 (broom_view s).source is t.1 in
+    let same = source_same x t.0 (broom_view c.args.broom.now).source is t.1 in
     source_value c.requires.broom c.load.result c.load.new.seat.me (c.args.start + c.args.i) c.args.i c.args.page x value is
     (ap (λ (y : Source). y.page) same ∙ t.2) live c.requires.word (ap (λ n. n + c.args.i) c.requires.start) c.load.ensures.2
 
 pub returns-clause-broom : goal.returns-clause-broom
-returns-clause-broom c =
-    let same = c.load.ensures.2.0 in
-    stays_broom c.requires.broom c.load.ensures.0 (ap (λ (m : Sitter). whose m.0) same)
+returns-clause-broom c = stays_broom c.requires.broom c.load.ensures.0 (ap (λ (m : Sitter). whose m.0) c.load.ensures.2.0)

@@ -19,9 +19,8 @@ page_word_at-place-requires-clause-block c = (written c.args.self.now c.args.bro
 pub load-requires : goal.load-requires
 load-requires c =
     let f = c.args.self.now in
-    let s = c.args.broom.now in
     let o = c.in-Draining.victim in
-    let its = written f s o c.args.page c.in-Draining.is c.requires.next in
+    let its = written f c.args.broom.now o c.args.page c.in-Draining.is c.requires.next in
     let at : c.page_word_at-place.result ≡ page_index (device f) o.block c.args.page + (device f).words =
     c.page_word_at-place.ensures ∙ ap (λ i. page_index (device f) o.block c.args.page + i) c.words.ensures.value in
     stamp_here (of_broom c.requires.broom) c.page_word_at-place.result (reclaimed_as Victim o) its.0
@@ -32,9 +31,8 @@ load-requires c =
 got : (c : After-load) → GotStamp (broom_view c.args.broom.now) (reclaimed_as Victim c.in-Draining.victim) c.load.result c.load.new.seat.me.0
 got c =
     let f = c.args.self.now in
-    let s = c.args.broom.now in
     let o = c.in-Draining.victim in
-    let its = written f s o c.args.page c.in-Draining.is c.requires.next in
+    let its = written f c.args.broom.now o c.args.page c.in-Draining.is c.requires.next in
     let can = stamp_can c.requires.broom o c.args.page c.in-Draining.is its.1 c.requires.cleared in
     stamp_view c.requires.broom c.load.result c.load.new.seat.me c.page_word_at-place.result c.args.page o can c.requires.cleared
     (c.page_word_at-place.ensures ∙ ap (λ i. page_index (device f) o.block c.args.page + i) c.words.ensures.value) c.load.ensures.2
@@ -42,8 +40,7 @@ got c =
 pub invariant_of-broom : goal.invariant_of-broom
 invariant_of-broom c =
     let s = c.args.broom.now in
-    let changed = stamp_changed _ _ _ _ (got (goal.at.invariant_of-broom c).After-load) in
-    record { bare = c.load.ensures.2.0 ∙ s.bare; owns = just_now changed s.owns }
+    record { bare = c.load.ensures.2.0 ∙ s.bare; owns = just_now (stamp_changed _ _ _ _ (got (goal.at.invariant_of-broom c).After-load)) s.owns }
 
 pub returns-clause-stamp : goal.returns-clause-stamp
 returns-clause-stamp c e is =
@@ -53,6 +50,4 @@ returns-clause-stamp c e is =
     (got (goal.at.returns-clause-stamp c).After-load)
 
 pub returns-clause-broom : goal.returns-clause-broom
-returns-clause-broom c =
-    let changed = stamp_changed _ _ _ _ (got (goal.at.returns-clause-broom c).After-load) in
-    stays_broom c.requires.broom c.load.ensures.0 (ap whose changed)
+returns-clause-broom c = stays_broom c.requires.broom c.load.ensures.0 (ap whose (stamp_changed _ _ _ _ (got (goal.at.returns-clause-broom c).After-load)))

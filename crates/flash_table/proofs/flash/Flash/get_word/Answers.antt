@@ -11,9 +11,8 @@ word_place f page start i = ap (λ n. n + i)
 
 pub load-requires : goal.load-requires
 load-requires c =
-    let f = c.args.self.now in
     get_here (of_pass c.requires.pass) (c.args.start + c.args.i) c.args.page c.args.i c.requires.block c.requires.page c.requires.word
-    (word_place f c.args.page c.args.start c.args.i c.requires.start) c.requires.pinned
+    (word_place c.args.self.now c.args.page c.args.start c.args.i c.requires.start) c.requires.pinned
 
 pub returns-clause-told : goal.returns-clause-told
 returns-clause-told c value pin =

@@ -11,10 +11,9 @@ load-found-requires c =
 pub invariant_of-broom : goal.invariant_of-broom
 invariant_of-broom c =
     let s = c.args.broom.now in
-    let told = c.load-found.ensures.2.1 c.args.block c.args.state c.requires.next in
     record {
       bare = c.load-found.ensures.2.0 ∙ s.bare;
-      owns = just_now ((inspected_changed _ _ _ _ _ _ told)) s.owns;
+      owns = just_now ((inspected_changed _ _ _ _ _ _ (c.load-found.ensures.2.1 c.args.block c.args.state c.requires.next))) s.owns;
     }
 
 pub returns-clause-inspected : goal.returns-clause-inspected

@@ -33,10 +33,9 @@ pub invariant_of-broom : goal.invariant_of-broom
 invariant_of-broom c =
     let s = c.args.broom.now in
     let o = c.in-Erasing.erased in
-    let changed = kept (goal.at.invariant_of-broom c).After-fetch_add in
     record {
       bare = c.fetch_add.ensures.2.0 ∙ s.bare;
-      owns = just_now changed
+      owns = just_now (kept (goal.at.invariant_of-broom c).After-fetch_add)
           (kept_just (own_blocks s) (broom_view s).owns s.owns o (renewed o) c.in-Erasing.is c.requires.no_spare refl);
     }
 
@@ -54,6 +53,4 @@ returns-clause-blocks c x is =
     ap P (same_erased (own_blocks s).reclaiming c.in-Erasing.erased x c.in-Erasing.is is)
 
 pub returns-clause-broom : goal.returns-clause-broom
-returns-clause-broom c =
-    let changed = kept (goal.at.returns-clause-broom c).After-fetch_add in
-    stays_broom c.requires.broom c.fetch_add.ensures.0 (ap whose changed)
+returns-clause-broom c = stays_broom c.requires.broom c.fetch_add.ensures.0 (ap whose (kept (goal.at.returns-clause-broom c).After-fetch_add))

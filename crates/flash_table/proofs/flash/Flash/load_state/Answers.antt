@@ -42,5 +42,4 @@ returns-clause-ranges c =
 
 pub returns-clause-broom : goal.returns-clause-broom
 returns-clause-broom c =
-    let changed = loaded_changed _ _ _ _ (loaded (goal.at.returns-clause-broom c).After-load-found) in
-    stays_broom c.requires.broom c.load-found.ensures.0 (ap whose changed)
+    stays_broom c.requires.broom c.load-found.ensures.0 (ap whose (loaded_changed _ _ _ _ (loaded (goal.at.returns-clause-broom c).After-load-found)))

@@ -40,5 +40,4 @@ returns-clause-moved c x is =
 
 pub returns-clause-broom : goal.returns-clause-broom
 returns-clause-broom c =
-    let told = moved (goal.at.returns-clause-broom c).After-compare_exchange-found in
-    stays_broom c.requires.broom c.compare_exchange-found.ensures.0 (ap whose told.changed)
+    stays_broom c.requires.broom c.compare_exchange-found.ensures.0 (ap whose (moved (goal.at.returns-clause-broom c).After-compare_exchange-found).changed)

@@ -30,5 +30,4 @@ returns-clause-told c t value role can =
 
 pub returns-clause-pass : goal.returns-clause-pass
 returns-clause-pass c =
-    let t = placed (goal.at.returns-clause-pass c).After-compare_exchange-found in
-    stays_pass c.requires.pass c.compare_exchange-found.ensures.0 (ap whose t.2.changed)
+    stays_pass c.requires.pass c.compare_exchange-found.ensures.0 (ap whose (placed (goal.at.returns-clause-pass c).After-compare_exchange-found).2.changed)

@@ -28,6 +28,4 @@ returns-clause-told c t value role can =
     (c.swap-found.ensures.2.1 t c.args.page value role c.pack-word.ensures c.requires.page can) c.was_by.ensures.empty c.was_by.ensures.written
 
 pub returns-clause-pass : goal.returns-clause-pass
-returns-clause-pass c =
-    let t = placed (goal.at.returns-clause-pass c).After-swap-found in
-    stays_pass c.requires.pass c.swap-found.ensures.0 (ap whose t.2.changed)
+returns-clause-pass c = stays_pass c.requires.pass c.swap-found.ensures.0 (ap whose (placed (goal.at.returns-clause-pass c).After-swap-found).2.changed)

@@ -24,22 +24,19 @@ store-requires c =
 
 put : (c : After-store) → HasPut (broom_view c.args.broom.now) (own_blocks c.args.broom.now).destination c.args.word c.store.new.seat.me.0
 put c o is =
-    let f = c.args.self.now in
     let s = c.args.broom.now in
-    let t = put_can f.geometry (broom_view s) (own_blocks s).destination o is c.args.i c.requires.next in
+    let t = put_can c.args.self.now.geometry (broom_view s) (own_blocks s).destination o is c.args.i c.requires.next in
     put_view (of_broom c.requires.broom) c.args.word c.store.new.seat.me (c.args.start + c.args.i) o c.args.i c.args.word t.0 t.1
     (ap (λ n. n + c.args.i) (c.requires.start o is)) c.store.ensures.2
 
 pub invariant_of-broom : goal.invariant_of-broom
 invariant_of-broom c =
     let s = c.args.broom.now in
-    let changed = put (goal.at.invariant_of-broom c).After-store c.requires.next.0 c.requires.next.1 in
-    record { bare = c.store.ensures.2.0 ∙ s.bare; owns = just_now changed s.owns }
+    record { bare = c.store.ensures.2.0 ∙ s.bare; owns = just_now (put (goal.at.invariant_of-broom c).After-store c.requires.next.0 c.requires.next.1) s.owns }
 
 pub returns-clause-put : goal.returns-clause-put
 returns-clause-put c = put (goal.at.returns-clause-put c).After-store
 
 pub returns-clause-broom : goal.returns-clause-broom
 returns-clause-broom c =
-    let changed = put (goal.at.returns-clause-broom c).After-store c.requires.next.0 c.requires.next.1 in
-    stays_broom c.requires.broom c.store.ensures.0 (ap whose changed)
+    stays_broom c.requires.broom c.store.ensures.0 (ap whose (put (goal.at.returns-clause-broom c).After-store c.requires.next.0 c.requires.next.1))

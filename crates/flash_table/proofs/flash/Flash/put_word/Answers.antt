@@ -25,9 +25,8 @@ store-requires c =
 
 put : (c : After-store) → HasPut (view_of c.args.pass.now) c.args.pass.now.opened c.args.word c.store.new.seat.me.0
 put c o is =
-    let f = c.args.self.now in
     let p = c.args.pass.now in
-    let t = put_can f.geometry (view_of p) p.opened o is c.args.i c.requires.next in
+    let t = put_can c.args.self.now.geometry (view_of p) p.opened o is c.args.i c.requires.next in
     put_view (of_pass c.requires.pass) c.args.word c.store.new.seat.me (c.args.start + c.args.i) o c.args.i c.args.word t.0 t.1
     (ap (λ n. n + c.args.i) (c.requires.start o is)) c.store.ensures.2
 
@@ -42,5 +41,4 @@ returns-clause-told c = put (goal.at.returns-clause-told c).After-store
 
 pub returns-clause-pass : goal.returns-clause-pass
 returns-clause-pass c =
-    let changed = put (goal.at.returns-clause-pass c).After-store c.requires.next.0 c.requires.next.1 in
-    stays_pass c.requires.pass c.store.ensures.0 (ap whose changed)
+    stays_pass c.requires.pass c.store.ensures.0 (ap whose (put (goal.at.returns-clause-pass c).After-store c.requires.next.0 c.requires.next.1))

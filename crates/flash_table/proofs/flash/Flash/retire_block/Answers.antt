@@ -21,10 +21,9 @@ retired c =
 pub invariant_of-broom : goal.invariant_of-broom
 invariant_of-broom c =
     let s = c.args.broom.now in
-    let changed = retired (goal.at.invariant_of-broom c).After-fetch_add in
     record {
       bare = c.fetch_add.ensures.2.0 ∙ s.bare;
-      owns = just_now changed
+      owns = just_now (retired (goal.at.invariant_of-broom c).After-fetch_add)
           (erased_just (own_blocks s) (broom_view s).owns s.owns c.in-Erasing.erased c.in-Erasing.is);
     }
 
@@ -35,6 +34,4 @@ returns-clause-retired c x is =
     ∙ ap (left_retired (broom_view s)) (same_erased (own_blocks s).reclaiming c.in-Erasing.erased x c.in-Erasing.is is)
 
 pub returns-clause-broom : goal.returns-clause-broom
-returns-clause-broom c =
-    let changed = retired (goal.at.returns-clause-broom c).After-fetch_add in
-    stays_broom c.requires.broom c.fetch_add.ensures.0 (ap whose changed)
+returns-clause-broom c = stays_broom c.requires.broom c.fetch_add.ensures.0 (ap whose (retired (goal.at.returns-clause-broom c).After-fetch_add))

@@ -22,6 +22,4 @@ pub returns-clause-told : goal.returns-clause-told
 returns-clause-told c = cleared (goal.at.returns-clause-told c).After-fetch_sub
 
 pub returns-clause-pass : goal.returns-clause-pass
-returns-clause-pass c =
-    let changed = cleared (goal.at.returns-clause-pass c).After-fetch_sub in
-    stays_pass c.requires.pass c.fetch_sub.ensures.0 (ap whose changed)
+returns-clause-pass c = stays_pass c.requires.pass c.fetch_sub.ensures.0 (ap whose (cleared (goal.at.returns-clause-pass c).After-fetch_sub))

@@ -28,25 +28,21 @@ store-requires c =
 -- the broom has wiped one word more, and nothing else has changed
 changed : (c : After-store) → c.store.new.seat.me.0 ≡ record (broom_view c.args.broom.now) { wiped = c.args.i + 1 }
 changed c =
-    let f = c.args.self.now in
     let t = c.requires.erasing in
     let can = can_wipe c.requires.broom t.0 c.args.i t.1.its c.requires.next c.requires.word in
-    let at : c.args.start + c.args.i ≡ page_index (device f) t.0.block 0 + c.args.i = ap (λ n. n + c.args.i) (c.requires.start t.0 t.1.its) in
+    let at : c.args.start + c.args.i ≡ page_index (device c.args.self.now) t.0.block 0 + c.args.i = ap (λ n. n + c.args.i) (c.requires.start t.0 t.1.its) in
     wipe_view c.requires.broom blank_word c.store.new.seat.me (c.args.start + c.args.i) c.args.i t.0 can c.requires.next at c.store.ensures.2
 
 pub invariant_of-broom : goal.invariant_of-broom
 invariant_of-broom c =
     let s = c.args.broom.now in
-    let now = changed (goal.at.invariant_of-broom c).After-store in
-    record { bare = c.store.ensures.2.0 ∙ s.bare; owns = just_now now s.owns }
+    record { bare = c.store.ensures.2.0 ∙ s.bare; owns = just_now (changed (goal.at.invariant_of-broom c).After-store) s.owns }
 
 pub returns-clause-wiped : goal.returns-clause-wiped
 returns-clause-wiped c = changed (goal.at.returns-clause-wiped c).After-store
 
 pub returns-clause-broom : goal.returns-clause-broom
-returns-clause-broom c =
-    let now = changed (goal.at.returns-clause-broom c).After-store in
-    stays_broom c.requires.broom c.store.ensures.0 (ap whose now)
+returns-clause-broom c = stays_broom c.requires.broom c.store.ensures.0 (ap whose (changed (goal.at.returns-clause-broom c).After-store))
 
 pub returns-clause-blocks : goal.returns-clause-blocks
 returns-clause-blocks c = refl
