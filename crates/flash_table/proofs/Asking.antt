@@ -55,26 +55,26 @@ AsksJoin f x n both = (x.table_id ≡ f.table.shared.table_id) × (n.seat.table_
 
 module _ {f : Flash} {x : Seat (Unit {0}) View} (h : IsSeatOf f x) where
   -- a step that brings numbers beside its place
-  pub asks_with : (A : Type 0) (change : A → ℕ → ℕ) (told : ℕ → A → ℕ → Sitter → Type 0) (word place : ℕ) (a b : A) → IsPlace f place → word ≡ place
+  pub asks_with : {A : Type 0} (change : A → ℕ → ℕ) (told : ℕ → A → ℕ → Sitter → Type 0) {word place : ℕ} {a b : A} → IsPlace f place → word ≡ place
       → a ≡ b → Allows (Ruled (device f)) (slots_of f) x.id x.me place (change b) (told place b) → Asks f x word (change a) (told word a)
-  asks_with A change told word place a b within is same law =
+  asks_with {A} change told within is same law =
       let P : Numbers × ℕ × A → Type 0 = λ t. Allows (Ruled t.0) (slots_of f) x.id x.me t.1 (change t.2) (told t.1 t.2) in
       let size = f.size in (h.table, omega arith, subst P (λ i. (sym (ap numbers_of f.key) i, sym is i, sym same i)) law)
 
-  pub asks : (change : ℕ → ℕ) (told : ℕ → ℕ → Sitter → Type 0) (word place : ℕ) → IsPlace f place → word ≡ place
+  pub asks : (change : ℕ → ℕ) (told : ℕ → ℕ → Sitter → Type 0) {word place : ℕ} → IsPlace f place → word ≡ place
       → Allows (Ruled (device f)) (slots_of f) x.id x.me place change (told place) → Asks f x word change (told word)
-  asks change told word place within is law = asks_with ℕ (λ _. change) (λ w _. told w) word place 0 0 within is refl law
+  asks change told within is law = asks_with (λ (_ : ℕ). change) (λ w _. told w) {b = 0} within is refl law
 
   -- a step on a pin word
-  pub asks_pin : (change : ℕ → ℕ) (told : ℕ → ℕ → Sitter → Type 0) (word b : ℕ) → b < (device f).blocks → word ≡ pin_index (device f) b
+  pub asks_pin : (change : ℕ → ℕ) (told : ℕ → ℕ → Sitter → Type 0) {word : ℕ} (b : ℕ) → b < (device f).blocks → word ≡ pin_index (device f) b
       → Allows (Ruled (device f)) (slots_of f) x.id x.me (pin_index (device f) b) change (told (pin_index (device f) b))
       → Asks f x word change (told word)
-  asks_pin change told word b low is law = asks change told word (pin_index (device f) b) (pin_within (device f) b low) is law
+  asks_pin change told b low is law = asks change told (pin_within (device f) b low) is law
 
   -- a step on a map word
   pub asks_sector : (change : ℕ → ℕ) (told : ℕ → Sitter → Type 0) (s : ℕ) → s < (device f).sectors
       → Allows (Ruled (device f)) (slots_of f) x.id x.me s change told → Asks f x s change told
-  asks_sector change told s low law = asks change (λ _. told) s s (omega arith) refl law
+  asks_sector change told s low law = asks change (λ _. told) {place = s} (omega arith) refl law
 
   -- ---- notes
   some_word : 0 < f.table.shared.table_id.words

@@ -55,57 +55,56 @@ module _ {f : Flash} {x : Seat (Unit {0}) View} (h : IsSeatOf f x) where
       (new_allowed (device f) (slots_of f) x.id x.me s word m can.0 pass low packed fits can.1)
 
   -- ---- pin words
-  pub test_here : (word b : ℕ) → b < (device f).blocks → word ≡ pin_index (device f) b
+  pub test_here : {word : ℕ} (b : ℕ) → b < (device f).blocks → word ≡ pin_index (device f) b
       → Asks f x word (λ n. n) (test_told (step (slots_of f) word 0 0 none) x.me)
-  test_here word b low at =
-      asks_pin h (λ n. n) (λ w. test_told (step (slots_of f) w 0 0 none) x.me) word b low at (test_allowed (device f) (slots_of f) x.id x.me b h.player low)
+  test_here b low at =
+      asks_pin h (λ n. n) (λ w. test_told (step (slots_of f) w 0 0 none) x.me) b low at (test_allowed (device f) (slots_of f) x.id x.me b h.player low)
 
-  pub take_here : (word b : ℕ) → b < (device f).blocks → word ≡ pin_index (device f) b
+  pub take_here : {word : ℕ} (b : ℕ) → b < (device f).blocks → word ≡ pin_index (device f) b
       → Asks f x word (λ n. bit_or n TAKEN) (take_told (step (slots_of f) word TAKEN 0 none) x.me)
-  take_here word b low at =
-      asks_pin h (λ n. bit_or n TAKEN) (λ w. take_told (step (slots_of f) w TAKEN 0 none) x.me) word b low at
+  take_here b low at =
+      asks_pin h (λ n. bit_or n TAKEN) (λ w. take_told (step (slots_of f) w TAKEN 0 none) x.me) b low at
       (take_allowed (device f) (slots_of f) x.id x.me b h.player low)
 
-  pub count_here : (word : ℕ) (o : Owned) (w : Work) → o.block < (device f).blocks → word ≡ pin_index (device f) o.block → CanCount x.me.0 o w
+  pub count_here : {word : ℕ} (o : Owned) (w : Work) → o.block < (device f).blocks → word ≡ pin_index (device f) o.block → CanCount x.me.0 o w
       → Asks f x word (λ n. (n + PAGE_WRITTEN) % 2 ^ 64) (count_told (step (slots_of f) word PAGE_WRITTEN 0 none) x.me)
-  count_here word o w low at can =
-      asks_pin h (λ n. (n + PAGE_WRITTEN) % 2 ^ 64) (λ i. count_told (step (slots_of f) i PAGE_WRITTEN 0 none) x.me) word o.block low at
+  count_here o w low at can =
+      asks_pin h (λ n. (n + PAGE_WRITTEN) % 2 ^ 64) (λ i. count_told (step (slots_of f) i PAGE_WRITTEN 0 none) x.me) o.block low at
       (count_allowed (device f) (slots_of f) x.id x.me o w h.player h.numbers can)
 
-  pub close_here : (word : ℕ) (o : Owned) → o.block < (device f).blocks → word ≡ pin_index (device f) o.block → CanClose x.me.0 o
+  pub close_here : {word : ℕ} (o : Owned) → o.block < (device f).blocks → word ≡ pin_index (device f) o.block → CanClose x.me.0 o
       → Asks f x word (λ n. (n + NEXT_PHASE) % 2 ^ 64) (close_told (step (slots_of f) word NEXT_PHASE 0 none) x.me)
-  close_here word o low at can =
-      asks_pin h (λ n. (n + NEXT_PHASE) % 2 ^ 64) (λ w. close_told (step (slots_of f) w NEXT_PHASE 0 none) x.me) word o.block low at
+  close_here o low at can =
+      asks_pin h (λ n. (n + NEXT_PHASE) % 2 ^ 64) (λ w. close_told (step (slots_of f) w NEXT_PHASE 0 none) x.me) o.block low at
       (close_allowed (device f) (slots_of f) x.id x.me o h.numbers can)
 
-  pub pin_here : (word : ℕ) (m : MapWord) → m.block < (device f).blocks → word ≡ pin_index (device f) m.block → is_pass x.me.0.role ≡ true
+  pub pin_here : {word : ℕ} (m : MapWord) → m.block < (device f).blocks → word ≡ pin_index (device f) m.block → is_pass x.me.0.role ≡ true
       → (value : List ℕ) × (x.me.0.pin ≡ Candidate m value)
       → Asks f x word (λ n. (n + READER) % 2 ^ 64) (pin_told (step (slots_of f) word READER 0 none) x.me)
-  pin_here word m low at pass can =
-      asks_pin h (λ n. (n + READER) % 2 ^ 64) (λ w. pin_told (step (slots_of f) w READER 0 none) x.me) word m.block low at
+  pin_here m low at pass can =
+      asks_pin h (λ n. (n + READER) % 2 ^ 64) (λ w. pin_told (step (slots_of f) w READER 0 none) x.me) m.block low at
       (pin_allowed (device f) (slots_of f) x.id x.me m can.0 pass can.1 low)
 
-  pub unpin_here : (word b : ℕ) → b < (device f).blocks → word ≡ pin_index (device f) b → is_pass x.me.0.role ≡ true → IsOn x.me.0.pin b
+  pub unpin_here : {word : ℕ} (b : ℕ) → b < (device f).blocks → word ≡ pin_index (device f) b → is_pass x.me.0.role ≡ true → IsOn x.me.0.pin b
       → Asks f x word (λ n. (n + (2 ^ 64 - READER)) % 2 ^ 64) (unpin_told (step (slots_of f) word READER 0 none) x.me)
-  unpin_here word b low at pass on =
-      asks_pin h (λ n. (n + (2 ^ 64 - READER)) % 2 ^ 64) (λ w. unpin_told (step (slots_of f) w READER 0 none) x.me) word b low at
+  unpin_here b low at pass on =
+      asks_pin h (λ n. (n + (2 ^ 64 - READER)) % 2 ^ 64) (λ w. unpin_told (step (slots_of f) w READER 0 none) x.me) b low at
       (unpin_allowed (device f) (slots_of f) x.id x.me b pass on low h.numbers)
 
   -- ---- page words
-  pub put_here : (word : ℕ) (o : Owned) (w : ℕ) → o.block < (device f).blocks
+  pub put_here : {word : ℕ} (o : Owned) (w : ℕ) → o.block < (device f).blocks
       → word ≡ page_index (device f) o.block o.written + length (words_in x.me.0.work o) → CanPut x.me.0 o
       → Asks f x word (λ _. w) (λ _. put_told (step (slots_of f) word w 0 none) x.me w)
-  put_here word o w low at can =
-      asks h (λ _. w) (λ i _. put_told (step (slots_of f) i w 0 none) x.me w) word (page_index (device f) o.block o.written + length (words_in x.me.0.work o))
+  put_here o w low at can =
+      asks h (λ _. w) (λ i _. put_told (step (slots_of f) i w 0 none) x.me w)
       (put_within (device f) x.me.0 o (length (words_in x.me.0.work o)) h.numbers can refl low) at
       (put_allowed (device f) (slots_of f) x.id x.me o w h.player h.numbers can)
 
-  pub get_here : (word : ℕ) (m : MapWord) (i : ℕ) → m.block < (device f).blocks → m.page < (device f).pages → i < (device f).words
+  pub get_here : {word : ℕ} (m : MapWord) (i : ℕ) → m.block < (device f).blocks → m.page < (device f).pages → i < (device f).words
       → word ≡ page_index (device f) m.block m.page + i → (value : List ℕ) × (x.me.0.pin ≡ Accepted m value)
       → Asks f x word (λ n. n) (get_told (step (slots_of f) word 0 0 none) x.me)
-  get_here word m i block page low at can =
-      asks h (λ n. n) (λ w. get_told (step (slots_of f) w 0 0 none) x.me) word (page_index (device f) m.block m.page + i)
-      (page_within (device f) m.block m.page i block page (omega arith)) at
+  get_here m i block page low at can =
+      asks h (λ n. n) (λ w. get_told (step (slots_of f) w 0 0 none) x.me) (page_within (device f) m.block m.page i block page (omega arith)) at
       (get_allowed (device f) (slots_of f) x.id x.me m can.0 i h.numbers can.1 block page low)
 
   -- ---- notes

@@ -68,13 +68,13 @@ stays_broom h table same = record { table = table ∙ h.table; role = (h.role.0,
 draining_one : (a b : ReclaimedBlock) → reclaiming.Draining a ≡ reclaiming.Draining b → a ≡ b
 draining_one a b e = cc
 
-pub draining_same : (a b : ReclaimedBlock) (x : Reclaiming) → x ≡ reclaiming.Draining a → x ≡ reclaiming.Draining b → a ≡ b
-draining_same a b x p q = draining_one a b (sym p ∙ q)
+pub draining_same : {a b : ReclaimedBlock} {x : Reclaiming} → x ≡ reclaiming.Draining a → x ≡ reclaiming.Draining b → a ≡ b
+draining_same {a} {b} p q = draining_one a b (sym p ∙ q)
 
 -- what is asked of it holds of the block that is found there
 pub of_draining : (P : ReclaimedBlock → Type 0) (x : Reclaiming) (o : ReclaimedBlock) → x ≡ reclaiming.Draining o
     → (a : ReclaimedBlock) × (x ≡ reclaiming.Draining a) × P a → P o
-of_draining P x o is t = subst P (draining_same t.0 o x t.1 is) t.2
+of_draining P x o is t = subst P (draining_same t.1 is) t.2
 
 drained_or_not : (f : Phase) → (f ≡ Drained) ⊎ (¬ (f ≡ Drained))
 drained_or_not Free = inr (λ e. absurd (cc))
@@ -107,7 +107,7 @@ module _ {f : Flash} {s : BroomSeat} (h : IsBroomOf f s) where
   pub claim_can : (b : ℕ) (p : PinWord) → b < (device f).blocks → FitsPin p × (p.phase ≡ Closed) → IsLastLoaded (broom_view s) b (pin_word p)
       → (own_blocks s).reclaiming ≡ reclaiming.Nothing → CanClaim (broom_view s) b p
   claim_can b p low state loaded rest =
-      record { low = low_here b low; fits = state.0; closed = state.1; loaded = loaded; rested = all_open (own_blocks s) (broom_view s).owns s.owns rest }
+      record { low = low_here b low; fits = state.0; closed = state.1; loaded = loaded; rested = all_open (own_blocks s) s.owns rest }
 
   -- a victim whose pages are all cleared, or that was inspected, can be drained
   pub drain_can : (o : ReclaimedBlock) → (own_blocks s).reclaiming ≡ reclaiming.Draining o
@@ -119,30 +119,30 @@ module _ {f : Flash} {s : BroomSeat} (h : IsBroomOf f s) where
       ⊎_elim (λ (c : IsCleared (geometry_of f) (broom_view s) (own_blocks s)). (c.0, c.1, (c.2.0, inl c.2.1)))
       (λ (c : HasInspected (geometry_of f) (broom_view s) (own_blocks s)). (c.0, c.1, (c.2.0, inr c.2.1))) asked in
       let its = of_draining (λ (y : ReclaimedBlock). (y.block < (device f).blocks) × Emptied y) (own_blocks s).reclaiming o is some in
-      (its.0, record { own = draining_at (own_blocks s) (broom_view s).owns s.owns o is; victim = refl; emptied = its.1 })
+      (its.0, record { own = draining_at (own_blocks s) s.owns is; victim = refl; emptied = its.1 })
+
+  pin_there : {word : ℕ} (b : ℕ) → word ≡ pin_index (device f) b → word ≡ pin_index (broom_view s).numbers b
+  pin_there b at = at ∙ ap (λ y. pin_index y b) (sym h.numbers)
+
+  pub drained_view : {after : Sitter} {word : ℕ} (o : ReclaimedBlock) → CanDrain (broom_view s) (reclaimed_as Victim o) → word ≡ pin_index (device f) o.block
+      → drain_told (step (slots_of f) word NEXT_PHASE 0 none) s.seat.me 0 after
+      → after.0 ≡ left_drained (broom_view s) o
+  drained_view o can at told = told.1 (reclaimed_as Victim o) can (pin_there o.block at)
 
 -- ---- and what it makes of the seat
-module _ {f : Flash} {s : BroomSeat} (h : IsBroomOf f s) (n : ℕ) (after : Sitter) where
-  pin_there : (word b : ℕ) → word ≡ pin_index (device f) b → word ≡ pin_index (broom_view s).numbers b
-  pin_there word b at = at ∙ ap (λ y. pin_index y b) (sym h.numbers)
-
-  pub loaded_view : (word b : ℕ) → b < (device f).blocks → word ≡ pin_index (device f) b → state_told (step (slots_of f) word 0 0 none) s.seat.me n after
+module _ {f : Flash} {s : BroomSeat} (h : IsBroomOf f s) {n : ℕ} {after : Sitter} {word : ℕ} where
+  pub loaded_view : (b : ℕ) → b < (device f).blocks → word ≡ pin_index (device f) b → state_told (step (slots_of f) word 0 0 none) s.seat.me n after
       → Loaded (broom_view s) b n after.0
-  loaded_view word b low at told = told.1 b (low_here h b low) (pin_there word b at)
+  loaded_view b low at told = told.1 b (low_here h b low) (pin_there h b at)
 
-  pub claimed_view : (word b old : ℕ) (p : PinWord) → CanClaim (broom_view s) b p → word ≡ pin_index (device f) b → old ≡ pin_word p
+  pub claimed_view : (b old : ℕ) (p : PinWord) → CanClaim (broom_view s) b p → word ≡ pin_index (device f) b → old ≡ pin_word p
       → claim_told (step (slots_of f) word old (old + NEXT_PHASE) none) s.seat.me n after
       → Claimed (broom_view s) b p n after.0
-  claimed_view word b old p can at packed told = told.1 b p can (pin_there word b at) packed
-
-  pub drained_view : (word : ℕ) (o : ReclaimedBlock) → CanDrain (broom_view s) (reclaimed_as Victim o) → word ≡ pin_index (device f) o.block
-      → drain_told (step (slots_of f) word NEXT_PHASE 0 none) s.seat.me n after
-      → after.0 ≡ left_drained (broom_view s) o
-  drained_view word o can at told = told.1 (reclaimed_as Victim o) can (pin_there word o.block at)
+  claimed_view b old p can at packed told = told.1 b p can (pin_there h b at) packed
 
 -- ---- sectors and pages
-pub source_same : (x y : Source) (a : Option Source) → a ≡ Some x → a ≡ Some y → x ≡ y
-source_same x y a p q = some_same x y (sym p ∙ q)
+pub source_same : {x y : Source} {a : Option Source} → a ≡ Some x → a ≡ Some y → x ≡ y
+source_same {x} {y} p q = some_same x y (sym p ∙ q)
 
 -- a stamp changes the source and the count of cleared pages alone
 pub stamp_changed : (v w : View) (o : Owned) (n : ℕ) → GotStamp v o n w → w ≡ record v { source = w.source; cleared = w.cleared }
@@ -155,28 +155,28 @@ module _ {f : Flash} {s : BroomSeat} (h : IsBroomOf f s) where
   pub stamp_can : (o : ReclaimedBlock) (page : ℕ) → (own_blocks s).reclaiming ≡ reclaiming.Draining o → page < o.written
       → page ≡ (broom_view s).cleared → CanGetStamp (broom_view s) (reclaimed_as Victim o)
   stamp_can o page is below cleared =
-      record { own = draining_at (own_blocks s) (broom_view s).owns s.owns o is; victim = refl; written = subst (λ k. k < o.written) cleared below }
+      record { own = draining_at (own_blocks s) s.owns is; victim = refl; written = subst (λ k. k < o.written) cleared below }
 
-module _ {f : Flash} {s : BroomSeat} (h : IsBroomOf f s) (n : ℕ) (after : Sitter) where
-  pub stamp_view : (word page : ℕ) (o : ReclaimedBlock) → CanGetStamp (broom_view s) (reclaimed_as Victim o) → page ≡ (broom_view s).cleared
+module _ {f : Flash} {s : BroomSeat} (h : IsBroomOf f s) {n : ℕ} {after : Sitter} {word : ℕ} where
+  pub stamp_view : (page : ℕ) (o : ReclaimedBlock) → CanGetStamp (broom_view s) (reclaimed_as Victim o) → page ≡ (broom_view s).cleared
       → word ≡ page_index (device f) o.block page + (device f).words
       → stamp_told (step (slots_of f) word 0 0 none) s.seat.me n after → GotStamp (broom_view s) (reclaimed_as Victim o) n after.0
-  stamp_view word page o can cleared at told =
+  stamp_view page o can cleared at told =
       told.1 (reclaimed_as Victim o) can
       (at ∙ (ap (λ k. page_index (device f) o.block k + (device f).words) cleared
       ∙ ap (λ (y : Numbers). page_index y o.block (broom_view s).cleared + y.words) (sym h.numbers)))
 
-  pub source_value : (word i : ℕ) (page : MapWord) (x : Source) (value : List ℕ) → (broom_view s).source ≡ Some x → x.page ≡ page
+  pub source_value : (i : ℕ) (page : MapWord) (x : Source) (value : List ℕ) → (broom_view s).source ≡ Some x → x.page ≡ page
       → x.value ≡ Some value → i < (device f).words → word ≡ page_index (device f) page.block page.page + i
       → source_told (step (slots_of f) word 0 0 none) s.seat.me n after → n ≡ data_word value i
-  source_value word i page x value is same live low at told =
+  source_value i page x value is same live low at told =
       told.1 x value i is live (subst (λ (y : Numbers). i < y.words) (sym h.numbers) low)
       (at ∙ (λ j. page_index (sym h.numbers j) (sym same j).block (sym same j).page + i))
 
-  pub moved_view : (sector old new : ℕ) (x : Source) (from to : MapWord) → CanMove (broom_view s) x to → FitsMap from × FitsMap to → x.page ≡ from
-      → x.stamp ≡ sector → old ≡ map_word from → new ≡ map_word to
-      → move_told (step (slots_of f) sector old new none) s.seat.me n after → Moved (broom_view s) x n after.0
-  moved_view sector old new x from to can fits same stamp packed copy told =
+  pub moved_view : (old new : ℕ) (x : Source) (from to : MapWord) → CanMove (broom_view s) x to → FitsMap from × FitsMap to → x.page ≡ from
+      → x.stamp ≡ word → old ≡ map_word from → new ≡ map_word to
+      → move_told (step (slots_of f) word old new none) s.seat.me n after → Moved (broom_view s) x n after.0
+  moved_view old new x from to can fits same stamp packed copy told =
       told.1 x to can (subst FitsMap (sym same) fits.0) fits.1 (sym stamp) (packed ∙ ap map_word (sym same)) copy
 
 -- whether the word found is the one expected

@@ -9,14 +9,14 @@ use Rattle.flash_table.proofs.flash.Flash.claim.Goals as goal
 pub compare_exchange-found-requires : goal.compare_exchange-found-requires
 compare_exchange-found-requires c =
     let can = claim_can c.requires.broom c.args.block c.args.state c.requires.block c.requires.state c.requires.loaded c.requires.at_rest in
-    claim_here (of_broom c.requires.broom) c.pin_at-word.result c.args.block c.pack-expected.result c.args.state c.requires.block
+    claim_here (of_broom c.requires.broom) c.args.block c.pack-expected.result c.args.state c.requires.block
     c.pin_at-word.ensures c.pack-expected.ensures (is_a_broom c.requires.broom) can
 
 claimed : (c : After-compare_exchange-found)
     → Claimed (broom_view c.args.broom.now) c.args.block c.args.state c.compare_exchange-found.result c.compare_exchange-found.new.seat.me.0
 claimed c =
     let can = claim_can c.requires.broom c.args.block c.args.state c.requires.block c.requires.state c.requires.loaded c.requires.at_rest in
-    claimed_view c.requires.broom c.compare_exchange-found.result c.compare_exchange-found.new.seat.me c.pin_at-word.result c.args.block
+    claimed_view c.requires.broom c.args.block
     c.pack-expected.result c.args.state can c.pin_at-word.ensures c.pack-expected.ensures c.compare_exchange-found.ensures.2
 
 -- ---- the claim was lost
@@ -47,7 +47,7 @@ invariant_of-broom-2 c =
     record {
       bare = c.compare_exchange-found.ensures.2.0 ∙ s.bare;
       owns = just_now ((told.won is))
-          (claimed_just (own_blocks s) (broom_view s).owns s.owns now c.requires.at_rest (told.fresh is));
+          (claimed_just (own_blocks s) s.owns now c.requires.at_rest (told.fresh is));
     }
 
 pub returns-clause-claimed : goal.returns-clause-claimed

@@ -8,17 +8,15 @@ use Rattle.flash_table.proofs.flash.Flash.close.Goals as goal
 
 pub fetch_add-requires : goal.fetch_add-requires
 fetch_add-requires c =
-    let p = c.args.pass.now in
-    let can = close_can c.args.self.now.geometry (view_of p) p.opened c.in-Some.opened c.in-Some.is c.requires.settled in
-    close_here (of_pass c.requires.pass) c.pin_at-word.result (owned_of c.in-Some.opened) can.1 c.pin_at-word.ensures can.0
+    let can = close_can c.args.self.now.geometry (view_of c.args.pass.now) c.in-Some.is c.requires.settled in
+    close_here (of_pass c.requires.pass) (owned_of c.in-Some.opened) can.1 c.pin_at-word.ensures can.0
 
 closed : (c : After-fetch_add) → c.fetch_add.new.seat.me.0 ≡ closed_pass (view_of c.args.pass.now) c.args.pass.now.opened
 closed c =
     let p = c.args.pass.now in
     let o = c.in-Some.opened in
-    let can = close_can c.args.self.now.geometry (view_of p) p.opened o c.in-Some.is c.requires.settled in
-    pass_closed p o c.in-Some.is c.fetch_add.new.seat.me.0 (close_view (of_pass c.requires.pass) c.fetch_add.result c.fetch_add.new.seat.me
-    c.pin_at-word.result o can.0 c.pin_at-word.ensures c.fetch_add.ensures.2)
+    let can = close_can c.args.self.now.geometry (view_of p) c.in-Some.is c.requires.settled in
+    pass_closed p o c.in-Some.is c.fetch_add.new.seat.me.0 (close_view (of_pass c.requires.pass) o can.0 c.pin_at-word.ensures c.fetch_add.ensures.2)
 
 pub invariant_of-pass : goal.invariant_of-pass
 invariant_of-pass c = record {

@@ -9,7 +9,7 @@ use Rattle.flash_table.proofs.flash.Flash.condemn.Goals as goal
 
 pub compare_exchange-found-requires : goal.compare_exchange-found-requires
 compare_exchange-found-requires c =
-    condemn_here (of_broom c.requires.broom) c.pin_at-word.result c.args.block c.pack-old.result c.args.expected c.requires.block
+    condemn_here (of_broom c.requires.broom) c.args.block c.pack-old.result c.args.expected c.requires.block
     c.pin_at-word.ensures c.pack-old.ensures (is_a_broom c.requires.broom)
     (can_condemn c.requires.broom c.args.block c.args.expected c.requires.rested c.requires.block c.requires.expected)
 
@@ -17,8 +17,7 @@ its : (c : After-compare_exchange-found)
     → Condemned (broom_view c.args.broom.now) c.args.block c.args.expected c.compare_exchange-found.result c.compare_exchange-found.new.seat.me.0
 its c =
     let can = can_condemn c.requires.broom c.args.block c.args.expected c.requires.rested c.requires.block c.requires.expected in
-    condemned c.requires.broom c.compare_exchange-found.result c.compare_exchange-found.new.seat.me c.pin_at-word.result c.args.block
-    c.pack-old.result c.args.expected c.pin_at-word.ensures c.pack-old.ensures can c.compare_exchange-found.ensures.2
+    condemned c.requires.broom c.args.block c.pack-old.result c.args.expected c.pin_at-word.ensures c.pack-old.ensures can c.compare_exchange-found.ensures.2
 
 -- ---- its word wasn't the one expected
 pub invariant_of-broom : goal.invariant_of-broom
@@ -47,7 +46,7 @@ invariant_of-broom-2 c =
     record {
       bare = c.compare_exchange-found.ensures.2.0 ∙ s.bare;
       owns = just_now ((told.won is))
-          (condemned_just (own_blocks s) (broom_view s).owns s.owns o c.requires.rested (told.fresh is));
+          (condemned_just (own_blocks s) s.owns o c.requires.rested (told.fresh is));
     }
 
 pub returns-clause-condemned : goal.returns-clause-condemned

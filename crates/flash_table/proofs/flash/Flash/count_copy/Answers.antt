@@ -10,10 +10,8 @@ use Rattle.flash_table.proofs.flash.Flash.count_copy.Goals as goal
 
 pub fetch_add-requires : goal.fetch_add-requires
 fetch_add-requires c =
-    let s = c.args.broom.now in
-    let o = c.in-Some.opened in
-    let can = count_can c.args.self.now.geometry (broom_view s) (own_blocks s).destination o c.in-Some.is c.requires.filled in
-    count_here (of_broom c.requires.broom) c.pin_at-word.result (owned_of o) can.0 can.3 c.pin_at-word.ensures can.1
+    let can = count_can c.args.self.now.geometry (broom_view c.args.broom.now) c.in-Some.is c.requires.filled in
+    count_here (of_broom c.requires.broom) (owned_of c.in-Some.opened) can.0 can.3 c.pin_at-word.ensures can.1
 
 counted : (c : After-fetch_add) (o : OpenBlock) (x : Work) → (own_blocks c.args.broom.now).destination ≡ Some o
     → CanCount (broom_view c.args.broom.now) (owned_of o) x
@@ -22,19 +20,18 @@ counted : (c : After-fetch_add) (o : OpenBlock) (x : Work) → (own_blocks c.arg
       owns = with_owned (owned_of (record o { written = o.written + 1 })) (broom_view c.args.broom.now).owns;
     }
 counted c o x is can =
-    let same = same_block c.in-Some.opened o (own_blocks c.args.broom.now).destination c.in-Some.is is in
-    count_view (of_broom c.requires.broom) c.fetch_add.result c.fetch_add.new.seat.me c.pin_at-word.result o x can
-    (c.pin_at-word.ensures ∙ ap (λ (y : OpenBlock). pin_index (device c.args.self.now) y.block) same) c.fetch_add.ensures.2
+    count_view (of_broom c.requires.broom) o x can
+    (c.pin_at-word.ensures ∙ ap (λ (y : OpenBlock). pin_index (device c.args.self.now) y.block) (same_block c.in-Some.is is)) c.fetch_add.ensures.2
 
 pub invariant_of-broom : goal.invariant_of-broom
 invariant_of-broom c =
     let s = c.args.broom.now in
     let o = c.in-Some.opened in
-    let can = count_can c.args.self.now.geometry (broom_view s) (own_blocks s).destination o c.in-Some.is c.requires.filled in
+    let can = count_can c.args.self.now.geometry (broom_view s) c.in-Some.is c.requires.filled in
     record {
       bare = c.fetch_add.ensures.2.0 ∙ s.bare;
       owns = just_now (counted (goal.at.invariant_of-broom c).After-fetch_add o can.0 c.in-Some.is can.1)
-          (counted_just (own_blocks s) (broom_view s).owns s.owns o (record o { written = o.written + 1 }) c.in-Some.is refl);
+          (counted_just (own_blocks s) s.owns (record o { written = o.written + 1 }) c.in-Some.is refl);
     }
 
 pub returns-clause-counted : goal.returns-clause-counted
@@ -42,13 +39,11 @@ returns-clause-counted c = counted (goal.at.returns-clause-counted c).After-fetc
 
 pub returns-clause-blocks : goal.returns-clause-blocks
 returns-clause-blocks c o is =
-    let s = c.args.broom.now in
-    let same = same_block c.in-Some.opened o (own_blocks s).destination c.in-Some.is is in
-    let P : OpenBlock → BroomBlocks = λ y. record (own_blocks s) { destination = Some (record y { written = y.written + 1 }) } in ap P same
+    let same = same_block c.in-Some.is is in
+    let P : OpenBlock → BroomBlocks = λ y. record (own_blocks c.args.broom.now) { destination = Some (record y { written = y.written + 1 }) } in ap P same
 
 pub returns-clause-broom : goal.returns-clause-broom
 returns-clause-broom c =
-    let s = c.args.broom.now in
-    let can = count_can c.args.self.now.geometry (broom_view s) (own_blocks s).destination c.in-Some.opened c.in-Some.is c.requires.filled in
+    let can = count_can c.args.self.now.geometry (broom_view c.args.broom.now) c.in-Some.is c.requires.filled in
     let changed = counted (goal.at.returns-clause-broom c).After-fetch_add c.in-Some.opened can.0 c.in-Some.is can.1 in
     stays_broom c.requires.broom c.fetch_add.ensures.0 (ap whose changed)

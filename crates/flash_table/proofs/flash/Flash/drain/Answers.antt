@@ -10,13 +10,12 @@ pub fetch_add-requires : goal.fetch_add-requires
 fetch_add-requires c =
     let o = c.in-Draining.victim in
     let can = drain_can c.requires.broom o c.in-Draining.is c.requires.emptied in
-    drain_here (of_broom c.requires.broom) c.pin_at-word.result (reclaimed_as Victim o) can.0 c.pin_at-word.ensures can.1
+    drain_here (of_broom c.requires.broom) (reclaimed_as Victim o) can.0 c.pin_at-word.ensures can.1
 
 drained : (c : After-fetch_add) → c.fetch_add.new.seat.me.0 ≡ left_drained (broom_view c.args.broom.now) c.in-Draining.victim
 drained c =
     let o = c.in-Draining.victim in
-    let can = drain_can c.requires.broom o c.in-Draining.is c.requires.emptied in
-    drained_view c.requires.broom c.fetch_add.result c.fetch_add.new.seat.me c.pin_at-word.result o can.1 c.pin_at-word.ensures c.fetch_add.ensures.2
+    drained_view c.requires.broom o (drain_can c.requires.broom o c.in-Draining.is c.requires.emptied).1 c.pin_at-word.ensures c.fetch_add.ensures.2
 
 pub invariant_of-broom : goal.invariant_of-broom
 invariant_of-broom c =
@@ -24,14 +23,13 @@ invariant_of-broom c =
     record {
       bare = c.fetch_add.ensures.2.0 ∙ s.bare;
       owns = just_now (drained (goal.at.invariant_of-broom c).After-fetch_add)
-          (drained_just (own_blocks s) (broom_view s).owns s.owns c.in-Draining.victim c.in-Draining.is);
+          (drained_just (own_blocks s) s.owns c.in-Draining.is);
     }
 
 pub returns-clause-drained : goal.returns-clause-drained
 returns-clause-drained c e is =
-    let s = c.args.broom.now in
     drained (goal.at.returns-clause-drained c).After-fetch_add
-    ∙ ap (left_drained (broom_view s)) (draining_same c.in-Draining.victim e (own_blocks s).reclaiming c.in-Draining.is is)
+    ∙ ap (left_drained (broom_view c.args.broom.now)) (draining_same c.in-Draining.is is)
 
 pub returns-clause-broom : goal.returns-clause-broom
 returns-clause-broom c = stays_broom c.requires.broom c.fetch_add.ensures.0 (ap whose (drained (goal.at.returns-clause-broom c).After-fetch_add))

@@ -10,14 +10,12 @@ pub fetch_add-requires : goal.fetch_add-requires
 fetch_add-requires c =
     let o = c.in-Erasing.erased in
     let t = live_on c.requires.broom o c.in-Erasing.is c.requires.wiped in
-    freed_here (of_broom c.requires.broom) c.pin_at-word.result _ _ t.erases.low c.pin_at-word.ensures
-    (omega (arith, c.freed.ensures)) (can_renew c.requires.broom o t)
+    freed_here (of_broom c.requires.broom) _ _ t.erases.low c.pin_at-word.ensures (omega (arith, c.freed.ensures)) (can_renew c.requires.broom o t)
 
 freed : (c : After-fetch_add) → c.fetch_add.new.seat.me.0 ≡ left_free (broom_view c.args.broom.now) c.in-Erasing.erased
 freed c =
     let o = c.in-Erasing.erased in
-    freed_view c.requires.broom c.fetch_add.result c.fetch_add.new.seat.me c.pin_at-word.result c.freed.result o
-    (live_on c.requires.broom o c.in-Erasing.is c.requires.wiped) c.pin_at-word.ensures c.fetch_add.ensures.2
+    freed_view c.requires.broom c.freed.result o (live_on c.requires.broom o c.in-Erasing.is c.requires.wiped) c.pin_at-word.ensures c.fetch_add.ensures.2
 
 pub invariant_of-broom : goal.invariant_of-broom
 invariant_of-broom c =
@@ -25,14 +23,13 @@ invariant_of-broom c =
     record {
       bare = c.fetch_add.ensures.2.0 ∙ s.bare;
       owns = just_now (freed (goal.at.invariant_of-broom c).After-fetch_add)
-          (erased_just (own_blocks s) (broom_view s).owns s.owns c.in-Erasing.erased c.in-Erasing.is);
+          (erased_just (own_blocks s) s.owns c.in-Erasing.is);
     }
 
 pub returns-clause-freed : goal.returns-clause-freed
 returns-clause-freed c x is =
-    let s = c.args.broom.now in
     freed (goal.at.returns-clause-freed c).After-fetch_add
-    ∙ ap (left_free (broom_view s)) (same_erased (own_blocks s).reclaiming c.in-Erasing.erased x c.in-Erasing.is is)
+    ∙ ap (left_free (broom_view c.args.broom.now)) (same_erased c.in-Erasing.is is)
 
 pub returns-clause-broom : goal.returns-clause-broom
 returns-clause-broom c = stays_broom c.requires.broom c.fetch_add.ensures.0 (ap whose (freed (goal.at.returns-clause-broom c).After-fetch_add))

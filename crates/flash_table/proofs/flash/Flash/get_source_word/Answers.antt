@@ -2,7 +2,7 @@ use Rattle.flash_table.proofs.Asking.{whose}
 use Rattle.std.proofs.Common.{◌+◌, ◌<◌, ap, sym, ◌∙◌, subst}
 use Rattle.geometry.specs.{TableOrder.page_index, declared.map_word.MapWord.MapWord}
 use Rattle.flash_rule.specs.{declared.facts.Source.Source, Plays.Sitter}
-use Rattle.flash_table.specs.Flash.{device, broom_view}
+use Rattle.flash_table.specs.Flash.{device}
 use Rattle.flash_table.proofs.{Asking.of_broom, Rows.just_now, HereBrooms.source_here, ToldBrooms.stays_broom, ToldBrooms.source_same, ToldBrooms.source_value}
 use Rattle.flash_table.proofs.flash.Flash.get_source_word.Goals as goal
 
@@ -10,8 +10,7 @@ pub load-requires : goal.load-requires
 load-requires c =
     let f = c.args.self.now in
     let t = c.requires.source in
-    source_here (of_broom c.requires.broom) (c.args.start + c.args.i) t.0 c.args.i
-    (subst (λ (p : MapWord). p.block < (device f).blocks) (sym t.2) c.requires.block)
+    source_here (of_broom c.requires.broom) t.0 c.args.i (subst (λ (p : MapWord). p.block < (device f).blocks) (sym t.2) c.requires.block)
     (subst (λ (p : MapWord). p.page < (device f).pages) (sym t.2) c.requires.page) c.requires.word
     (ap (λ n. n + c.args.i) c.requires.start ∙ (λ j. page_index (device f) (sym t.2 j).block (sym t.2 j).page + c.args.i)) t.1
 
@@ -23,9 +22,8 @@ invariant_of-broom c =
 pub returns-clause-value : goal.returns-clause-value
 returns-clause-value c x value is live =
     let t = c.requires.source in
-    let same = source_same x t.0 (broom_view c.args.broom.now).source is t.1 in
-    source_value c.requires.broom c.load.result c.load.new.seat.me (c.args.start + c.args.i) c.args.i c.args.page x value is
-    (ap (λ (y : Source). y.page) same ∙ t.2) live c.requires.word (ap (λ n. n + c.args.i) c.requires.start) c.load.ensures.2
+    source_value c.requires.broom c.args.i c.args.page x value is
+    (ap (λ (y : Source). y.page) (source_same is t.1) ∙ t.2) live c.requires.word (ap (λ n. n + c.args.i) c.requires.start) c.load.ensures.2
 
 pub returns-clause-broom : goal.returns-clause-broom
 returns-clause-broom c = stays_broom c.requires.broom c.load.ensures.0 (ap (λ (m : Sitter). whose m.0) c.load.ensures.2.0)

@@ -23,8 +23,7 @@ load-requires c =
     let its = written f c.args.broom.now o c.args.page c.in-Draining.is c.requires.next in
     let at : c.page_word_at-place.result ≡ page_index (device f) o.block c.args.page + (device f).words =
     c.page_word_at-place.ensures ∙ ap (λ i. page_index (device f) o.block c.args.page + i) c.words.ensures.value in
-    stamp_here (of_broom c.requires.broom) c.page_word_at-place.result (reclaimed_as Victim o) its.0
-    (subst (λ k. k < (device f).pages) c.requires.cleared c.requires.page)
+    stamp_here (of_broom c.requires.broom) (reclaimed_as Victim o) its.0 (subst (λ k. k < (device f).pages) c.requires.cleared c.requires.page)
     (at ∙ ap (λ k. page_index (device f) o.block k + (device f).words) c.requires.cleared)
     (stamp_can c.requires.broom o c.args.page c.in-Draining.is its.1 c.requires.cleared)
 
@@ -33,8 +32,7 @@ got c =
     let f = c.args.self.now in
     let o = c.in-Draining.victim in
     let its = written f c.args.broom.now o c.args.page c.in-Draining.is c.requires.next in
-    let can = stamp_can c.requires.broom o c.args.page c.in-Draining.is its.1 c.requires.cleared in
-    stamp_view c.requires.broom c.load.result c.load.new.seat.me c.page_word_at-place.result c.args.page o can c.requires.cleared
+    stamp_view c.requires.broom c.args.page o (stamp_can c.requires.broom o c.args.page c.in-Draining.is its.1 c.requires.cleared) c.requires.cleared
     (c.page_word_at-place.ensures ∙ ap (λ i. page_index (device f) o.block c.args.page + i) c.words.ensures.value) c.load.ensures.2
 
 pub invariant_of-broom : goal.invariant_of-broom
@@ -44,9 +42,8 @@ invariant_of-broom c =
 
 pub returns-clause-stamp : goal.returns-clause-stamp
 returns-clause-stamp c e is =
-    let s = c.args.broom.now in
-    let same = draining_same c.in-Draining.victim e (own_blocks s).reclaiming c.in-Draining.is is in
-    subst (λ (y : ReclaimedBlock). GotStamp (broom_view s) (reclaimed_as Victim y) c.load.result c.load.new.seat.me.0) same
+    let same = draining_same c.in-Draining.is is in
+    subst (λ (y : ReclaimedBlock). GotStamp (broom_view c.args.broom.now) (reclaimed_as Victim y) c.load.result c.load.new.seat.me.0) same
     (got (goal.at.returns-clause-stamp c).After-load)
 
 pub returns-clause-broom : goal.returns-clause-broom

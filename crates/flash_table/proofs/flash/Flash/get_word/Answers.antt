@@ -11,13 +11,13 @@ word_place f page start i = ap (λ n. n + i)
 
 pub load-requires : goal.load-requires
 load-requires c =
-    get_here (of_pass c.requires.pass) (c.args.start + c.args.i) c.args.page c.args.i c.requires.block c.requires.page c.requires.word
+    get_here (of_pass c.requires.pass) c.args.page c.args.i c.requires.block c.requires.page c.requires.word
     (word_place c.args.self.now c.args.page c.args.start c.args.i c.requires.start) c.requires.pinned
 
 pub returns-clause-told : goal.returns-clause-told
 returns-clause-told c value pin =
     let at = word_place c.args.self.now c.args.page c.args.start c.args.i c.requires.start in
-    get_value c.requires.pass c.load.result c.load.new.seat.me (c.args.start + c.args.i) c.args.i c.args.page value pin c.requires.word at c.load.ensures.2
+    get_value c.requires.pass (c.args.start + c.args.i) c.args.i c.args.page value pin c.requires.word at c.load.ensures.2
 
 pub returns-clause-spared : goal.returns-clause-spared
 returns-clause-spared c value carried pin copy = c.load.ensures.2.2 c.args.page value carried pin copy

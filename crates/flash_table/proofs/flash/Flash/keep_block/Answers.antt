@@ -13,8 +13,7 @@ pub fetch_add-requires : goal.fetch_add-requires
 fetch_add-requires c =
     let o = c.in-Erasing.erased in
     let t = live_on c.requires.broom o c.in-Erasing.is c.requires.wiped in
-    kept_here (of_broom c.requires.broom) c.pin_at-word.result c.kept.result _ t.erases.low c.pin_at-word.ensures c.kept.ensures
-    (can_renew c.requires.broom o t)
+    kept_here (of_broom c.requires.broom) c.kept.result _ t.erases.low c.pin_at-word.ensures c.kept.ensures (can_renew c.requires.broom o t)
 
 -- the block in its next generation
 abbrev renewed : ReclaimedBlock → OpenBlock
@@ -26,31 +25,27 @@ kept : (c : After-fetch_add)
     }
 kept c =
     let o = c.in-Erasing.erased in
-    kept_view c.requires.broom c.fetch_add.result c.fetch_add.new.seat.me c.pin_at-word.result c.kept.result o
-    (live_on c.requires.broom o c.in-Erasing.is c.requires.wiped) c.pin_at-word.ensures c.fetch_add.ensures.2
+    kept_view c.requires.broom c.kept.result o (live_on c.requires.broom o c.in-Erasing.is c.requires.wiped) c.pin_at-word.ensures c.fetch_add.ensures.2
 
 pub invariant_of-broom : goal.invariant_of-broom
 invariant_of-broom c =
     let s = c.args.broom.now in
-    let o = c.in-Erasing.erased in
     record {
       bare = c.fetch_add.ensures.2.0 ∙ s.bare;
       owns = just_now (kept (goal.at.invariant_of-broom c).After-fetch_add)
-          (kept_just (own_blocks s) (broom_view s).owns s.owns o (renewed o) c.in-Erasing.is c.requires.no_spare refl);
+          (kept_just (own_blocks s) s.owns (renewed c.in-Erasing.erased) c.in-Erasing.is c.requires.no_spare refl);
     }
 
 pub returns-clause-kept : goal.returns-clause-kept
 returns-clause-kept c x is =
     let s = c.args.broom.now in
-    let same = same_erased (own_blocks s).reclaiming c.in-Erasing.erased x c.in-Erasing.is is in
     kept (goal.at.returns-clause-kept c).After-fetch_add
-    ∙ ap (λ (y : ReclaimedBlock). record (broom_view s) { owns = with_owned (owned_of (renewed y)) (broom_view s).owns }) same
+    ∙ ap (λ (y : ReclaimedBlock). record (broom_view s) { owns = with_owned (owned_of (renewed y)) (broom_view s).owns }) (same_erased c.in-Erasing.is is)
 
 pub returns-clause-blocks : goal.returns-clause-blocks
 returns-clause-blocks c x is =
-    let s = c.args.broom.now in
-    let P : ReclaimedBlock → BroomBlocks = λ y. record (own_blocks s) { spare = Some (renewed y); reclaiming = reclaiming.Nothing } in
-    ap P (same_erased (own_blocks s).reclaiming c.in-Erasing.erased x c.in-Erasing.is is)
+    let P : ReclaimedBlock → BroomBlocks = λ y. record (own_blocks c.args.broom.now) { spare = Some (renewed y); reclaiming = reclaiming.Nothing } in
+    ap P (same_erased c.in-Erasing.is is)
 
 pub returns-clause-broom : goal.returns-clause-broom
 returns-clause-broom c = stays_broom c.requires.broom c.fetch_add.ensures.0 (ap whose (kept (goal.at.returns-clause-broom c).After-fetch_add))

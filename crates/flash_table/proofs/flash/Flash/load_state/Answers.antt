@@ -9,11 +9,10 @@ use Rattle.flash_table.proofs.ToldBrooms.{is_a_broom, stays_broom, loaded_view, 
 use Rattle.flash_table.proofs.flash.Flash.load_state.Goals as goal
 
 pub load-found-requires : goal.load-found-requires
-load-found-requires c =
-    state_here (of_broom c.requires.broom) c.pin_at-word.result c.args.block c.requires.block c.pin_at-word.ensures (is_a_broom c.requires.broom)
+load-found-requires c = state_here (of_broom c.requires.broom) c.args.block c.requires.block c.pin_at-word.ensures (is_a_broom c.requires.broom)
 
 loaded : (c : After-load-found) → Loaded (broom_view c.args.broom.now) c.args.block c.load-found.result c.load-found.new.seat.me.0
-loaded c = loaded_view c.requires.broom c.load-found.result c.load-found.new.seat.me c.pin_at-word.result c.args.block
+loaded c = loaded_view c.requires.broom c.args.block
     c.requires.block c.pin_at-word.ensures c.load-found.ensures.2
 
 pub invariant_of-broom : goal.invariant_of-broom

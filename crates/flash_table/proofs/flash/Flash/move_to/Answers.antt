@@ -17,7 +17,7 @@ moved : (c : After-compare_exchange-found)
     → Moved (broom_view c.args.broom.now) c.requires.live.0 c.compare_exchange-found.result c.compare_exchange-found.new.seat.me.0
 moved c =
     let t = c.requires.live in
-    moved_view c.requires.broom c.compare_exchange-found.result c.compare_exchange-found.new.seat.me c.args.sector
+    moved_view c.requires.broom
     c.pack-old.result c.pack-new.result t.0 c.args.from c.args.to t.1 c.requires.fits t.2.0 t.2.1 c.pack-old.ensures c.pack-new.ensures
     c.compare_exchange-found.ensures.2
 
@@ -31,7 +31,7 @@ pub returns-clause-moved : goal.returns-clause-moved
 returns-clause-moved c x is =
     let s = c.args.broom.now in
     let t = c.requires.live in
-    let same = source_same t.0 x (broom_view s).source t.1.is is in
+    let same = source_same t.1.is is in
     let its : Moved (broom_view s) x c.compare_exchange-found.result c.compare_exchange-found.new.seat.me.0 =
     subst (λ (y : Source). Moved (broom_view s) y c.compare_exchange-found.result c.compare_exchange-found.new.seat.me.0) same
     (moved (goal.at.returns-clause-moved c).After-compare_exchange-found) in

@@ -7,12 +7,11 @@ use Rattle.flash_table.proofs.Told.{stays_pass, by_outcome, pin_pinned, pin_yes,
 use Rattle.flash_table.proofs.flash.Flash.pin.Goals as goal
 
 pub fetch_add-found-requires : goal.fetch_add-found-requires
-fetch_add-found-requires c =
-    pin_here (of_pass c.requires.pass) c.pin_at-word.result c.args.page c.requires.block c.pin_at-word.ensures c.requires.pass.role c.requires.candidate
+fetch_add-found-requires c = pin_here (of_pass c.requires.pass) c.args.page c.requires.block c.pin_at-word.ensures c.requires.pass.role c.requires.candidate
 
 pinned : (c : After-fetch_add-found) (value : List ℕ) → (view_of c.args.pass.now).pin ≡ Candidate c.args.page value
     → Pinned (view_of c.args.pass.now) c.args.page value c.fetch_add-found.result c.fetch_add-found.new.seat.me.0
-pinned c value pin = pin_pinned c.requires.pass c.fetch_add-found.result c.fetch_add-found.new.seat.me c.pin_at-word.result
+pinned c value pin = pin_pinned c.requires.pass c.pin_at-word.result
     c.args.page value pin c.pin_at-word.ensures c.fetch_add-found.ensures.2
 
 pub invariant_of-pass : goal.invariant_of-pass
@@ -27,8 +26,5 @@ returns-clause-pass c =
 
 pub returns-clause-told : goal.returns-clause-told
 returns-clause-told c value pin =
-    let w = c.fetch_add-found.new.seat.me in
-    let n = c.fetch_add-found.result in
     let told = pinned (goal.at.returns-clause-told c).After-fetch_add-found value pin in
-    by_outcome c.finds_intact.result _ _ _ _ (pin_yes c.requires.pass n w c.args.page value w.0 told)
-    (pin_no c.requires.pass n w c.args.page value w.0 told) c.finds_intact.ensures
+    by_outcome c.finds_intact.result _ _ _ _ (pin_yes told) (pin_no told) c.finds_intact.ensures

@@ -15,7 +15,7 @@ compare_exchange-found-requires c =
 placed : (c : After-compare_exchange-found)
     → (t : ℕ) × (value : List ℕ)
     × Placed (view_of c.args.pass.now) (WriteNew t c.args.sector value) c.args.sector c.compare_exchange-found.result c.compare_exchange-found.new.seat.me.0
-placed c = new_changed c.requires.pass c.compare_exchange-found.result c.compare_exchange-found.new.seat.me c.args.sector
+placed c = new_changed c.requires.pass c.args.sector
     c.pack-new.result c.args.page c.pack-new.ensures c.requires.page c.requires.counted c.compare_exchange-found.ensures.2
 
 pub invariant_of-pass : goal.invariant_of-pass

@@ -11,7 +11,7 @@ swap-found-requires c = trim_here (of_pass c.requires.pass) c.args.sector c.requ
 
 pub invariant_of-pass : goal.invariant_of-pass
 invariant_of-pass c =
-    let t = trim_changed c.requires.pass c.swap-found.result c.swap-found.new.seat.me c.args.sector c.swap-found.ensures.2 in
+    let t = trim_changed c.requires.pass c.args.sector c.swap-found.ensures.2 in
     record { bare = c.swap-found.ensures.2.0 ∙ c.args.pass.now.bare; owns = ap (λ (w : View). w.owns) t.1.changed ∙ c.args.pass.now.owns }
 
 pub returns-clause-told : goal.returns-clause-told
@@ -20,5 +20,4 @@ returns-clause-told c t role =
 
 pub returns-clause-pass : goal.returns-clause-pass
 returns-clause-pass c =
-    let t = trim_changed c.requires.pass c.swap-found.result c.swap-found.new.seat.me c.args.sector c.swap-found.ensures.2 in
-    stays_pass c.requires.pass c.swap-found.ensures.0 (ap whose t.1.changed)
+    stays_pass c.requires.pass c.swap-found.ensures.0 (ap whose (trim_changed c.requires.pass c.args.sector c.swap-found.ensures.2).1.changed)

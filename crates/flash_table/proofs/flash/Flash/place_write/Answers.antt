@@ -14,7 +14,7 @@ swap-found-requires c =
 
 placed : (c : After-swap-found)
     → (t : ℕ) × (value : List ℕ) × Placed (view_of c.args.pass.now) (Write t c.args.sector value) c.args.sector c.swap-found.result c.swap-found.new.seat.me.0
-placed c = write_changed c.requires.pass c.swap-found.result c.swap-found.new.seat.me c.args.sector c.pack-word.result
+placed c = write_changed c.requires.pass c.args.sector c.pack-word.result
     c.args.page c.pack-word.ensures c.requires.page c.requires.counted c.swap-found.ensures.2
 
 pub invariant_of-pass : goal.invariant_of-pass

@@ -19,15 +19,12 @@ store-requires c =
     let f = c.args.self.now in
     let t = c.requires.next in
     let at : c.args.start + c.args.i ≡ page_index (device f) t.0.block t.0.written + c.args.i = ap (λ n. n + c.args.i) (c.requires.start t.0 t.1) in
-    put_here (of_broom c.requires.broom) (c.args.start + c.args.i) (owned_of t.0) c.args.word t.4
-    (at ∙ ap (λ k. page_index (device f) t.0.block t.0.written + k) t.3) t.2
+    put_here (of_broom c.requires.broom) (owned_of t.0) c.args.word t.4 (at ∙ ap (λ k. page_index (device f) t.0.block t.0.written + k) t.3) t.2
 
 put : (c : After-store) → HasPut (broom_view c.args.broom.now) (own_blocks c.args.broom.now).destination c.args.word c.store.new.seat.me.0
 put c o is =
-    let s = c.args.broom.now in
-    let t = put_can c.args.self.now.geometry (broom_view s) (own_blocks s).destination o is c.args.i c.requires.next in
-    put_view (of_broom c.requires.broom) c.args.word c.store.new.seat.me (c.args.start + c.args.i) o c.args.i c.args.word t.0 t.1
-    (ap (λ n. n + c.args.i) (c.requires.start o is)) c.store.ensures.2
+    let t = put_can c.args.self.now.geometry (broom_view c.args.broom.now) is c.args.i c.requires.next in
+    put_view (of_broom c.requires.broom) o c.args.i c.args.word t.0 t.1 (ap (λ n. n + c.args.i) (c.requires.start o is)) c.store.ensures.2
 
 pub invariant_of-broom : goal.invariant_of-broom
 invariant_of-broom c =

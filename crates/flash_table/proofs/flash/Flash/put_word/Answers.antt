@@ -20,15 +20,12 @@ store-requires c =
     let f = c.args.self.now in
     let t = c.requires.next in
     let at : c.args.start + c.args.i ≡ page_index (device f) t.0.block t.0.written + c.args.i = ap (λ n. n + c.args.i) (c.requires.start t.0 t.1) in
-    put_here (of_pass c.requires.pass) (c.args.start + c.args.i) (owned_of t.0) c.args.word t.4
-    (at ∙ ap (λ k. page_index (device f) t.0.block t.0.written + k) t.3) t.2
+    put_here (of_pass c.requires.pass) (owned_of t.0) c.args.word t.4 (at ∙ ap (λ k. page_index (device f) t.0.block t.0.written + k) t.3) t.2
 
 put : (c : After-store) → HasPut (view_of c.args.pass.now) c.args.pass.now.opened c.args.word c.store.new.seat.me.0
 put c o is =
-    let p = c.args.pass.now in
-    let t = put_can c.args.self.now.geometry (view_of p) p.opened o is c.args.i c.requires.next in
-    put_view (of_pass c.requires.pass) c.args.word c.store.new.seat.me (c.args.start + c.args.i) o c.args.i c.args.word t.0 t.1
-    (ap (λ n. n + c.args.i) (c.requires.start o is)) c.store.ensures.2
+    let t = put_can c.args.self.now.geometry (view_of c.args.pass.now) is c.args.i c.requires.next in
+    put_view (of_pass c.requires.pass) o c.args.i c.args.word t.0 t.1 (ap (λ n. n + c.args.i) (c.requires.start o is)) c.store.ensures.2
 
 pub invariant_of-pass : goal.invariant_of-pass
 invariant_of-pass c =

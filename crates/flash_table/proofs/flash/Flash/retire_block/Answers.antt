@@ -10,13 +10,12 @@ pub fetch_add-requires : goal.fetch_add-requires
 fetch_add-requires c =
     let o = c.in-Erasing.erased in
     let t = last_erase c.requires.broom o c.in-Erasing.is c.requires.last in
-    retired_here (of_broom c.requires.broom) c.pin_at-word.result _ t.erases.low c.pin_at-word.ensures (can_retire c.requires.broom o t)
+    retired_here (of_broom c.requires.broom) _ t.erases.low c.pin_at-word.ensures (can_retire c.requires.broom o t)
 
 retired : (c : After-fetch_add) → c.fetch_add.new.seat.me.0 ≡ left_retired (broom_view c.args.broom.now) c.in-Erasing.erased
 retired c =
     let o = c.in-Erasing.erased in
-    retired_view c.requires.broom c.fetch_add.result c.fetch_add.new.seat.me c.pin_at-word.result o
-    (last_erase c.requires.broom o c.in-Erasing.is c.requires.last) c.pin_at-word.ensures c.fetch_add.ensures.2
+    retired_view c.requires.broom o (last_erase c.requires.broom o c.in-Erasing.is c.requires.last) c.pin_at-word.ensures c.fetch_add.ensures.2
 
 pub invariant_of-broom : goal.invariant_of-broom
 invariant_of-broom c =
@@ -24,14 +23,13 @@ invariant_of-broom c =
     record {
       bare = c.fetch_add.ensures.2.0 ∙ s.bare;
       owns = just_now (retired (goal.at.invariant_of-broom c).After-fetch_add)
-          (erased_just (own_blocks s) (broom_view s).owns s.owns c.in-Erasing.erased c.in-Erasing.is);
+          (erased_just (own_blocks s) s.owns c.in-Erasing.is);
     }
 
 pub returns-clause-retired : goal.returns-clause-retired
 returns-clause-retired c x is =
-    let s = c.args.broom.now in
     retired (goal.at.returns-clause-retired c).After-fetch_add
-    ∙ ap (left_retired (broom_view s)) (same_erased (own_blocks s).reclaiming c.in-Erasing.erased x c.in-Erasing.is is)
+    ∙ ap (left_retired (broom_view c.args.broom.now)) (same_erased c.in-Erasing.is is)
 
 pub returns-clause-broom : goal.returns-clause-broom
 returns-clause-broom c = stays_broom c.requires.broom c.fetch_add.ensures.0 (ap whose (retired (goal.at.returns-clause-broom c).After-fetch_add))

@@ -7,7 +7,7 @@ use Rattle.flash_table.proofs.flash.Flash.take_free.Goals as goal
 pub load-seen-requires : goal.load-seen-requires
 load-seen-requires c =
     let seat : IsSeatOf c.args.self.now c.args.seat.now = record { table = c.requires.table; player = c.requires.player; numbers = c.requires.numbers } in
-    test_here seat c.pin_at-word.result c.args.block c.requires.block c.pin_at-word.ensures
+    test_here seat c.args.block c.requires.block c.pin_at-word.ensures
 
 pub returns-in_err-generation_if_free-clause-told : goal.returns-in_err-generation_if_free-clause-told
 returns-in_err-generation_if_free-clause-told c =
@@ -25,7 +25,7 @@ fetch_or-found-requires c =
       table = c.load-seen.ensures.0 ∙ c.requires.table;
       player = ap (λ (w : View). is_player w.role) same ∙ c.requires.player;
       numbers = ap (λ (w : View). w.numbers) same ∙ c.requires.numbers;
-    } in take_here seat c.pin_at-word.result c.args.block c.requires.block c.pin_at-word.ensures
+    } in take_here seat c.args.block c.requires.block c.pin_at-word.ensures
 
 pub returns-clause-told : goal.returns-clause-told
 returns-clause-told c =

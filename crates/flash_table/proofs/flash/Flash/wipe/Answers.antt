@@ -1,7 +1,6 @@
 use Rattle.flash_table.proofs.Asking.{whose}
 use Rattle.std.proofs.Common.{◌≡◌, ◌+◌, ap, ◌∙◌, arith, refl, subst}
 use Rattle.geometry.specs.TableOrder.{page_index}
-use Rattle.flash_rule.specs.{World.blank_word}
 use Rattle.flash_table.specs.Flash.{device, broom_view}
 use Rattle.flash_table.proofs.{Asking.IsPlace, Asking.of_broom, ToldBrooms.stays_broom, ToldErasing.can_wipe, ToldErasing.wiped_within, ToldErasing.wipe_view}
 use Rattle.flash_table.proofs.{HereErasing.wipe_here, Rows.just_now, flash.Flash.wipe.Goals.After-store}
@@ -22,7 +21,7 @@ store-requires c =
     let next = c.requires.next in
     let start = c.requires.start t.0 t.1.its in
     let low = wiped_within (device f) t.0.block c.args.i t.1.low c.requires.word in
-    wipe_here (of_broom c.requires.broom) (c.args.start + c.args.i) _ (subst (λ k. IsPlace f (page_index (device f) t.0.block 0 + k)) next low) (omega arith)
+    wipe_here (of_broom c.requires.broom) _ (subst (λ k. IsPlace f (page_index (device f) t.0.block 0 + k)) next low) (omega arith)
     (can_wipe c.requires.broom t.0 c.args.i t.1.its next c.requires.word)
 
 -- the broom has wiped one word more, and nothing else has changed
@@ -31,7 +30,7 @@ changed c =
     let t = c.requires.erasing in
     let can = can_wipe c.requires.broom t.0 c.args.i t.1.its c.requires.next c.requires.word in
     let at : c.args.start + c.args.i ≡ page_index (device c.args.self.now) t.0.block 0 + c.args.i = ap (λ n. n + c.args.i) (c.requires.start t.0 t.1.its) in
-    wipe_view c.requires.broom blank_word c.store.new.seat.me (c.args.start + c.args.i) c.args.i t.0 can c.requires.next at c.store.ensures.2
+    wipe_view c.requires.broom c.args.i t.0 can c.requires.next at c.store.ensures.2
 
 pub invariant_of-broom : goal.invariant_of-broom
 invariant_of-broom c =
