@@ -1,5 +1,5 @@
 -- What a step's play makes of a pass, and of any seat with an open block.
-use Rattle.flash_table.proofs.Asking.{whose}
+use Rattle.flash_table.proofs.Asking.{whose, IsSeatOf, slots_of}
 use Rattle.std.proofs.Common.{◌≡◌, ℕ, ◌+◌, ◌<◌, Bool, true, false, List, [], ◌∷◌, ◌++◌, length, Option, Some, None, sym, refl, ap, ◌∙◌, subst, arith}
 use Rattle.geometry.specs.{PinWords.FitsPin, PinWords.pin_word, Limits.Numbers, Geometry.blocks_of, Geometry.pages_of, MapWords.map_word, MapWords.FitsMap}
 use Rattle.geometry.specs.declared.pin_word.{PinWord.PinWord, TheConstants.NEXT_PHASE, TheConstants.PAGE_WRITTEN, TheConstants.READER}
@@ -18,7 +18,6 @@ use Rattle.flash_table.specs.declared.{flash.Flash.Flash, pass.Pass.Pass, pass.O
 use Rattle.flash_table.specs.Owning.{owned_of, owned_list, closed_as, closed_list}
 use Rattle.flash_table.specs.{GivingUp.closed_pass, GivingUp.left_closed, Steps.CanGiveUp, Steps.IsFilled, Steps.IsNextWord}
 use Rattle.flash_table.specs.Flash.{IsPassOf, Strayed, view_of, device}
-use Rattle.flash_table.proofs.Asking.{IsSeatOf, slots_of}
 
 pub stays_pass : {f : Flash} {p q : Pass} → IsPassOf f p → q.seat.table_id ≡ p.seat.table_id → whose (view_of q) ≡ whose (view_of p) → IsPassOf f q
 stays_pass h table same = record { table = table ∙ h.table; role = ap (λ w. is_pass w.0) same ∙ h.role; numbers = ap (λ w. w.1) same ∙ h.numbers }

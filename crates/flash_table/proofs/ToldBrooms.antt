@@ -1,6 +1,6 @@
 -- What a step's play makes of a broom's seat.
-use Rattle.flash_table.proofs.Asking.{whose}
-use Rattle.std.specs.{Prelude.◌&&◌, Prelude.Bool, Prelude.false, Bool.MatchBool}
+use Rattle.flash_table.proofs.{Asking.whose, Asking.slots_of, Blocks.all_open, Blocks.draining_at}
+use Rattle.std.specs.{Prelude.◌&&◌, Bool.MatchBool, Prelude.Bool, Prelude.false}
 use Rattle.flash_rule.specs.BroomPlays.{Inspected, is_page_of, GotStamp, CanGetStamp, CanMove, Moved, stamp_told, source_told, move_told, Loaded, IsLastLoaded}
 use Rattle.flash_rule.specs.BroomPlays.{IsInspected, CanClaim, Claimed, CanDrain, state_told, claim_told, drain_told}
 use Rattle.flash_table.specs.{Inspecting.InspectTold, declared.flash.Flash.Flash}
@@ -20,7 +20,6 @@ use Rattle.flash_rule.proofs.Owning.{some_same}
 use Rattle.flash_table.specs.declared.broom_seat.{BroomSeat.BroomSeat, Reclaiming.Reclaiming, ReclaimedBlock.ReclaimedBlock}
 use Rattle.flash_table.specs.{Owning.reclaimed_as, GivingUp.left_drained, Steps.HasInspected, Steps.IsCleared}
 use Rattle.flash_table.specs.Flash.{IsBroomOf, broom_view, own_blocks, device, geometry_of}
-use Rattle.flash_table.proofs.{Blocks.all_open, Blocks.draining_at, Asking.slots_of}
 use Rattle.flash_table.specs.declared.broom_seat.Reclaiming.TheVariants as reclaiming
 
 -- a map word that was found is that of what it was unpacked to

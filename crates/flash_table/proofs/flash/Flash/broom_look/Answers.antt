@@ -1,8 +1,7 @@
-use Rattle.flash_table.proofs.Asking.{whose}
-use Rattle.std.proofs.{Common.ap, Common.◌∙◌, Common.subst, Common.arith, lemmas.Grind.common_steps}
-use Rattle.flash_rule.specs.{BroomPlays.Named}
+use Rattle.flash_table.proofs.{Asking.whose, Asking.of_broom, Rows.just_now, HereBrooms.broom_look_here, ToldBrooms.stays_broom, ToldBrooms.unpacked}
+use Rattle.std.proofs.{Common.ap, Common.subst, Common.arith, Common.◌∙◌, lemmas.Grind.common_steps}
+use Rattle.flash_rule.specs.BroomPlays.{Named}
 use Rattle.flash_table.specs.Flash.{broom_view}
-use Rattle.flash_table.proofs.{Asking.of_broom, Rows.just_now, HereBrooms.broom_look_here, ToldBrooms.stays_broom, ToldBrooms.unpacked}
 use Rattle.flash_table.proofs.flash.Flash.broom_look.Goals as goal
 
 pub load-found-requires : goal.load-found-requires

@@ -1,8 +1,8 @@
-use Rattle.flash_table.proofs.Asking.{whose}
+use Rattle.flash_table.proofs.{Asking.whose, Asking.of_broom, HereBrooms.claim_here, Rows.just_now, Blocks.claimed_just}
 use Rattle.std.proofs.Common.{ap, sym, ◌∙◌}
-use Rattle.flash_rule.specs.{BroomPlays.Claimed}
+use Rattle.flash_rule.specs.BroomPlays.{Claimed}
 use Rattle.flash_table.specs.{Flash.broom_view, Flash.own_blocks, declared.broom_seat.ReclaimedBlock.ReclaimedBlock}
-use Rattle.flash_table.proofs.{Asking.of_broom, Rows.just_now, HereBrooms.claim_here, Blocks.claimed_just, flash.Flash.claim.Goals.After-compare_exchange-found}
+use Rattle.flash_table.proofs.flash.Flash.claim.Goals.{After-compare_exchange-found}
 use Rattle.flash_table.proofs.ToldBrooms.{is_a_broom, stays_broom, claim_can, claimed_view}
 use Rattle.flash_table.proofs.flash.Flash.claim.Goals as goal
 
@@ -46,8 +46,7 @@ invariant_of-broom-2 c =
     let now : ReclaimedBlock = record { block = c.args.block; generation = c.args.state.generation; written = c.args.state.written } in
     record {
       bare = c.compare_exchange-found.ensures.2.0 ∙ s.bare;
-      owns = just_now ((told.won is))
-          (claimed_just (own_blocks s) s.owns now c.requires.at_rest (told.fresh is));
+      owns = just_now (told.won is) (claimed_just (own_blocks s) s.owns now c.requires.at_rest (told.fresh is));
     }
 
 pub returns-clause-claimed : goal.returns-clause-claimed

@@ -1,8 +1,7 @@
-use Rattle.flash_table.proofs.Asking.{whose}
+use Rattle.flash_table.proofs.{Asking.whose, Asking.of_broom, Rows.just_now, Here.close_here, flash.Flash.close_destination.Goals.After-fetch_add}
 use Rattle.std.proofs.Common.{◌≡◌, ap, ◌∙◌}
 use Rattle.flash_table.specs.{Flash.broom_view, Flash.own_blocks, GivingUp.left_closed, Owning.owned_of}
-use Rattle.flash_table.proofs.{Asking.of_broom, Rows.just_now, ToldBrooms.stays_broom, flash.Flash.close_destination.Goals.After-fetch_add}
-use Rattle.flash_table.proofs.{Here.close_here, Blocks.closed_just, Told.same_block, Told.close_can, Told.close_view}
+use Rattle.flash_table.proofs.{ToldBrooms.stays_broom, Blocks.closed_just, Told.same_block, Told.close_can, Told.close_view}
 use Rattle.flash_table.proofs.flash.Flash.close_destination.Goals as goal
 
 pub fetch_add-requires : goal.fetch_add-requires
@@ -20,8 +19,7 @@ invariant_of-broom c =
     let s = c.args.broom.now in
     record {
       bare = c.fetch_add.ensures.2.0 ∙ s.bare;
-      owns = just_now (closed (goal.at.invariant_of-broom c).After-fetch_add)
-          (closed_just (own_blocks s) s.owns c.in-Some.is);
+      owns = just_now (closed (goal.at.invariant_of-broom c).After-fetch_add) (closed_just (own_blocks s) s.owns c.in-Some.is);
     }
 
 pub returns-clause-closed : goal.returns-clause-closed

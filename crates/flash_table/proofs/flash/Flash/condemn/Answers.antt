@@ -1,10 +1,9 @@
-use Rattle.flash_table.proofs.Asking.{whose}
+use Rattle.flash_table.proofs.{Asking.whose, Asking.of_broom, HereErasing.condemn_here}
 use Rattle.std.proofs.Common.{sym, refl, ap, ◌∙◌}
-use Rattle.flash_rule.specs.{BroomPlays.Condemned}
+use Rattle.flash_rule.specs.BroomPlays.{Condemned}
 use Rattle.flash_table.specs.{Flash.broom_view, Flash.own_blocks, declared.broom_seat.ReclaimedBlock.ReclaimedBlock}
-use Rattle.flash_table.proofs.{Asking.of_broom, Rows.just_now, ToldBrooms.is_a_broom, ToldBrooms.stays_broom}
-use Rattle.flash_table.proofs.{HereErasing.condemn_here, Blocks.condemned_just, ToldErasing.can_condemn, ToldErasing.condemned}
-use Rattle.flash_table.proofs.flash.Flash.condemn.Goals.{After-compare_exchange-found}
+use Rattle.flash_table.proofs.{Rows.just_now, Blocks.condemned_just, ToldBrooms.is_a_broom, ToldBrooms.stays_broom}
+use Rattle.flash_table.proofs.{ToldErasing.can_condemn, ToldErasing.condemned, flash.Flash.condemn.Goals.After-compare_exchange-found}
 use Rattle.flash_table.proofs.flash.Flash.condemn.Goals as goal
 
 pub compare_exchange-found-requires : goal.compare_exchange-found-requires
@@ -45,8 +44,7 @@ invariant_of-broom-2 c =
     let o : ReclaimedBlock = record { block = c.args.block; generation = c.args.expected.generation; written = c.args.expected.written } in
     record {
       bare = c.compare_exchange-found.ensures.2.0 ∙ s.bare;
-      owns = just_now ((told.won is))
-          (condemned_just (own_blocks s) s.owns o c.requires.rested (told.fresh is));
+      owns = just_now (told.won is) (condemned_just (own_blocks s) s.owns o c.requires.rested (told.fresh is));
     }
 
 pub returns-clause-condemned : goal.returns-clause-condemned

@@ -1,8 +1,8 @@
-use Rattle.flash_table.proofs.Asking.{whose}
+use Rattle.flash_table.proofs.{Asking.whose, Asking.of_broom, HereBrooms.drain_here}
 use Rattle.std.proofs.Common.{◌≡◌, ap, ◌∙◌}
 use Rattle.geometry.specs.declared.pin_word.Phase.TheVariants.{Victim}
 use Rattle.flash_table.specs.{GivingUp.left_drained, Owning.reclaimed_as, Flash.broom_view, Flash.own_blocks}
-use Rattle.flash_table.proofs.{Asking.of_broom, Rows.just_now, flash.Flash.drain.Goals.After-fetch_add, HereBrooms.drain_here, Blocks.drained_just}
+use Rattle.flash_table.proofs.{Rows.just_now, Blocks.drained_just, flash.Flash.drain.Goals.After-fetch_add}
 use Rattle.flash_table.proofs.ToldBrooms.{stays_broom, draining_same, drain_can, drained_view}
 use Rattle.flash_table.proofs.flash.Flash.drain.Goals as goal
 
@@ -22,8 +22,7 @@ invariant_of-broom c =
     let s = c.args.broom.now in
     record {
       bare = c.fetch_add.ensures.2.0 ∙ s.bare;
-      owns = just_now (drained (goal.at.invariant_of-broom c).After-fetch_add)
-          (drained_just (own_blocks s) s.owns c.in-Draining.is);
+      owns = just_now (drained (goal.at.invariant_of-broom c).After-fetch_add) (drained_just (own_blocks s) s.owns c.in-Draining.is);
     }
 
 pub returns-clause-drained : goal.returns-clause-drained

@@ -1,8 +1,7 @@
-use Rattle.flash_table.proofs.Asking.{whose}
+use Rattle.flash_table.proofs.{Asking.whose, Asking.of_broom, Rows.just_now, Blocks.erased_just}
 use Rattle.std.proofs.Common.{◌≡◌, ap, ◌∙◌, arith}
 use Rattle.flash_table.specs.{Flash.broom_view, Flash.own_blocks, GivingUp.left_free}
-use Rattle.flash_table.proofs.{Asking.of_broom, Rows.just_now, ToldBrooms.stays_broom}
-use Rattle.flash_table.proofs.{HereErasing.freed_here, Blocks.erased_just, flash.Flash.free_block.Goals.After-fetch_add}
+use Rattle.flash_table.proofs.{ToldBrooms.stays_broom, HereErasing.freed_here, flash.Flash.free_block.Goals.After-fetch_add}
 use Rattle.flash_table.proofs.ToldErasing.{same_erased, live_on, can_renew, freed_view}
 use Rattle.flash_table.proofs.flash.Flash.free_block.Goals as goal
 
@@ -22,8 +21,7 @@ invariant_of-broom c =
     let s = c.args.broom.now in
     record {
       bare = c.fetch_add.ensures.2.0 ∙ s.bare;
-      owns = just_now (freed (goal.at.invariant_of-broom c).After-fetch_add)
-          (erased_just (own_blocks s) s.owns c.in-Erasing.is);
+      owns = just_now (freed (goal.at.invariant_of-broom c).After-fetch_add) (erased_just (own_blocks s) s.owns c.in-Erasing.is);
     }
 
 pub returns-clause-freed : goal.returns-clause-freed

@@ -1,6 +1,5 @@
-use Rattle.flash_table.proofs.Asking.{whose}
+use Rattle.flash_table.proofs.{Asking.whose, Asking.of_broom, Rows.just_now, HereBrooms.inspect_here}
 use Rattle.std.proofs.Common.{ap, ◌∙◌}
-use Rattle.flash_table.proofs.{Asking.of_broom, Rows.just_now, HereBrooms.inspect_here}
 use Rattle.flash_table.proofs.ToldBrooms.{is_a_broom, stays_broom, inspected_by, inspected_changed}
 use Rattle.flash_table.proofs.flash.Flash.inspect_sector.Goals as goal
 

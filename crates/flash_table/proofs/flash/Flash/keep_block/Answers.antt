@@ -1,10 +1,9 @@
-use Rattle.flash_table.proofs.Asking.{whose}
+use Rattle.flash_table.proofs.{Asking.whose, Asking.of_broom, Rows.just_now, Blocks.kept_just}
 use Rattle.std.proofs.Common.{◌≡◌, ◌+◌, Some, refl, ap, ◌∙◌}
-use Rattle.flash_rule.specs.{Views.with_owned}
+use Rattle.flash_rule.specs.Views.{with_owned}
 use Rattle.flash_table.specs.{Flash.broom_view, Flash.own_blocks, Owning.owned_of}
 use Rattle.flash_table.specs.declared.{broom_seat.ReclaimedBlock.ReclaimedBlock, broom_seat.BroomBlocks.BroomBlocks, pass.OpenBlock.OpenBlock}
-use Rattle.flash_table.proofs.{Asking.of_broom, Rows.just_now, ToldBrooms.stays_broom}
-use Rattle.flash_table.proofs.{HereErasing.kept_here, Blocks.kept_just, flash.Flash.keep_block.Goals.After-fetch_add}
+use Rattle.flash_table.proofs.{ToldBrooms.stays_broom, HereErasing.kept_here, flash.Flash.keep_block.Goals.After-fetch_add}
 use Rattle.flash_table.proofs.ToldErasing.{same_erased, live_on, can_renew, kept_view}
 use Rattle.flash_table.specs.declared.broom_seat.Reclaiming.TheVariants as reclaiming
 use Rattle.flash_table.proofs.flash.Flash.keep_block.Goals as goal

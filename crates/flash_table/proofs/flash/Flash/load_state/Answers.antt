@@ -1,10 +1,9 @@
-use Rattle.flash_table.proofs.Asking.{whose}
+use Rattle.flash_table.proofs.{Asking.whose, Asking.of_broom, Rows.just_now, HereBrooms.state_here, flash.Flash.load_state.Goals.After-load-found}
 use Rattle.std.proofs.Common.{◌≡◌, ap, sym, ◌∙◌, arith}
 use Rattle.geometry.specs.{Limits.Numbers, declared.pin_word.PinWord.PinWord}
 use Rattle.geometry.proofs.PinBits.{pin_same}
-use Rattle.flash_rule.specs.{BroomPlays.Loaded}
+use Rattle.flash_rule.specs.BroomPlays.{Loaded}
 use Rattle.flash_table.specs.Flash.{device, broom_view}
-use Rattle.flash_table.proofs.{Asking.of_broom, Rows.just_now, HereBrooms.state_here, flash.Flash.load_state.Goals.After-load-found}
 use Rattle.flash_table.proofs.ToldBrooms.{is_a_broom, stays_broom, loaded_view, loaded_changed}
 use Rattle.flash_table.proofs.flash.Flash.load_state.Goals as goal
 
@@ -12,8 +11,7 @@ pub load-found-requires : goal.load-found-requires
 load-found-requires c = state_here (of_broom c.requires.broom) c.args.block c.requires.block c.pin_at-word.ensures (is_a_broom c.requires.broom)
 
 loaded : (c : After-load-found) → Loaded (broom_view c.args.broom.now) c.args.block c.load-found.result c.load-found.new.seat.me.0
-loaded c = loaded_view c.requires.broom c.args.block
-    c.requires.block c.pin_at-word.ensures c.load-found.ensures.2
+loaded c = loaded_view c.requires.broom c.args.block c.requires.block c.pin_at-word.ensures c.load-found.ensures.2
 
 pub invariant_of-broom : goal.invariant_of-broom
 invariant_of-broom c =

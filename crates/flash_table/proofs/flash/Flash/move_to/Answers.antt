@@ -1,9 +1,8 @@
-use Rattle.flash_table.proofs.Asking.{whose}
+use Rattle.flash_table.proofs.{Asking.whose, Asking.of_broom, Rows.just_now, HereBrooms.move_here, flash.Flash.move_to.Goals.After-compare_exchange-found}
 use Rattle.std.proofs.Common.{◌≡◌, ap, sym, ◌∙◌, subst}
 use Rattle.geometry.specs.MapWords.{map_word}
 use Rattle.flash_rule.specs.{declared.facts.Source.Source, BroomPlays.Moved}
 use Rattle.flash_table.specs.Flash.{broom_view}
-use Rattle.flash_table.proofs.{Asking.of_broom, Rows.just_now, HereBrooms.move_here, flash.Flash.move_to.Goals.After-compare_exchange-found}
 use Rattle.flash_table.proofs.ToldBrooms.{stays_broom, source_same, moved_view, found_or_not}
 use Rattle.flash_table.proofs.flash.Flash.move_to.Goals as goal
 

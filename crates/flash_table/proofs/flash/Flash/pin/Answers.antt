@@ -1,8 +1,7 @@
-use Rattle.flash_table.proofs.Asking.{whose}
+use Rattle.flash_table.proofs.{Asking.whose, Asking.of_pass, Here.pin_here, flash.Flash.pin.Goals.After-fetch_add-found}
 use Rattle.std.proofs.Common.{◌≡◌, ℕ, List, ap, ◌∙◌}
 use Rattle.flash_rule.specs.{declared.facts.Pin.TheVariants.Candidate, declared.view.View.View, Plays.Pinned}
 use Rattle.flash_table.specs.Flash.{view_of}
-use Rattle.flash_table.proofs.{Asking.of_pass, Here.pin_here, flash.Flash.pin.Goals.After-fetch_add-found}
 use Rattle.flash_table.proofs.Told.{stays_pass, by_outcome, pin_pinned, pin_yes, pin_no}
 use Rattle.flash_table.proofs.flash.Flash.pin.Goals as goal
 
@@ -11,8 +10,7 @@ fetch_add-found-requires c = pin_here (of_pass c.requires.pass) c.args.page c.re
 
 pinned : (c : After-fetch_add-found) (value : List ℕ) → (view_of c.args.pass.now).pin ≡ Candidate c.args.page value
     → Pinned (view_of c.args.pass.now) c.args.page value c.fetch_add-found.result c.fetch_add-found.new.seat.me.0
-pinned c value pin = pin_pinned c.requires.pass c.pin_at-word.result
-    c.args.page value pin c.pin_at-word.ensures c.fetch_add-found.ensures.2
+pinned c value pin = pin_pinned c.requires.pass c.pin_at-word.result c.args.page value pin c.pin_at-word.ensures c.fetch_add-found.ensures.2
 
 pub invariant_of-pass : goal.invariant_of-pass
 invariant_of-pass c =

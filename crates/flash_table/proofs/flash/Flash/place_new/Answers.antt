@@ -1,10 +1,10 @@
-use Rattle.flash_table.proofs.Asking.{whose}
+use Rattle.flash_table.proofs.{Asking.whose, Asking.of_pass, Here.new_here, Told.stays_pass, Told.new_changed}
 use Rattle.std.proofs.Common.{ℕ, List, refl, ap, ◌∙◌}
 use Rattle.geometry.specs.History.{WriteNew}
 use Rattle.flash_rule.specs.{declared.view.View.View, Plays.Placed}
 use Rattle.flash_rule.proofs.Steps.{called}
 use Rattle.flash_table.specs.Flash.{view_of}
-use Rattle.flash_table.proofs.{Asking.of_pass, Here.new_here, Told.stays_pass, Told.new_changed, flash.Flash.place_new.Goals.After-compare_exchange-found}
+use Rattle.flash_table.proofs.flash.Flash.place_new.Goals.{After-compare_exchange-found}
 use Rattle.flash_table.proofs.flash.Flash.place_new.Goals as goal
 
 pub compare_exchange-found-requires : goal.compare_exchange-found-requires

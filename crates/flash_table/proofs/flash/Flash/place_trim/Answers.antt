@@ -1,9 +1,8 @@
-use Rattle.flash_table.proofs.Asking.{whose}
+use Rattle.flash_table.proofs.{Asking.whose, Asking.of_pass, Here.trim_here, Told.stays_pass, Told.trim_changed}
 use Rattle.std.proofs.Common.{ap, ◌∙◌}
 use Rattle.flash_rule.specs.declared.view.View.{View}
 use Rattle.flash_rule.proofs.Steps.{called}
 use Rattle.flash_table.specs.Flash.{view_of}
-use Rattle.flash_table.proofs.{Asking.of_pass, Here.trim_here, Told.stays_pass, Told.trim_changed}
 use Rattle.flash_table.proofs.flash.Flash.place_trim.Goals as goal
 
 pub swap-found-requires : goal.swap-found-requires

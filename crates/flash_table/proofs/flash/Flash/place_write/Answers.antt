@@ -1,10 +1,10 @@
-use Rattle.flash_table.proofs.Asking.{whose}
+use Rattle.flash_table.proofs.{Asking.whose, Asking.of_pass, Here.write_here, Told.stays_pass, Told.write_changed}
 use Rattle.std.proofs.Common.{ℕ, List, ap, ◌∙◌}
 use Rattle.geometry.specs.History.{Write}
 use Rattle.flash_rule.specs.{declared.view.View.View, Plays.Placed}
 use Rattle.flash_rule.proofs.Steps.{called}
 use Rattle.flash_table.specs.Flash.{view_of}
-use Rattle.flash_table.proofs.{Asking.of_pass, Here.write_here, Told.stays_pass, Told.write_changed, flash.Flash.place_write.Goals.After-swap-found}
+use Rattle.flash_table.proofs.flash.Flash.place_write.Goals.{After-swap-found}
 use Rattle.flash_table.proofs.flash.Flash.place_write.Goals as goal
 
 pub swap-found-requires : goal.swap-found-requires

@@ -1,9 +1,8 @@
-use Rattle.flash_table.proofs.Asking.{whose}
+use Rattle.flash_table.proofs.{Asking.whose, Asking.of_broom, Told.put_can, Told.put_view, flash.Flash.put_copy_word.Goals.After-store}
 use Rattle.std.proofs.Common.{◌≡◌, ◌+◌, ap, ◌∙◌, arith}
 use Rattle.geometry.specs.TableOrder.{page_index}
 use Rattle.flash_table.specs.{Flash.device, Flash.broom_view, Flash.own_blocks, Owning.owned_of, Steps.HasPut}
-use Rattle.flash_table.proofs.{Asking.of_broom, Rows.just_now, Here.put_here, Here.put_within}
-use Rattle.flash_table.proofs.{Told.put_can, Told.put_view, ToldBrooms.stays_broom, flash.Flash.put_copy_word.Goals.After-store}
+use Rattle.flash_table.proofs.{Rows.just_now, ToldBrooms.stays_broom, Here.put_here, Here.put_within}
 use Rattle.flash_table.proofs.flash.Flash.put_copy_word.Goals as goal
 
 pub overflow_add-place : goal.overflow_add-place

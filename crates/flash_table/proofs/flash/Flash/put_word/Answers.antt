@@ -1,9 +1,8 @@
-use Rattle.flash_table.proofs.Asking.{whose}
+use Rattle.flash_table.proofs.{Asking.whose, Asking.of_pass, Here.put_here, Here.put_within}
 use Rattle.std.proofs.Common.{◌≡◌, ◌+◌, ap, ◌∙◌, arith}
 use Rattle.geometry.specs.TableOrder.{page_index}
 use Rattle.flash_rule.specs.declared.view.View.{View}
 use Rattle.flash_table.specs.{Flash.device, Flash.view_of, Owning.owned_of, Steps.HasPut}
-use Rattle.flash_table.proofs.{Asking.of_pass, Here.put_here, Here.put_within}
 use Rattle.flash_table.proofs.{Told.stays_pass, Told.put_can, Told.put_view, flash.Flash.put_word.Goals.After-store}
 use Rattle.flash_table.proofs.flash.Flash.put_word.Goals as goal
 

@@ -1,8 +1,7 @@
-use Rattle.flash_table.proofs.Asking.{whose}
+use Rattle.flash_table.proofs.{Asking.whose, Asking.of_broom, Rows.just_now, Blocks.erased_just}
 use Rattle.std.proofs.Common.{◌≡◌, ap, ◌∙◌}
 use Rattle.flash_table.specs.{Flash.broom_view, Flash.own_blocks, GivingUp.left_retired}
-use Rattle.flash_table.proofs.{Asking.of_broom, Rows.just_now, HereErasing.retired_here}
-use Rattle.flash_table.proofs.{Blocks.erased_just, ToldBrooms.stays_broom, flash.Flash.retire_block.Goals.After-fetch_add}
+use Rattle.flash_table.proofs.{HereErasing.retired_here, ToldBrooms.stays_broom, flash.Flash.retire_block.Goals.After-fetch_add}
 use Rattle.flash_table.proofs.ToldErasing.{same_erased, last_erase, can_retire, retired_view}
 use Rattle.flash_table.proofs.flash.Flash.retire_block.Goals as goal
 
@@ -22,8 +21,7 @@ invariant_of-broom c =
     let s = c.args.broom.now in
     record {
       bare = c.fetch_add.ensures.2.0 ∙ s.bare;
-      owns = just_now (retired (goal.at.invariant_of-broom c).After-fetch_add)
-          (erased_just (own_blocks s) s.owns c.in-Erasing.is);
+      owns = just_now (retired (goal.at.invariant_of-broom c).After-fetch_add) (erased_just (own_blocks s) s.owns c.in-Erasing.is);
     }
 
 pub returns-clause-retired : goal.returns-clause-retired

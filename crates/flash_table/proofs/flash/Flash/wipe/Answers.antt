@@ -1,9 +1,9 @@
-use Rattle.flash_table.proofs.Asking.{whose}
+use Rattle.flash_table.proofs.{Asking.whose, Asking.IsPlace, Asking.of_broom, HereErasing.wipe_here, Rows.just_now}
 use Rattle.std.proofs.Common.{◌≡◌, ◌+◌, ap, ◌∙◌, arith, refl, subst}
 use Rattle.geometry.specs.TableOrder.{page_index}
 use Rattle.flash_table.specs.Flash.{device, broom_view}
-use Rattle.flash_table.proofs.{Asking.IsPlace, Asking.of_broom, ToldBrooms.stays_broom, ToldErasing.can_wipe, ToldErasing.wiped_within, ToldErasing.wipe_view}
-use Rattle.flash_table.proofs.{HereErasing.wipe_here, Rows.just_now, flash.Flash.wipe.Goals.After-store}
+use Rattle.flash_table.proofs.{ToldBrooms.stays_broom, flash.Flash.wipe.Goals.After-store}
+use Rattle.flash_table.proofs.ToldErasing.{can_wipe, wiped_within, wipe_view}
 use Rattle.flash_table.proofs.flash.Flash.wipe.Goals as goal
 
 pub overflow_add-place : goal.overflow_add-place
