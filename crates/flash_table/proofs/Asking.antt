@@ -3,11 +3,10 @@
 use Rattle.std.proofs.Common.{◌≡◌, ℕ, ◌<◌, true, [], sym, refl, ap, subst, arith}
 use Rattle.atomic_table.specs.{Table.Allows, Table.Splits, Table.Joins, declared.shared.Seat.Seat}
 use Rattle.geometry.specs.{Geometry.numbers_of, TableOrder.pin_index, Limits.Numbers, Limits.table_words_of}
-use Rattle.flash_rule.specs.{declared.facts.Role.Role, declared.view.View.View, Views.is_pass, Views.is_player, Plays.Sitter, Seats.Ruled, Seats.gone}
-use Rattle.flash_rule.proofs.Places.{pin_within}
+use Rattle.flash_rule.specs.{declared.facts.Role.Role, declared.view.View.View, Views.is_player, Plays.Sitter, Seats.Ruled, Seats.gone}
+use Rattle.flash_rule.proofs.{Places.pin_within, Still.pass_of}
 use Rattle.flash_table.specs.declared.{flash.Flash.Flash, pass.Pass.Pass, pass.Note.Note, broom_seat.BroomSeat.BroomSeat}
 use Rattle.flash_table.specs.Flash.{IsPassOf, IsBroomOf, IsNoteOf, note_view, device}
-use Rattle.flash_rule.specs.declared.facts.Role.TheVariants as role
 
 -- A seat of this device, of a pass or of a broom
 pub record IsSeatOf (f : Flash) (x : Seat (Unit {0}) View) : Type 0 where
@@ -15,14 +14,8 @@ pub record IsSeatOf (f : Flash) (x : Seat (Unit {0}) View) : Type 0 where
   pub player : is_player x.me.0.role ≡ true
   pub numbers : x.me.0.numbers ≡ device f
 
-pass_player : (r : Role) → is_pass r ≡ true → is_player r ≡ true
-pass_player (role.Player n) is = refl
-pass_player role.Dealer is = absurd (cc)
-pass_player role.Note is = absurd (cc)
-pass_player role.Gone is = absurd (cc)
-
 pub of_pass : {f : Flash} {p : Pass} → IsPassOf f p → IsSeatOf f p.seat
-of_pass {f} {p} h = record { table = h.table; player = pass_player p.seat.me.0.role h.role; numbers = h.numbers }
+of_pass {f} {p} h = record { table = h.table; player = ap is_player (pass_of p.seat.me.0.role h.role).1; numbers = h.numbers }
 
 pub of_broom : {f : Flash} {s : BroomSeat} → IsBroomOf f s → IsSeatOf f s.seat
 of_broom h = record { table = h.table; player = ap is_player h.role.1; numbers = h.numbers }

@@ -1,4 +1,5 @@
 -- What a step's play makes of a broom's seat.
+use Rattle.flash_rule.proofs.{Points.phase_or_not, Owning.some_same}
 use Rattle.flash_table.proofs.{Asking.whose, Asking.slots_of, Blocks.all_open, Blocks.draining_at}
 use Rattle.std.specs.{Prelude.◌&&◌, Bool.MatchBool, Prelude.Bool, Prelude.false}
 use Rattle.flash_rule.specs.BroomPlays.{Inspected, is_page_of, GotStamp, CanGetStamp, CanMove, Moved, stamp_told, source_told, move_told, Loaded, IsLastLoaded}
@@ -10,13 +11,12 @@ use mathlib.Core.Option.{none}
 use mathlib.Core.Logic.{dite}
 use native.Mathlib.Decide.{ℕ_discrete, dec_lt}
 use Rattle.atomic_table.specs.Table.{step}
-use Rattle.geometry.specs.{Limits.Numbers, MapWords.map_word, MapWords.FitsMap, declared.map_word.MapWord.MapWord, declared.map_word.TheConstants.MAPPED}
+use Rattle.geometry.specs.{Limits.Numbers, MapWords.map_word, MapWords.FitsMap}
+use Rattle.geometry.specs.declared.{map_word.MapWord.MapWord, map_word.TheConstants.MAPPED, pin_word.PinWord.PinWord, pin_word.TheConstants.NEXT_PHASE}
 use Rattle.geometry.specs.{PinWords.pin_word, PinWords.FitsPin, TableOrder.pin_index, TableOrder.page_index}
-use Rattle.geometry.specs.declared.pin_word.{PinWord.PinWord, Phase.Phase, TheConstants.NEXT_PHASE}
-use Rattle.geometry.specs.declared.pin_word.Phase.TheVariants.{Free, Open, Closed, Victim, Drained, Erasing, Retired}
+use Rattle.geometry.specs.declared.pin_word.Phase.TheVariants.{Closed, Victim, Drained}
 use Rattle.flash_rule.specs.declared.{facts.Owned.Owned, facts.Source.Source, view.View.View}
 use Rattle.flash_rule.specs.{Views.is_broom, Plays.Sitter, World.data_word, World.sector_word}
-use Rattle.flash_rule.proofs.Owning.{some_same}
 use Rattle.flash_table.specs.declared.broom_seat.{BroomSeat.BroomSeat, Reclaiming.Reclaiming, ReclaimedBlock.ReclaimedBlock}
 use Rattle.flash_table.specs.{Owning.reclaimed_as, GivingUp.left_drained, Steps.HasInspected, Steps.IsCleared}
 use Rattle.flash_table.specs.Flash.{IsBroomOf, broom_view, own_blocks, device, geometry_of}
@@ -75,15 +75,6 @@ pub of_draining : (P : ReclaimedBlock → Type 0) (x : Reclaiming) (o : Reclaime
     → (a : ReclaimedBlock) × (x ≡ reclaiming.Draining a) × P a → P o
 of_draining P x o is t = subst P (draining_same t.1 is) t.2
 
-drained_or_not : (f : Phase) → (f ≡ Drained) ⊎ (¬ (f ≡ Drained))
-drained_or_not Free = inr (λ e. absurd (cc))
-drained_or_not Open = inr (λ e. absurd (cc))
-drained_or_not Closed = inr (λ e. absurd (cc))
-drained_or_not Victim = inr (λ e. absurd (cc))
-drained_or_not Drained = inl refl
-drained_or_not Erasing = inr (λ e. absurd (cc))
-drained_or_not Retired = inr (λ e. absurd (cc))
-
 -- a state step changes the broom's notes alone
 pub loaded_changed : (v w : View) (b n : ℕ) → Loaded v b n w → w ≡ record v { loaded = w.loaded; busy = w.busy; stale = w.stale }
 loaded_changed v w b n h =
@@ -93,7 +84,7 @@ loaded_changed v w b n h =
     (λ some. let e = h.busy drained (omega arith) in e ∙ (λ i. record v { loaded = (sym e i).loaded; busy = (sym e i).busy; stale = (sym e i).stale })))
     (λ (other : ¬ (h.state.phase ≡ Drained)). let e = h.stale other in
     e ∙ (λ i. record v { loaded = (sym e i).loaded; busy = (sym e i).busy; stale = (sym e i).stale }))
-    (drained_or_not h.state.phase)
+    (phase_or_not h.state.phase Drained)
 
 -- ---- what each step on a state asks for
 module _ {f : Flash} {s : BroomSeat} (h : IsBroomOf f s) where

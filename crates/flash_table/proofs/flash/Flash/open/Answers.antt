@@ -1,10 +1,10 @@
-use Rattle.std.proofs.Common.{◌≡◌, ℕ, zero, suc, ◌+◌, ◌-◌, ◌<◌, List, [], None, Some, length, slice_get, sym, refl, ap, ◌∙◌, subst, arith}
-use Rattle.atomic_table.specs.Table.{opening}
+use Rattle.flash_rule.specs.{Seats.dealt_pass, Seats.new_pass, Seats.dealt_broom, Seats.new_broom, Seats.Ruled, Seats.dealer, declared.view.View.View}
+use Rattle.flash_rule.proofs.{Owning.nothing, Splitting.deals_pass, DealingBrooms.deals_broom, Opening.opening_ruled}
+use Rattle.atomic_table.specs.Table.{Splits, opening}
+use Rattle.std.proofs.Common.{◌≡◌, ℕ, ◌+◌, ◌-◌, ◌<◌, List, [], None, Some, length, slice_get, sym, refl, ap, ◌∙◌, subst, arith}
 use Rattle.geometry.specs.{Geometry.numbers_of, Limits.Numbers}
-use Rattle.flash_rule.specs.{declared.view.View.View, Seats.Ruled, Seats.dealer}
-use Rattle.flash_rule.proofs.{Opening.opening_ruled, Owning.none_some}
 use Rattle.flash_table.specs.{declared.pass.Pass.Pass, declared.broom_seat.Reclaiming.TheVariants.Nothing, Flash.spare_of}
-use Rattle.flash_table.proofs.Dealing.{deal_here, deals_next, no_broom_yet, next_owned, deal_broom_here, deals_next_broom}
+use Rattle.flash_table.proofs.Dealing.{deals_next, no_broom_yet, next_owned, deals_next_broom}
 use Rattle.std.proofs.lemmas.Grind.{common_steps}
 use Rattle.flash_table.proofs.flash.Flash.open.Goals as goal
 
@@ -13,10 +13,6 @@ of_words-requires c =
     let z : Numbers = numbers_of c.args.geometry.now in
     let P : List ℕ → Type 0 = λ words. Ruled z (opening words [] (dealer z)) in
     subst P (sym (c.deref.ensures.value ∙ c.in_ok-words.ensures)) (opening_ruled z c.args.geometry.now.in_limits)
-
-nothing : (k : ℕ) (p : Pass) → ¬ (slice_get [] k ≡ Some p)
-nothing zero p e = none_some p e
-nothing (suc k) p e = none_some p e
 
 pub loop-init : goal.loop-init
 loop-init c =
@@ -38,6 +34,7 @@ loop-init c =
 pub split_seat-seat-requires : goal.split_seat-seat-requires
 split_seat-seat-requires c =
     let h = c.loop.invariant.0 in
+    let v = c.loop.dealer.me.0 in
     let t = c.in_ok-table.ensures in
     let some_sector = c.args.geometry.now.in_limits.sectors_low in
     let below = c.loop-test.true in
@@ -50,8 +47,7 @@ split_seat-seat-requires c =
     let theirs : c.loop.dealer.me.0.numbers.hosts ≡ (numbers_of c.args.geometry.now).hosts = ap (λ (y : Numbers). y.hosts) h.numbers in (
       h.table,
       omega arith,
-      deal_here (numbers_of c.args.geometry.now)
-          (numbers_of c.in_ok-table.table.shared.key) same c.loop.dealer.id c.loop.dealer.me.0 h.role (omega arith),
+      subst (λ x. Splits (Ruled x) c.loop.dealer.id v (dealt_pass v) (new_pass v)) (sym same) (deals_pass z c.loop.dealer.id v h.role (omega arith)),
     )
 
 pub push_reserved-requires : goal.push_reserved-requires
@@ -78,6 +74,7 @@ returns-clause-count c =
 pub split_seat-seat-requires-in-loop-i : goal.split_seat-seat-requires-in-loop-i
 split_seat-seat-requires-in-loop-i c =
     let h = c.loop-i.invariant.0 in
+    let v = c.loop-i.dealer.me.0 in
     let t = c.in_ok-table.ensures in
     let z : Numbers = numbers_of c.args.geometry.now in
     let some_sector = c.args.geometry.now.in_limits.sectors_low in
@@ -89,8 +86,8 @@ split_seat-seat-requires-in-loop-i c =
     let more : c.loop-i.i < z.brooms = omega arith in (
       h.table,
       omega arith,
-      deal_broom_here z (numbers_of c.in_ok-table.table.shared.key) same c.loop-i.dealer.id c.loop-i.dealer.me.0 h.role
-          (next_owned z c.loop-i.dealer.me.0 c.loop-i.i h.numbers h.count h.owns more),
+      subst (λ x. Splits (Ruled x) c.loop-i.dealer.id v (dealt_broom v) (new_broom v)) (sym same)
+          (deals_broom z c.loop-i.dealer.id v h.role (next_owned z v c.loop-i.i h.numbers h.count h.owns more)),
     )
 
 pub loop-i-preserved : goal.loop-i-preserved
