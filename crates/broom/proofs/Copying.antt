@@ -160,7 +160,8 @@ module _ (f : Flash) (v : View) (y : BroomBlocks) (o : OpenBlock) (value : List 
     went : Relocated v 0 (broom_view r)
     went =
         let page = next_page (owned_of o) in
-        let x : View = record v { work = Some work; programs = v.programs ++ page ∷ []; owns = with_owned (owned_of (record o { written = o.written + 1 })) v.owns } in
+        let owned : Owned = owned_of (record o { written = o.written + 1 }) in
+        let x : View = record v { work = Some work; programs = v.programs ++ page ∷ []; owns = with_owned owned v.owns } in
         relocated_as v x (broom_view r) 0 v.moves (omega arith) all (Begins-refl v.seen) (Begins-refl v.named) (Begins-push v.programs page)
 
     pub copied : (x : Source) → v.source ≡ Some x → x.value ≡ Some value → x.stamp ≡ stamp → IsValue v.numbers value

@@ -50,10 +50,10 @@ module _ (x : BroomBlocks) {owns : List Owned} (h : OwnsJust (blocks_list x) own
   spare_at {o} is = just_at (owned_list x.destination) (reclaimed_list x.reclaiming) owns (owned_of o) (with_spare o is)
 
   pub draining_at : {o : ReclaimedBlock} → x.reclaiming ≡ reclaiming.Draining o → owned_at o.block owns ≡ Some (reclaimed_as Victim o)
-  draining_at {o} is = just_at (owned_list x.destination ++ owned_list x.spare) [] owns (reclaimed_as Victim o) (with_reclaiming (reclaiming.Draining o) is)
+  draining_at {o} is = just_at (owned_list x.destination ++ owned_list x.spare) [] owns (reclaimed_as Victim o) (with_reclaiming _ is)
 
   pub erasing_at : {o : ReclaimedBlock} → x.reclaiming ≡ reclaiming.Erasing o → owned_at o.block owns ≡ Some (reclaimed_as Erasing o)
-  erasing_at {o} is = just_at (owned_list x.destination ++ owned_list x.spare) [] owns (reclaimed_as Erasing o) (with_reclaiming (reclaiming.Erasing o) is)
+  erasing_at {o} is = just_at (owned_list x.destination ++ owned_list x.spare) [] owns (reclaimed_as Erasing o) (with_reclaiming _ is)
 
   -- a broom that drains and erases nothing has open blocks alone
   pub all_open : x.reclaiming ≡ reclaiming.Nothing → (b : ℕ) (o : Owned) → owned_at b owns ≡ Some o → o.phase ≡ Open
@@ -101,11 +101,11 @@ module _ (x : BroomBlocks) {owns : List Owned} (h : OwnsJust (blocks_list x) own
 
   pub drained_just : {o : ReclaimedBlock} → x.reclaiming ≡ reclaiming.Draining o
       → OwnsJust (blocks_list (record x { reclaiming = reclaiming.Nothing })) (without o.block owns)
-  drained_just {o} is = just_without (owned_list x.destination ++ owned_list x.spare) [] owns (reclaimed_as Victim o) (with_reclaiming (reclaiming.Draining o) is)
+  drained_just {o} is = just_without (owned_list x.destination ++ owned_list x.spare) [] owns (reclaimed_as Victim o) (with_reclaiming _ is)
 
   pub erased_just : {o : ReclaimedBlock} → x.reclaiming ≡ reclaiming.Erasing o
       → OwnsJust (blocks_list (record x { reclaiming = reclaiming.Nothing })) (without o.block owns)
-  erased_just {o} is = just_without (owned_list x.destination ++ owned_list x.spare) [] owns (reclaimed_as Erasing o) (with_reclaiming (reclaiming.Erasing o) is)
+  erased_just {o} is = just_without (owned_list x.destination ++ owned_list x.spare) [] owns (reclaimed_as Erasing o) (with_reclaiming _ is)
 
   pub kept_just : {o : ReclaimedBlock} (e : OpenBlock) → x.reclaiming ≡ reclaiming.Erasing o → x.spare ≡ None → e.block ≡ o.block
       → OwnsJust (blocks_list (record x { spare = Some e; reclaiming = reclaiming.Nothing })) (with_owned (owned_of e) owns)

@@ -25,7 +25,8 @@ module _ {f : Flash} {x : Seat (Unit {0}) View} (h : IsSeatOf f x) where
       → CanClaim x.me.0 b p
       → Asks f x word (λ n. either (n == old) (old + NEXT_PHASE) n) (claim_told (step (slots_of f) word old (old + NEXT_PHASE) none) x.me)
   claim_here b old p low at packed broom can =
-      asks_with h (λ e n. either (n == e) (e + NEXT_PHASE) n) (λ w e. claim_told (step (slots_of f) w e (e + NEXT_PHASE) none) x.me) (pin_within (device f) b low) at packed (claim_allowed (device f) (slots_of f) x.id x.me b p broom can)
+      asks_with h (λ e n. either (n == e) (e + NEXT_PHASE) n) (λ w e. claim_told (step (slots_of f) w e (e + NEXT_PHASE) none) x.me)
+      (pin_within (device f) b low) at packed (claim_allowed (device f) (slots_of f) x.id x.me b p broom can)
 
   pub drain_here : {word : ℕ} (o : Owned) → o.block < (device f).blocks → word ≡ pin_index (device f) o.block → CanDrain x.me.0 o
       → Asks f x word (λ n. (n + NEXT_PHASE) % 2 ^ 64) (drain_told (step (slots_of f) word NEXT_PHASE 0 none) x.me)

@@ -17,25 +17,29 @@ module _ {f : Flash} {x : Seat (Unit {0}) View} (h : IsSeatOf f x) where
       → is_broom x.me.0.role ≡ true → CanCondemn x.me.0 b p
       → Asks f x word (λ n. either (n == old) (old + NEXT_PHASE) n) (condemn_told (step (slots_of f) word old (old + NEXT_PHASE) none) x.me)
   condemn_here b old p low at packed broom can =
-      asks_with h (λ e n. either (n == e) (e + NEXT_PHASE) n) (λ w e. condemn_told (step (slots_of f) w e (e + NEXT_PHASE) none) x.me) (pin_within (device f) b low) at packed (condemn_allowed (device f) (slots_of f) x.id x.me b p broom can)
+      asks_with h (λ e n. either (n == e) (e + NEXT_PHASE) n) (λ w e. condemn_told (step (slots_of f) w e (e + NEXT_PHASE) none) x.me)
+      (pin_within (device f) b low) at packed (condemn_allowed (device f) (slots_of f) x.id x.me b p broom can)
 
   pub wipe_here : {word : ℕ} (o : Owned) → IsPlace f (page_index (device f) o.block 0 + x.me.0.wiped)
       → word ≡ page_index (device f) o.block 0 + x.me.0.wiped → CanWipe x.me.0 o
       → Asks f x word (λ _. blank_word) (λ _. wipe_told (step (slots_of f) word blank_word 0 none) x.me blank_word)
   wipe_here o within at can =
-      asks h (λ _. blank_word) (λ w _. wipe_told (step (slots_of f) w blank_word 0 none) x.me blank_word) within at (wipe_allowed (device f) (slots_of f) x.id x.me o h.player h.numbers can)
+      asks h (λ _. blank_word) (λ w _. wipe_told (step (slots_of f) w blank_word 0 none) x.me blank_word) within at
+      (wipe_allowed (device f) (slots_of f) x.id x.me o h.player h.numbers can)
 
   pub freed_here : {word : ℕ} (added : ℕ) (o : Owned) → o.block < (device f).blocks → word ≡ pin_index (device f) o.block → added ≡ freed_added o.written
       → CanRenew x.me.0 o
       → Asks f x word (λ n. (n + added) % 2 ^ 64) (freed_told (step (slots_of f) word added 0 none) x.me)
   freed_here added o low at adds can =
-      asks_with h (λ e n. (n + e) % 2 ^ 64) (λ w e. freed_told (step (slots_of f) w e 0 none) x.me) (pin_within (device f) o.block low) at adds (freed_allowed (device f) (slots_of f) x.id x.me o can)
+      asks_with h (λ e n. (n + e) % 2 ^ 64) (λ w e. freed_told (step (slots_of f) w e 0 none) x.me) (pin_within (device f) o.block low) at adds
+      (freed_allowed (device f) (slots_of f) x.id x.me o can)
 
   pub kept_here : {word : ℕ} (added : ℕ) (o : Owned) → o.block < (device f).blocks → word ≡ pin_index (device f) o.block → added ≡ kept_added o.written
       → CanRenew x.me.0 o
       → Asks f x word (λ n. (n + added) % 2 ^ 64) (kept_told (step (slots_of f) word added 0 none) x.me)
   kept_here added o low at adds can =
-      asks_with h (λ e n. (n + e) % 2 ^ 64) (λ w e. kept_told (step (slots_of f) w e 0 none) x.me) (pin_within (device f) o.block low) at adds (kept_allowed (device f) (slots_of f) x.id x.me o can)
+      asks_with h (λ e n. (n + e) % 2 ^ 64) (λ w e. kept_told (step (slots_of f) w e 0 none) x.me) (pin_within (device f) o.block low) at adds
+      (kept_allowed (device f) (slots_of f) x.id x.me o can)
 
   pub retired_here : {word : ℕ} (o : Owned) → o.block < (device f).blocks → word ≡ pin_index (device f) o.block → CanRetire x.me.0 o
       → Asks f x word (λ n. (n + NEXT_PHASE) % 2 ^ 64) (retired_told (step (slots_of f) word NEXT_PHASE 0 none) x.me)

@@ -64,11 +64,8 @@ pub stays_broom : {f : Flash} {s t : BroomSeat} → IsBroomOf f s → t.seat.tab
 stays_broom h table same = record { table = table ∙ h.table; role = (h.role.0, ap (λ w. w.0) same ∙ h.role.1); numbers = ap (λ w. w.1) same ∙ h.numbers }
 
 -- ---- the block that a broom drains or erases is one
-draining_one : (a b : ReclaimedBlock) → reclaiming.Draining a ≡ reclaiming.Draining b → a ≡ b
-draining_one a b e = cc
-
 pub draining_same : {a b : ReclaimedBlock} {x : Reclaiming} → x ≡ reclaiming.Draining a → x ≡ reclaiming.Draining b → a ≡ b
-draining_same {a} {b} p q = draining_one a b (sym p ∙ q)
+draining_same p q = cc
 
 -- what is asked of it holds of the block that is found there
 pub of_draining : (P : ReclaimedBlock → Type 0) (x : Reclaiming) (o : ReclaimedBlock) → x ≡ reclaiming.Draining o

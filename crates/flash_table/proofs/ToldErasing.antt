@@ -17,9 +17,7 @@ use Rattle.flash_table.specs.declared.broom_seat.Reclaiming.TheVariants as recla
 
 -- a broom erases one block
 pub same_erased : {r : Reclaiming} {o x : ReclaimedBlock} → r ≡ reclaiming.Erasing o → r ≡ reclaiming.Erasing x → o ≡ x
-same_erased {r} {o} {x} first second = one o x (sym first ∙ second) where
-  one : (o x : ReclaimedBlock) → reclaiming.Erasing o ≡ reclaiming.Erasing x → o ≡ x
-  one o x e = cc
+same_erased first second = cc
 
 -- a place at which the block that a broom erases begins, where another name of that block is asked for
 pub begins_same : (z : Numbers) (start : ℕ) {a b : ReclaimedBlock} {r : Reclaiming} → start ≡ page_index z a.block 0 → r ≡ reclaiming.Erasing a

@@ -33,7 +33,7 @@ module _ {z : Numbers} {me : Sitter} (numbers : me.0.numbers ≡ z) {n : ℕ} {a
       h.free (ap (λ (p : PinWord). p.phase) (pin_same h.state t.0 h.fits t.1 (sym h.found ∙ sym t.2)) ∙ t.3)
 
   pub tested_taken : test_told (step 0 word 0 0 none) me n after → IsTaken n → FoundTaken me.0 b after.0
-  tested_taken told not = let h : Tested me.0 b n after.0 = told.1 b (below me.0 numbers b low) (here me.0 numbers b at) in h.denied (not h.state h.fits (sym h.found))
+  tested_taken told not = let h = told.1 b (below me.0 numbers b low) (here me.0 numbers b at) in h.denied (not h.state h.fits (sym h.found))
 
   -- so does a take, which makes a free block the seat's
   took_free : (k : ℕ) → take_told (step 0 word TAKEN 0 none) me n after → IsFreeAt n k → TookFree me.0 b k after.0
@@ -53,7 +53,7 @@ module _ {z : Numbers} {me : Sitter} (numbers : me.0.numbers ≡ z) {n : ℕ} {a
       }
 
   took_taken : take_told (step 0 word TAKEN 0 none) me n after → IsTaken n → FoundTaken me.0 b after.0
-  took_taken told not = let h : Took me.0 b n after.0 = told.1 b (below me.0 numbers b low) (here me.0 numbers b at) in h.denied (not h.state h.fits (sym h.found))
+  took_taken told not = let h = told.1 b (below me.0 numbers b low) (here me.0 numbers b at) in h.denied (not h.state h.fits (sym h.found))
 
   -- what a take records of a seat that knew what this view knows, by what the word says
   pub took_by : {v : View} → me.0 ≡ v → take_told (step 0 word TAKEN 0 none) me n after → (r : Option ℕ) → IfSome r (IsFreeAt n) → IfNone r (IsTaken n)

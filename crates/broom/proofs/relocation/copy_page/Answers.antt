@@ -72,7 +72,8 @@ put_copy_word-requires-clause-start c o is =
     let t = c.requires.source in
     let here = opened (goal.at.put_copy_word-requires-clause-start c).In-Some in
     let h = read (goal.at.put_copy_word-requires-clause-start c).After-get_source_word-word c.in-Some.destination here t.0 t.1 in
-    starts_same (numbers_of (geometry_of c.args.flash.now)) c.page_start-start.result c.page_start-start.ensures (ap (λ (x : BroomBlocks). x.destination) h.kept ∙ h.opened) is
+    starts_same (numbers_of (geometry_of c.args.flash.now)) c.page_start-start.result c.page_start-start.ensures
+    (ap (λ (x : BroomBlocks). x.destination) h.kept ∙ h.opened) is
 
 pub loop-i-preserved : goal.loop-i-preserved
 loop-i-preserved c o there value is =
@@ -131,7 +132,8 @@ pub put_copy_word-requires-2-clause-start : goal.put_copy_word-requires-2-clause
 put_copy_word-requires-2-clause-start c o is =
     let t = c.requires.source in
     let h = full (goal.at.put_copy_word-requires-2-clause-start c).After-loop-i t.0 t.1 in
-    starts_same (numbers_of (geometry_of c.args.flash.now)) c.page_start-start.result c.page_start-start.ensures (ap (λ (x : BroomBlocks). x.destination) h.kept ∙ h.opened) is
+    starts_same (numbers_of (geometry_of c.args.flash.now)) c.page_start-start.result c.page_start-start.ensures
+    (ap (λ (x : BroomBlocks). x.destination) h.kept ∙ h.opened) is
 
 pub count_copy-requires-clause-filled : goal.count_copy-requires-clause-filled
 count_copy-requires-clause-filled c =
