@@ -1,9 +1,5 @@
-use Rattle.std.proofs.Common.{refl}
 use Rattle.flash_table.proofs.{Asking.of_broom, Here.home_here}
 use Rattle.flash_table.proofs.flash.Flash.broom_come_home.Goals as goal
 
 pub join_seat-requires : goal.join_seat-requires
 join_seat-requires c = home_here (of_broom c.requires.broom) c.args.note c.requires.note c.requires.given
-
-pub returns-clause-blocks : goal.returns-clause-blocks
-returns-clause-blocks c = refl

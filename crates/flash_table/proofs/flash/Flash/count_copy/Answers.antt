@@ -3,7 +3,7 @@ use Rattle.std.proofs.Common.{◌≡◌, ◌+◌, ◌∷◌, ◌++◌, [], Some,
 use Rattle.geometry.specs.TableOrder.{pin_index}
 use Rattle.flash_rule.specs.{declared.facts.Work.Work, Plays.CanCount, Views.with_owned}
 use Rattle.flash_table.specs.{Flash.device, Flash.broom_view, Flash.own_blocks, Owning.owned_of}
-use Rattle.flash_table.specs.declared.{pass.OpenBlock.OpenBlock, broom_seat.BroomBlocks.BroomBlocks}
+use Rattle.flash_table.specs.declared.{pass.OpenBlock.OpenBlock}
 use Rattle.flash_table.proofs.{ToldBrooms.stays_broom, Blocks.counted_just, flash.Flash.count_copy.Goals.After-fetch_add}
 use Rattle.flash_table.proofs.flash.Flash.count_copy.Goals as goal
 
@@ -35,11 +35,6 @@ invariant_of-broom c =
 
 pub returns-clause-counted : goal.returns-clause-counted
 returns-clause-counted c = counted (goal.at.returns-clause-counted c).After-fetch_add
-
-pub returns-clause-blocks : goal.returns-clause-blocks
-returns-clause-blocks c o is =
-    let same = same_block c.in-Some.is is in
-    let P : OpenBlock → BroomBlocks = λ y. record (own_blocks c.args.broom.now) { destination = Some (record y { written = y.written + 1 }) } in ap P same
 
 pub returns-clause-broom : goal.returns-clause-broom
 returns-clause-broom c =

@@ -1,9 +1,9 @@
-use Rattle.flash_table.proofs.{Asking.whose, Asking.of_broom, Rows.just_now, HereBrooms.source_here}
+use Rattle.flash_table.proofs.{Asking.of_broom, HereBrooms.source_here}
 use Rattle.std.proofs.Common.{◌+◌, ◌<◌, ap, sym, ◌∙◌, subst}
 use Rattle.geometry.specs.{TableOrder.page_index, declared.map_word.MapWord.MapWord}
-use Rattle.flash_rule.specs.{declared.facts.Source.Source, Plays.Sitter}
+use Rattle.flash_rule.specs.{declared.facts.Source.Source}
 use Rattle.flash_table.specs.Flash.{device}
-use Rattle.flash_table.proofs.ToldBrooms.{stays_broom, source_same, source_value}
+use Rattle.flash_table.proofs.ToldBrooms.{source_same, source_value}
 use Rattle.flash_table.proofs.flash.Flash.get_source_word.Goals as goal
 
 pub load-requires : goal.load-requires
@@ -14,16 +14,8 @@ load-requires c =
     (subst (λ (p : MapWord). p.page < (device f).pages) (sym t.2) c.requires.page) c.requires.word
     (ap (λ n. n + c.args.i) c.requires.start ∙ (λ j. page_index (device f) (sym t.2 j).block (sym t.2 j).page + c.args.i)) t.1
 
-pub invariant_of-broom : goal.invariant_of-broom
-invariant_of-broom c =
-    let s = c.args.broom.now in
-    record { bare = ap (λ (m : Sitter). m.1) c.load.ensures.2.0 ∙ s.bare; owns = just_now (ap (λ (m : Sitter). m.0) c.load.ensures.2.0) s.owns }
-
 pub returns-clause-value : goal.returns-clause-value
 returns-clause-value c x value is live =
     let t = c.requires.source in
     source_value c.requires.broom c.args.i c.args.page x value is
     (ap (λ (y : Source). y.page) (source_same is t.1) ∙ t.2) live c.requires.word (ap (λ n. n + c.args.i) c.requires.start) c.load.ensures.2
-
-pub returns-clause-broom : goal.returns-clause-broom
-returns-clause-broom c = stays_broom c.requires.broom c.load.ensures.0 (ap (λ (m : Sitter). whose m.0) c.load.ensures.2.0)

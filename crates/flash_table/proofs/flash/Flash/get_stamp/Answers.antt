@@ -12,9 +12,6 @@ written : (f : Flash) (s : BroomSeat) (o : ReclaimedBlock) (page : ℕ) → (own
     → IsOfVictim (geometry_of f) (own_blocks s) page → (o.block < blocks_of (geometry_of f)) × (page < o.written)
 written f s o page is = of_draining (λ (y : ReclaimedBlock). (y.block < blocks_of (geometry_of f)) × (page < y.written)) (own_blocks s).reclaiming o is
 
-pub page_word_at-place-requires-clause-block : goal.page_word_at-place-requires-clause-block
-page_word_at-place-requires-clause-block c = (written c.args.self.now c.args.broom.now c.in-Draining.victim c.args.page c.in-Draining.is c.requires.next).0
-
 pub load-requires : goal.load-requires
 load-requires c =
     let f = c.args.self.now in

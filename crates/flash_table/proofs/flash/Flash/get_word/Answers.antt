@@ -1,4 +1,4 @@
-use Rattle.std.proofs.Common.{◌≡◌, ◌+◌, ℕ, ap, refl}
+use Rattle.std.proofs.Common.{◌≡◌, ◌+◌, ℕ, ap}
 use Rattle.geometry.specs.{Geometry.numbers_of, TableOrder.page_index, declared.map_word.MapWord.MapWord}
 use Rattle.flash_table.specs.{declared.flash.Flash.Flash, Flash.geometry_of}
 use Rattle.flash_table.proofs.{Asking.of_pass, Here.get_here, Told.get_value}
@@ -21,6 +21,3 @@ returns-clause-told c value pin =
 
 pub returns-clause-spared : goal.returns-clause-spared
 returns-clause-spared c value carried pin copy = c.load.ensures.2.2 c.args.page value carried pin copy
-
-pub returns-clause-opened : goal.returns-clause-opened
-returns-clause-opened c = refl

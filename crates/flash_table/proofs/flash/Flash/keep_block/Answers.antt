@@ -1,11 +1,10 @@
 use Rattle.flash_table.proofs.{Asking.whose, Asking.of_broom, Rows.just_now, Blocks.kept_just}
-use Rattle.std.proofs.Common.{◌≡◌, ◌+◌, Some, refl, ap, ◌∙◌}
+use Rattle.std.proofs.Common.{◌≡◌, ◌+◌, refl, ap, ◌∙◌}
 use Rattle.flash_rule.specs.Views.{with_owned}
 use Rattle.flash_table.specs.{Flash.broom_view, Flash.own_blocks, Owning.owned_of}
-use Rattle.flash_table.specs.declared.{broom_seat.ReclaimedBlock.ReclaimedBlock, broom_seat.BroomBlocks.BroomBlocks, pass.OpenBlock.OpenBlock}
+use Rattle.flash_table.specs.declared.{broom_seat.ReclaimedBlock.ReclaimedBlock, pass.OpenBlock.OpenBlock}
 use Rattle.flash_table.proofs.{ToldBrooms.stays_broom, HereErasing.kept_here, flash.Flash.keep_block.Goals.After-fetch_add}
 use Rattle.flash_table.proofs.ToldErasing.{same_erased, live_on, can_renew, kept_view}
-use Rattle.flash_table.specs.declared.broom_seat.Reclaiming.TheVariants as reclaiming
 use Rattle.flash_table.proofs.flash.Flash.keep_block.Goals as goal
 
 pub fetch_add-requires : goal.fetch_add-requires
@@ -40,11 +39,6 @@ returns-clause-kept c x is =
     let s = c.args.broom.now in
     kept (goal.at.returns-clause-kept c).After-fetch_add
     ∙ ap (λ (y : ReclaimedBlock). record (broom_view s) { owns = with_owned (owned_of (renewed y)) (broom_view s).owns }) (same_erased c.in-Erasing.is is)
-
-pub returns-clause-blocks : goal.returns-clause-blocks
-returns-clause-blocks c x is =
-    let P : ReclaimedBlock → BroomBlocks = λ y. record (own_blocks c.args.broom.now) { spare = Some (renewed y); reclaiming = reclaiming.Nothing } in
-    ap P (same_erased c.in-Erasing.is is)
 
 pub returns-clause-broom : goal.returns-clause-broom
 returns-clause-broom c = stays_broom c.requires.broom c.fetch_add.ensures.0 (ap whose (kept (goal.at.returns-clause-broom c).After-fetch_add))

@@ -1,7 +1,6 @@
 use Rattle.flash_table.proofs.{Asking.whose, Asking.of_pass, Here.put_here, Here.put_within}
 use Rattle.std.proofs.Common.{◌≡◌, ◌+◌, ap, ◌∙◌, arith}
 use Rattle.geometry.specs.TableOrder.{page_index}
-use Rattle.flash_rule.specs.declared.view.View.{View}
 use Rattle.flash_table.specs.{Flash.device, Flash.view_of, Owning.owned_of, Steps.HasPut}
 use Rattle.flash_table.proofs.{Told.stays_pass, Told.put_can, Told.put_view, flash.Flash.put_word.Goals.After-store}
 use Rattle.flash_table.proofs.flash.Flash.put_word.Goals as goal
@@ -25,15 +24,6 @@ put : (c : After-store) → HasPut (view_of c.args.pass.now) c.args.pass.now.ope
 put c o is =
     let t = put_can c.args.self.now.geometry (view_of c.args.pass.now) is c.args.i c.requires.next in
     put_view (of_pass c.requires.pass) o c.args.i c.args.word t.0 t.1 (ap (λ n. n + c.args.i) (c.requires.start o is)) c.store.ensures.2
-
-pub invariant_of-pass : goal.invariant_of-pass
-invariant_of-pass c =
-    let p = c.args.pass.now in
-    let changed = put (goal.at.invariant_of-pass c).After-store c.requires.next.0 c.requires.next.1 in
-    record { bare = c.store.ensures.2.0 ∙ p.bare; owns = ap (λ (w : View). w.owns) changed ∙ p.owns }
-
-pub returns-clause-told : goal.returns-clause-told
-returns-clause-told c = put (goal.at.returns-clause-told c).After-store
 
 pub returns-clause-pass : goal.returns-clause-pass
 returns-clause-pass c =

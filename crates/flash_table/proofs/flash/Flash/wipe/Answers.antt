@@ -1,5 +1,5 @@
 use Rattle.flash_table.proofs.{Asking.whose, Asking.IsPlace, Asking.of_broom, HereErasing.wipe_here, Rows.just_now}
-use Rattle.std.proofs.Common.{◌≡◌, ◌+◌, ap, ◌∙◌, arith, refl, subst}
+use Rattle.std.proofs.Common.{◌≡◌, ◌+◌, ap, ◌∙◌, arith, subst}
 use Rattle.geometry.specs.TableOrder.{page_index}
 use Rattle.flash_table.specs.Flash.{device, broom_view}
 use Rattle.flash_table.proofs.{ToldBrooms.stays_broom, flash.Flash.wipe.Goals.After-store}
@@ -42,6 +42,3 @@ returns-clause-wiped c = changed (goal.at.returns-clause-wiped c).After-store
 
 pub returns-clause-broom : goal.returns-clause-broom
 returns-clause-broom c = stays_broom c.requires.broom c.store.ensures.0 (ap whose (changed (goal.at.returns-clause-broom c).After-store))
-
-pub returns-clause-blocks : goal.returns-clause-blocks
-returns-clause-blocks c = refl
