@@ -11,9 +11,9 @@ from gate import gallery, record, tree
 from gate.wrong_definitions import part_of
 
 ANSWER = re.compile(r"^pub (\S+) : goal\.\S+$", re.M)
-# How the check names the goals that it leaves open: a file of answers to write, and each goal of it.
+# How the check names the goals that it leaves open: a file of answers to write, and each goal of it, whose type may stand on the next line.
 FILE = re.compile(r"help: write \./proofs/(\S+)/Answers\.antt with these lines")
-OPEN = re.compile(r"^\s+pub (\S+) : goal\.")
+OPEN = re.compile(r"^\s+pub (\S+) :(?: goal\.|$)")
 
 
 def files(folder):

@@ -30,6 +30,10 @@ class Needless(Small):
         self.assertEqual((self.top / "crates/low/proofs/lib/first/Answers.antt").read_text(), HEAD + HARD)
         self.assertFalse((self.top / "crates/low/proofs/lib/second").exists())
 
+    def test_the_type_of_a_long_goal_stands_on_the_next_line(self):
+        self.stand_in(STAND_IN.replace(" : goal.", " :'\necho '        goal."))
+        self.assertIn("needless low: 2 answers go", self.run_main(needless, "low"))
+
     def test_an_answer_stays_at_the_goal_that_refuses_a_wrong_body(self):
         self.write("crates/low/src/lib.rt", "pub fn first() -> u8 {\n    1\n}\n")
         self.edit("low", "must-fail/is_two.edit", ("    1", "    2"))
