@@ -207,6 +207,10 @@ struct mintlintel_counts {
     uint32_t free, open, closed, victims, drained, erasing, retired, spares;
 };
 
+/* What a broom has done since its open: the pages that it programmed for copies; those of them that became their sectors' pages, as the others did
+ * not whose sectors were written or trimmed meanwhile; and the blocks that it erased. */
+struct mintlintel_tally { uint64_t programs, moved, erases; };
+
 /* Opens a device with a seat for each of these handles, every sector empty: 0; 6, 8, or the first fault of the numbers, 101 to 109.
  * 107 if there is no host; 8 if a handle is open, before the faults; 6 after them. With any code but 0 all handles are as they were. */
 uint32_t mintlintel_shared_open(struct mintlintel_seat *hosts, size_t host_count, struct mintlintel_seat *brooms, size_t broom_count,
@@ -284,6 +288,10 @@ uint32_t mintlintel_broom_block(struct mintlintel_seat *handle, uint32_t block, 
  * With several brooms it returns 0, since another one may have a spare. If each of them has counted, all without a spare, and the last one,
  * while the others made no call, has found no block that is free, a victim, drained or being erased, then it is the same. */
 uint32_t mintlintel_broom_counts(struct mintlintel_seat *handle, struct mintlintel_counts *counts);
+
+/* What the broom has done since its open: 0; 2 or 9 leave `tally` as it was. A device has programmed the pages of its brooms' tallies, and one page
+ * for each write of a host that returned 0 or 1; it has made the erases of these tallies. */
+uint32_t mintlintel_broom_tally(struct mintlintel_seat *handle, struct mintlintel_tally *tally);
 
 /* ---- Plain C over the calls above, and not proved ---- */
 

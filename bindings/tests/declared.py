@@ -8,7 +8,7 @@ import sys
 from pathlib import Path
 
 STRUCTS = {"Totals": "mintlintel_totals", "BlockReport": "mintlintel_block", "NumbersReport": "mintlintel_numbers", "PageReport": "mintlintel_page",
-           "StateReport": "mintlintel_state", "CountsReport": "mintlintel_counts", "PlaceReport": "mintlintel_place",
+           "StateReport": "mintlintel_state", "CountsReport": "mintlintel_counts", "TallyReport": "mintlintel_tally", "PlaceReport": "mintlintel_place",
            "CommandReport": "mintlintel_command"}
 TYPES = {"u32": ("uint32_t", 4), "u64": ("uint64_t", 8)}
 # Other names of code 0.

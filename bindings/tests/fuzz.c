@@ -9,7 +9,7 @@ enum call {
     CALL_one_open, CALL_one_read, CALL_one_write, CALL_one_write_new, CALL_one_trim, CALL_one_counts, CALL_one_block, CALL_shared_open,
     CALL_seat_numbers, CALL_host_read, CALL_host_write, CALL_host_write_new, CALL_host_trim, CALL_host_look, CALL_host_hold, CALL_host_copy,
     CALL_host_word, CALL_host_held, CALL_host_release, CALL_broom_drain, CALL_broom_drain_next, CALL_broom_drain_dead, CALL_broom_erase, CALL_broom_restock,
-    CALL_broom_block, CALL_broom_counts, CALL_collect, CALL_write_within, CALLS
+    CALL_broom_block, CALL_broom_counts, CALL_broom_tally, CALL_collect, CALL_write_within, CALLS
 };
 enum { CODES = 128 };
 #define CALL(name, ...) counted(CALL_##name, mintlintel_##name(__VA_ARGS__))
@@ -250,6 +250,14 @@ static void counts_call(uint32_t seat, uint32_t unfit_code)
     CHECK(CALL(broom_counts, &seats[seat], &counts) == wanted && memcmp(&counts, &expected, sizeof counts) == 0);
 }
 
+static void tally_call(uint32_t seat, uint32_t unfit_code)
+{
+    struct mintlintel_tally tally = {7, 7, 7}, expected = tally;
+    if (!unfit_code)
+        expected = m.brooms[broom_of(seat)].tally;
+    CHECK(CALL(broom_tally, &seats[seat], &tally) == unfit_code && memcmp(&tally, &expected, sizeof tally) == 0);
+}
+
 static void collect_call(uint32_t seat, uint32_t goal, uint32_t unfit_code)
 {
     struct mintlintel_collected did = {7, 7, 7, 7, 7, 7}, expected = {0, 0, 0, 0, 0, 0};
@@ -278,6 +286,8 @@ static void broom_call(uint32_t call, uint32_t seat, struct input *in)
         counts_call(seat, wanted);
     } else if (call == 8) {
         collect_call(seat, number % 4, wanted);
+    } else if (call == 9) {
+        tally_call(seat, wanted);
     } else {
         code = CALL(broom_drain_dead, &seats[seat], &block, &moved);
         CHECK(code == (wanted ? wanted : shared_drain_dead(&m, broom_of(seat), &model_block, &model_moved)));
@@ -331,17 +341,17 @@ static void seat_call(uint32_t call, uint32_t seat, struct input *in)
 
 static void shared_call(struct input *in)
 {
-    uint32_t call = next(in) % 28, seat = next(in) % SEATS;
+    uint32_t call = next(in) % 29, seat = next(in) % SEATS;
     if (call < 9)
         host_call(call % 7, seat, in);
     else if (call < 13)
         holder_call(call - 9, seat, in);
-    else if (call < 23)
+    else if (call < 24)
         broom_call(call - 13, seat, in);
-    else if (call < 25)
-        broom_call(call - 22, SWEEP + seat % BROOMS, in);
+    else if (call < 26)
+        broom_call(call - 23, SWEEP + seat % BROOMS, in);
     else
-        seat_call(call - 25, seat, in);
+        seat_call(call - 26, seat, in);
 }
 
 /* Each sector reads as the models have it, by each host. */

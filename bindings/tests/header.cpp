@@ -1,9 +1,23 @@
-// Includes the headers from C++, and uses a device for one thread.
+// Includes the headers from C++, and uses a device for one thread, by the calls of C and by the class of LINKING.md.
 #include "mintlintel_image.h"
 #include "mintlintel_locked.h"
 #include <cstdio>
 #include <cstring>
+#include <stdexcept>
 #include <vector>
+
+#include "device.hpp"
+
+// Whether these numbers open, by the class of the page.
+static bool opens(const mintlintel_numbers &numbers)
+{
+    try {
+        Device device(numbers);
+        return true;
+    } catch (const std::runtime_error &error) {
+        return std::strcmp(error.what(), "luns out of range") != 0;
+    }
+}
 
 int main()
 {
@@ -15,6 +29,8 @@ int main()
                    mintlintel_one_read(&device, 3, out.data(), out.size()) == MINTLINTEL_WRITTEN && out == page;
     mintlintel_one_close(&device);
     if (!is_read || std::strcmp(mintlintel_code_name(MINTLINTEL_CLOSED), "the handle is closed") != 0)
+        return 1;
+    if (!opens({1, 24, 64, 64, 1000, 1000, 0, 0}) || opens({}))
         return 1;
     std::puts("header: C++ writes and reads a page");
 }

@@ -20,7 +20,7 @@ void __tsan_write_range(void *start, unsigned long size);
     X(host_hold, "0 1 2 3 9") X(host_copy, "1 2 4 9") X(host_word, "0 2 9 10") X(host_held, "0 2 9") X(host_release, "0 2 9")        \
     X(broom_drain, "0 2 9 20 21 22") X(broom_drain_next, "0 2 9 20 21 22") X(broom_drain_dead, "0 2 9 20 21 22")                     \
     X(broom_erase, "0 2 9 10 23 24 25 26") X(broom_restock, "0 2 9 21") X(broom_block, "0 2 9 10") X(broom_counts, "0 2 9 27")       \
-    X(collect, "0 2 9 20 21 24 27") X(write_within, "0 1 2 3 4 7 9")
+    X(broom_tally, "0 2 9") X(collect, "0 2 9 20 21 24 27") X(write_within, "0 1 2 3 4 7 9")
 #define NAMED(name, codes) CALL_##name,
 #define CODES_OF(name, codes) codes,
 #define NAME_OF(name, codes) #name,
@@ -169,14 +169,17 @@ static void *live(void *argument)
     return NULL;
 }
 
-/* The counts are those of all blocks, and so are the states of the blocks one by one. The code is 0, or 27. */
+/* The counts are those of all blocks, and so are the states of the blocks one by one; this broom has made some of the erases. The code is 0, or 27. */
 static uint32_t check_counts(struct mintlintel_seat *broom, struct mintlintel_counts *counts)
 {
     struct mintlintel_state block;
+    struct mintlintel_tally tally;
+    CHECK(CALL(broom_tally, AT(broom), &tally) == MINTLINTEL_DONE && tally.moved <= tally.programs);
     uint32_t code = CALL(broom_counts, AT(broom), counts);
     CHECK(code == MINTLINTEL_DONE || open_brooms == 1);
     CHECK(counts->free + counts->open + counts->closed + counts->victims + counts->drained + counts->erasing + counts->retired == BLOCKS);
     CHECK(counts->erases >= (uint64_t)counts->retired * ENDURANCE && counts->erases <= BLOCKS * ENDURANCE && counts->spares <= 1);
+    CHECK(tally.erases <= counts->erases);
     for (uint32_t i = 0; i < BLOCKS; i++) {
         CHECK(CALL(broom_block, AT(broom), i, &block) == MINTLINTEL_DONE);
         CHECK(block.phase <= MINTLINTEL_PHASE_RETIRED && block.readers <= HOSTS && block.written <= PAGES && block.erases <= ENDURANCE);
@@ -235,6 +238,7 @@ static void call_others(struct mintlintel_seat *host, struct mintlintel_seat *br
     struct mintlintel_state state;
     struct mintlintel_counts counts;
     struct mintlintel_collected did;
+    struct mintlintel_tally tally;
     CHECK(CALL(host_read, broom, 0, page, PAGE) == wanted && CALL(host_write, broom, 0, page, PAGE) == wanted);
     CHECK(CALL(host_write_new, broom, 0, page, PAGE) == wanted && CALL(write_within, broom, 0, page, PAGE, 1) == wanted);
     CHECK(CALL(host_trim, broom, 0) == wanted && CALL(host_look, broom, 0) == wanted && CALL(host_hold, broom, 0) == wanted);
@@ -243,7 +247,7 @@ static void call_others(struct mintlintel_seat *host, struct mintlintel_seat *br
     CHECK(CALL(broom_drain, host, &block, &moved) == wanted && CALL(broom_drain_next, host, &block, &moved) == wanted);
     CHECK(CALL(broom_drain_dead, host, &block, &moved) == wanted);
     CHECK(CALL(broom_erase, host, 0) == wanted && CALL(broom_restock, host) == wanted && CALL(broom_block, host, 0, &state) == wanted);
-    CHECK(CALL(broom_counts, host, &counts) == wanted && CALL(collect, host, 1, &did) == wanted);
+    CHECK(CALL(broom_counts, host, &counts) == wanted && CALL(broom_tally, host, &tally) == wanted && CALL(collect, host, 1, &did) == wanted);
 }
 
 static uint32_t open_with(uint32_t broom_count, struct mintlintel_numbers n)

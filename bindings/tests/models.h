@@ -106,7 +106,7 @@ struct state { enum phase phase; int readers; uint32_t generation; };
 struct shared_block { struct state state; int programmed, stamps[PAGES]; };
 /* the blocks that were full at a broom's last survey, as they were then, and how many of their pages were live */
 struct survey { int marked[BLOCKS], live[BLOCKS]; struct state states[BLOCKS]; };
-struct broom_model { int spare, destination; struct survey survey; };
+struct broom_model { int spare, destination; struct survey survey; struct mintlintel_tally tally; };
 
 struct shared_model {
     struct shared_block blocks[BLOCKS];
@@ -250,6 +250,8 @@ static inline void move_page(struct shared_model *m, struct broom_model *b, int 
         b->spare = NONE;
     }
     m->places[sector] = shared_program(m, &b->destination, sector);
+    b->tally.programs++;
+    b->tally.moved++;
 }
 
 /* A drain: by a new survey, or by the last one. */
@@ -305,6 +307,7 @@ static inline uint32_t shared_erase(struct shared_model *m, int broom, uint32_t 
     if (b->state.readers > 0)
         return MINTLINTEL_PINNED;
     b->state.generation++;
+    m->brooms[broom].tally.erases++;
     if (b->state.generation == ENDURANCE) {
         b->state.phase = RETIRED;
         return MINTLINTEL_RETIRED;

@@ -11,6 +11,7 @@ static const char *const codes_of[CALLS] = {
     [CALL_host_copy] = "1 2 4 9", [CALL_host_word] = "0 2 9 10", [CALL_host_held] = "0 2 9", [CALL_host_release] = "0 2 9",
     [CALL_broom_drain] = "0 2 9 20 21", [CALL_broom_drain_next] = "0 2 9 20 21 22", [CALL_broom_drain_dead] = "0 2 9 20 21",
     [CALL_broom_erase] = "0 2 9 10 23 24 25 26", [CALL_broom_restock] = "0 2 9 21", [CALL_broom_block] = "0 2 9 10", [CALL_broom_counts] = "0 2 9 27",
+    [CALL_broom_tally] = "0 2 9",
     [CALL_collect] = "0 2 9 20 21 24 27", [CALL_write_within] = "0 1 2 3 4 7 9",
 };
 

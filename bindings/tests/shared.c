@@ -23,7 +23,7 @@ static long rounds = 20000;
 struct sight { uint32_t writer, count, highest[HOSTS]; };
 struct thread { uint32_t number; long writes, reads, holds, no_block, given_up; struct sight sights[SECTORS]; };
 /* what a broom's calls returned, by code */
-struct sweep { uint32_t number; long moved, drains[32], erases[32]; };
+struct sweep { uint32_t number; long moved, drains[32], erases[32]; struct mintlintel_tally tally; };
 
 /* how often a write that finds no block is tried again; if blocks don't wear out, each write succeeds in the end */
 static long most_tries;
@@ -326,6 +326,8 @@ static void run_all(struct thread *threads, struct sweep *sweeps)
         pthread_join(broom_threads[i], NULL);
     check_threads_agree(threads);
     programs = count_programs() - programs;
+    for (int i = 0; i < BROOMS; i++)
+        CHECK(mintlintel_broom_tally(AT(&brooms[i]), &sweeps[i].tally) == MINTLINTEL_DONE && sweeps[i].tally.moved == (uint64_t)sweeps[i].moved);
     for (int i = 0; i < HOSTS; i++)
         mintlintel_seat_close(AT(&hosts[i]));
     for (int i = 0; i < BROOMS; i++)
@@ -346,15 +348,18 @@ static void print_counts(const char *device, const struct thread *threads, const
     }
     for (int i = 0; i < BROOMS; i++) {
         broom->moved += sweeps[i].moved;
+        broom->tally.programs += sweeps[i].tally.programs;
+        broom->tally.erases += sweeps[i].tally.erases;
         for (int code = 0; code < 32; code++) {
             broom->drains[code] += sweeps[i].drains[code];
             broom->erases[code] += sweeps[i].erases[code];
         }
     }
     /* Each write has programmed a page, and each copy one, also if its sector was written meanwhile: then the drain has not moved it. */
-    long overtaken = programs - host->writes - broom->moved;
-    CHECK(overtaken >= 0 && overtaken <= host->writes);
+    long overtaken = (long)broom->tally.programs - broom->moved;
     const long *d = broom->drains, *e = broom->erases;
+    CHECK(programs == host->writes + (long)broom->tally.programs && overtaken >= 0 && overtaken <= host->writes);
+    CHECK((long)broom->tally.erases == e[MINTLINTEL_DONE] + e[MINTLINTEL_KEPT] + e[MINTLINTEL_RETIRED]);
     printf("shared: %s: %ld writes, %ld reads, %ld holds, %ld times no block, %ld writes given up; %ld pages moved, %ld copies overtaken; drains: "
            "%ld done, %ld with nothing to gain, %ld without a spare, %ld lost; erases: %ld free, %ld kept, %ld retired, %ld put off\n", device,
            host->writes, host->reads, host->holds, host->no_block, host->given_up, broom->moved, overtaken, d[0], d[20], d[21], d[22], e[0], e[26], e[23],

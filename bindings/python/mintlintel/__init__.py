@@ -19,7 +19,7 @@ from .faults import (
 )
 from .numbers import Numbers, nearest
 from .replaying import Request, replay
-from .shared import BlockCounts, Broom, Collect, Collected, Drain, Drained, Erase, Held, Host, Page, Phase, SharedDevice, State
+from .shared import BlockCounts, Broom, Collect, Collected, Drain, Drained, Erase, Held, Host, Page, Phase, SharedDevice, State, Tally
 
 __all__ = [
     "BadNumbers", "Block", "BlockCounts", "Broom", "Buffer", "Chip", "ChipDevice", "Closed", "Code", "Collect", "Collected",
@@ -27,5 +27,5 @@ __all__ = [
     "FileFailed", "FlashFailed", "Held", "Host", "Image", "InUse", "MintlintelError", "NoBlock", "NoRoom", "NoSuchBlock",
     "NoSuchSector", "NoSuchWord", "NotAPage", "NotAnImage", "Numbers", "OtherDevice", "OtherNumbers", "OtherVersion",
     "OutOfMemory", "OutOfNumbers", "Page", "PageLost", "Phase", "PowerGone", "PowerLost", "Released", "Request", "SharedDevice",
-    "State", "Unreadable", "WornOut", "WritableBuffer", "WrongKind", "__version__", "nearest", "replay",
+    "State", "Tally", "Unreadable", "WornOut", "WritableBuffer", "WrongKind", "__version__", "nearest", "replay",
 ]

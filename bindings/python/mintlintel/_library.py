@@ -42,6 +42,10 @@ class BlockCounts(ctypes.Structure):
     ]
 
 
+class Tally(ctypes.Structure):
+    _fields_ = [(name, ctypes.c_uint64) for name in ("programs", "moved", "erases")]
+
+
 class Collected(ctypes.Structure):
     _fields_ = [(name, ctypes.c_uint32) for name in ("freed", "kept", "restocked", "retired", "moved", "pinned")]
 
@@ -115,6 +119,7 @@ _CALLS = {
     "broom_restock": [_HANDLE],
     "broom_block": [_HANDLE, _U32, ctypes.POINTER(State)],
     "broom_counts": [_HANDLE, ctypes.POINTER(BlockCounts)],
+    "broom_tally": [_HANDLE, ctypes.POINTER(Tally)],
     "durable_open": [_DURABLE, ctypes.POINTER(Nand), *[_U32] * 5],
     "durable_close": [_DURABLE],
     "durable_read": [_DURABLE, _U32, _BYTES, _SIZE],

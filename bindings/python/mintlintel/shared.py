@@ -104,6 +104,14 @@ class BlockCounts(NamedTuple):
     is_exhausted: bool
 
 
+class Tally(NamedTuple):
+    """What a broom has done since its open: pages that it programmed for copies, those of them that became their sectors' pages, and erases."""
+
+    programs: int
+    moved: int
+    erases: int
+
+
 class Collected(NamedTuple):
     """What a collection did: blocks that came free, that were erased and are the broom's spare now, that were free and became its spare, and that
     were retired; live pages that were moved; and erases that a reader put off."""
@@ -363,6 +371,13 @@ class Broom(_Seat):
             report.erases, report.free, report.open, report.closed, report.victims, report.drained, report.erasing, report.retired,
             has_spare=bool(report.spares), is_exhausted=code == Code.EXHAUSTED,
         )
+
+    def tally(self) -> Tally:
+        """What the broom has done since its open."""
+        report = _library.Tally()
+        with self._lock:
+            checked(LIBRARY.mintlintel_broom_tally(self._handle, report))
+        return Tally(report.programs, report.moved, report.erases)
 
     def erase(self, block: int) -> Erase:
         """Erases a drained block that nobody reads."""

@@ -394,6 +394,9 @@ class Shared(unittest.TestCase):
             counts = broom.counts()
             self.assertTrue(counts.is_exhausted)
             self.assertEqual((sum(counts[1:8]), counts.has_spare, counts.free + counts.drained), (6, False, 0))
+            tally = broom.tally()
+            self.assertEqual((tally.erases, tally.moved), (counts.erases, tally.programs))
+            self.assertGreater(tally.programs, 0)
             self.assertEqual(host.read(3), page(7))
 
     def test_restock_on_full_device(self):

@@ -27,6 +27,7 @@ def accepted(device: mintlintel.Device, host: mintlintel.Host, broom: mintlintel
                 page_held.page().generation.bit_length()
         same_host.write(0, bytes(16), within=0.5)
         same_broom.collect(4).ended.name.lower()
+        same_broom.tally().programs.bit_length()
         mintlintel.Code.PINNED.bit_length()
         mintlintel.__version__.lower()
         drained = same_broom.drain()

@@ -134,6 +134,17 @@ pub struct BlockCounts {
     pub is_exhausted: bool,
 }
 
+/// What a broom has done since its open.
+#[derive(Clone, Copy, Debug, PartialEq, Eq)]
+pub struct Tally {
+    /// Pages that it programmed for copies.
+    pub programs: u64,
+    /// Those of them that became their sectors' pages. The others' sectors were written or trimmed meanwhile.
+    pub moved: u64,
+    /// Blocks that it erased.
+    pub erases: u64,
+}
+
 /// What an erase did.
 ///
 /// ```
@@ -316,7 +327,7 @@ impl Broom {
     /// # Ok(())
     /// # }
     /// ```
-    pub fn block(&mut self, block: u32) -> Result<State, Fault> {
+    pub fn block(&self, block: u32) -> Result<State, Fault> {
         let mut state = raw::State::default();
         match unsafe { raw::mintlintel_broom_block(self.seat.handle(), block, &mut state) } {
             code::DONE => Ok(State { phase: Phase::of(state.phase), readers: state.readers, written: state.written, erases: state.erases }),
@@ -338,7 +349,7 @@ impl Broom {
     /// # Ok(())
     /// # }
     /// ```
-    pub fn counts(&mut self) -> Result<BlockCounts, Fault> {
+    pub fn counts(&self) -> Result<BlockCounts, Fault> {
         let mut counts = raw::BlockCounts::default();
         let is_exhausted = match unsafe { raw::mintlintel_broom_counts(self.seat.handle(), &mut counts) } {
             code::DONE => false,
@@ -347,6 +358,29 @@ impl Broom {
         };
         let raw::BlockCounts { erases, free, open, closed, victims, drained, erasing, retired, spares } = counts;
         Ok(BlockCounts { erases, free, open, closed, victims, drained, erasing, retired, has_spare: spares > 0, is_exhausted })
+    }
+
+    /// What the broom has done since its open.
+    ///
+    /// ```
+    /// # use mintlintel::{Geometry, SharedDevice, Tally};
+    /// # fn main() -> Result<(), Box<dyn std::error::Error>> {
+    /// # let geometry = Geometry { blocks: 24, pages: 8, words: 1, sectors: 100, endurance: 1000, ..Geometry::ONE_LUN };
+    /// # let mut device = SharedDevice::open(geometry, 1, 1)?;
+    /// # let (host, broom) = (&mut device.hosts[0], &mut device.brooms[0]);
+    /// for sector in [3, 3, 3, 3, 3, 3, 3, 4, 5] {
+    ///     host.write(sector, &[1; 8])?;
+    /// }
+    /// assert_eq!(broom.collect(1)?.kept, 1);
+    /// assert_eq!(broom.tally()?, Tally { programs: 2, moved: 2, erases: 1 });
+    /// # Ok(())
+    /// # }
+    /// ```
+    pub fn tally(&self) -> Result<Tally, Fault> {
+        let mut tally = raw::Tally::default();
+        Fault::check(unsafe { raw::mintlintel_broom_tally(self.seat.handle(), &mut tally) }, Given::Nothing, &self.geometry)?;
+        let raw::Tally { programs, moved, erases } = tally;
+        Ok(Tally { programs, moved, erases })
     }
 
     /// Erases a drained block that nobody reads.

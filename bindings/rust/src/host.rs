@@ -41,8 +41,8 @@ impl Host {
         Host { seat, geometry }
     }
 
-    /// A call. Nothing borrows the host, so if it holds a page, the page's `Held` was forgotten (`std::mem::forget`): it is released first.
-    fn called(&mut self, given: Given, call: impl Fn(*mut Handle) -> u32) -> Result<Was, Fault> {
+    /// A call. A `Held` borrows its host alone, so if the host holds a page, the page's `Held` was forgotten (`std::mem::forget`): it is released first.
+    fn called(&self, given: Given, call: impl Fn(*mut Handle) -> u32) -> Result<Was, Fault> {
         let handle = self.seat.handle();
         let code = match call(handle) {
             WRONG_KIND => {
@@ -166,7 +166,7 @@ impl Host {
     /// # Ok(())
     /// # }
     /// ```
-    pub fn look(&mut self, sector: u32) -> Result<Was, Fault> {
+    pub fn look(&self, sector: u32) -> Result<Was, Fault> {
         self.called(Given::Sector(sector), |handle| unsafe { raw::mintlintel_host_look(handle, sector) })
     }
 

@@ -22,7 +22,7 @@ mod host;
 mod raw;
 mod shared;
 
-pub use broom::{BlockCounts, Broom, Collect, Collected, Drain, Erase, Phase, State};
+pub use broom::{BlockCounts, Broom, Collect, Collected, Drain, Erase, Phase, State, Tally};
 pub use device::{Block, Counts, Device};
 pub use durable::{ChipFault, Durable, DurableFault, Image, Mode, Nand, Reading, Shape, STAMP_BYTES};
 pub use fault::{Fault, OpenError, OpenFault};

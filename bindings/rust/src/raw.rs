@@ -108,6 +108,14 @@ pub struct BlockCounts {
 
 #[repr(C)]
 #[derive(Default)]
+pub struct Tally {
+    pub programs: u64,
+    pub moved: u64,
+    pub erases: u64,
+}
+
+#[repr(C)]
+#[derive(Default)]
 pub struct Collected {
     pub freed: u32,
     pub kept: u32,
@@ -215,6 +223,7 @@ extern "C" {
     pub fn mintlintel_broom_restock(h: *mut Handle) -> u32;
     pub fn mintlintel_broom_block(h: *mut Handle, block: u32, state: *mut State) -> u32;
     pub fn mintlintel_broom_counts(h: *mut Handle, counts: *mut BlockCounts) -> u32;
+    pub fn mintlintel_broom_tally(h: *mut Handle, tally: *mut Tally) -> u32;
     pub fn mintlintel_version() -> *const c_char;
     pub fn mintlintel_explain(code: u32, numbers: *const Numbers, text: *mut c_char, bytes: usize);
     pub fn mintlintel_nearest(numbers: *mut Numbers);

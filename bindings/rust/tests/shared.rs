@@ -1,5 +1,5 @@
 //! A shared device, its hosts and a broom in threads of their own.
-use mintlintel::{Broom, Collect, Collected, Drain, Erase, Fault, Geometry, Held, Host, Numbers, OpenFault, SharedDevice, Was};
+use mintlintel::{Broom, Collect, Collected, Drain, Erase, Fault, Geometry, Held, Host, Numbers, OpenFault, SharedDevice, Tally, Was};
 use std::mem;
 use std::sync::atomic::{AtomicUsize, Ordering};
 use std::thread;
@@ -113,6 +113,21 @@ fn refusals_of_shared_device() -> Result<(), Fault> {
     let numbers = Numbers { geometry: GEOMETRY, hosts: 1, brooms: 1 };
     assert_eq!((device.hosts[0].numbers()?, device.brooms[0].numbers()?), (numbers, numbers));
     assert_eq!((device.hosts[0].geometry()?, device.brooms[0].geometry()?), (GEOMETRY, GEOMETRY));
+    Ok(())
+}
+
+/// A report through a shared reference beside others of the same seat.
+#[test]
+fn reports_through_shared_references() -> Result<(), Fault> {
+    let mut device = SharedDevice::open(GEOMETRY, 1, 1).expect("it opens");
+    device.hosts[0].write(5, &page(0, 5, 1))?;
+    let (host, broom) = (&device.hosts[0], &device.brooms[0]);
+    let (looks, brooms) = ([host, host], [broom, broom]);
+    assert_eq!(looks.map(|host| host.look(5)), [Ok(Was::Written); 2]);
+    assert_eq!(host.numbers()?, broom.numbers()?);
+    assert_eq!(brooms.map(|broom| broom.counts().map(|counts| (counts.free, counts.open))), [Ok((38, 2)); 2]);
+    assert_eq!(brooms.map(|broom| broom.block(0).map(|state| state.written)), [Ok(1); 2]);
+    assert_eq!(brooms.map(|broom| broom.tally()), [Ok(Tally { programs: 0, moved: 0, erases: 0 }); 2]);
     Ok(())
 }
 

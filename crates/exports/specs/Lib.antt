@@ -3,6 +3,7 @@ pub mod Codes
 pub mod Handles
 pub mod One
 pub mod Shared
+pub mod Tallies
 pub mod Blocks
 pub mod Holding
 pub mod Opening

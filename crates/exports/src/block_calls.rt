@@ -9,10 +9,11 @@ ghost use Rattle.broom.specs.Ready.{blocks_of_broom};
 ghost use Rattle.exports.specs.Codes.{as_number};
 ghost use Rattle.exports.specs.Blocks.{BlockReported, block_code, counts_code, counts_report, is_exhausted};
 ghost use Rattle.exports.specs.Shared.{numbers_of, sweeper_volume};
+ghost use Rattle.exports.specs.Tallies.{tally_of};
 
 use crate::codes::{DONE, EXHAUSTED, NO_SUCH_BLOCK};
 use crate::phases::number_of;
-use crate::reports::{CountsReport, StateReport};
+use crate::reports::{CountsReport, StateReport, TallyReport};
 use crate::seat::Sweeper;
 use volume::{Geometry, Phase};
 
@@ -66,6 +67,15 @@ impl Sweeper {
         } else {
             DONE
         }
+    }
+
+    // Reports what the broom has done.
+    pub(crate) fn tally(&self, out: &mut TallyReport) -> u32
+        ensures code { result ≡ DONE }
+        ensures tally { out.new ≡ tally_of self.now.broom }
+    {
+        *out = self.done;
+        DONE
     }
 }
 

@@ -64,6 +64,9 @@ ghost use Rattle.exports.specs.Shared.{BroomCalled, HostCalled, numbers_of, host
 ghost use Rattle.exports.specs.Shared.{host_code, sweeper_code, read_code, read_buffer, look_code, write_code, trim_code, erased_code};
 ghost use Rattle.exports.specs.Shared.{numbers_code, numbers_report, IsStep, HasWritten, HasWrittenNew, HasTrimmed};
 ghost use Rattle.exports.specs.Small.{IsSmall, worn_block, worn, zeros};
+ghost use Rattle.exports.specs.Tallies.{empty_tally, erased_by, in_a_word, moved_by, tally_of, with_drain, with_erase};
+ghost use Rattle.flash_rule.specs.declared.facts.Cycle.{Cycle};
+ghost use Rattle.geometry.specs.declared.map_word.MapWord.{MapWord};
 ghost use Rattle.exports.specs.declared.codes.TheConstants.{DONE, CLOSED, WRONG_KIND};
 
 /// What a call leaves of a handle: a closed one is closed, and an open one is open, with a seat of which the call says something.
@@ -344,4 +347,17 @@ pub fn loads_of_blocks()
         → slice_get states k ≡ Some p → HasState b k p → IsMarked (marks_of b) k → IsMarked (marks_of c) k }
     ensures no_more { (z : Numbers) (b c : Broom) (states : List PinWord) → AllLoaded z b states c → (k : ℕ) → IsMarked (marks_of c) k
         → IsMarked (marks_of b) k }
+{}
+
+/// What a broom has done since it was made.
+pub fn tallies_of_brooms()
+    ensures new { (b : Broom) (z : Numbers) (i : ℕ) → view_of_broom b ≡ first_broom z i → tally_of b ≡ record { programs = 0; moved = 0; erases = 0 } }
+    ensures programs { (b : Broom) (x y : MapWord) → (view_of_broom b).programs ≡ x ∷ y ∷ [] → (tally_of b).programs ≡ 2 }
+    ensures moved { (b : Broom) → (view_of_broom b).moves ≡ 3 → (tally_of b).moved ≡ 3 }
+    ensures erases { (b : Broom) (c : Cycle) → (view_of_broom b).erases ≡ c ∷ [] → (tally_of b).erases ≡ 1 }
+    ensures wrapped { (in_a_word 18446744073709551615 ≡ 18446744073709551615) × (in_a_word 18446744073709551617 ≡ 1) }
+    ensures drains { with_drain empty_tally 4 (drain.Drained 9 3) ≡ record { programs = 4; moved = 3; erases = 0 } }
+    ensures no_drains { (moved_by drain.NothingToGain ≡ 0) × (moved_by drain.NoSpare ≡ 0) × (moved_by drain.Lost ≡ 0) × (moved_by drain.QueueFull ≡ 0) }
+    ensures an_erase { with_erase (with_drain empty_tally 4 (drain.Drained 9 3)) (erase.Retired 9) ≡ record { programs = 4; moved = 3; erases = 1 } }
+    ensures no_erases { (erased_by (erase.Erased 9 true) ≡ 1) × (erased_by erase.Pinned ≡ 0) × (erased_by erase.Stale ≡ 0) × (erased_by erase.QueueEmpty ≡ 0) }
 {}

@@ -9,10 +9,12 @@ ghost use Rattle.volume.specs.Volume.{flash_of};
 ghost use Rattle.exports.specs.Codes.{fault_code};
 ghost use Rattle.exports.specs.Handles.{seat_of};
 ghost use Rattle.exports.specs.Opening.{IsClosed, EachAt, IsFirstPass, IsFirstBroom, IsPassIn, IsBroomIn, IsFreshHost};
+ghost use Rattle.exports.specs.Tallies.{empty_tally, tally_of};
 ghost use Rattle.exports.specs.Opening.{IsFreshBroom, AreFresh, capped, shared_open_code, shared_fault_code};
 
 use crate::codes::{ALREADY_OPEN, BAD_SEATS, DONE, NO_MEMORY, code_of_fault};
 use crate::handle::Handle;
+use crate::reports::TallyReport;
 use crate::seat::{Host, Seat, Sweeper};
 use geometry::{MAX_BROOMS, MAX_HOSTS};
 use std::alloc::Global;
@@ -70,7 +72,7 @@ fn seat_host(alloc: Global, volume: &Arc<Volume, Global>, pass: Pass, handle: &m
     handle.fill(alloc, Seat::Host(Host { volume, pass }))
 }
 
-// Puts a broom into a closed handle. If memory runs out, it is retired, and the handle stays closed.
+// Puts a broom that has done nothing yet into a closed handle. If memory runs out, it is retired, and the handle stays closed.
 fn seat_broom(
     alloc: Global,
     volume: &Arc<Volume, Global>,
@@ -78,6 +80,7 @@ fn seat_broom(
     handle: &mut Handle,
 ) -> bool
     requires broom { IsBroomReady (arc_value volume.now) broom }
+    requires unused { tally_of broom ≡ empty_tally }
     requires closed { IsClosed handle.old }
     ensures seated { result ≡ true → IsBroomIn (arc_value volume.now) broom (seat_of handle.new) }
     ensures closed { result ≡ false → IsClosed handle.new }
@@ -86,7 +89,12 @@ fn seat_broom(
         volume.retire_broom(broom);
         return false;
     };
-    handle.fill(alloc, Seat::Sweeper(Sweeper { volume, broom }))
+    let sweeper = Sweeper {
+        volume,
+        broom,
+        done: TallyReport::new(),
+    };
+    handle.fill(alloc, Seat::Sweeper(sweeper))
 }
 
 // Puts a pass into each of these handles, pass t into handle t. If memory runs out, all stay closed, and the passes are retired.

@@ -57,6 +57,16 @@ pub struct StateReport {
     pub erases: u32,
 }
 
+/// What a broom has done since its open: the pages that it programmed for copies, those of them that became their sectors' pages, and the blocks
+/// that it erased. Each count is modulo 2^64.
+#[repr(C)]
+#[derive(Clone, Copy, Debug, PartialEq, Eq)]
+pub struct TallyReport {
+    pub programs: u64,
+    pub moved: u64,
+    pub erases: u64,
+}
+
 /// All erases, the blocks in each phase, and 1 if the broom that counts has a spare.
 #[repr(C)]
 #[derive(Clone, Copy, Debug, PartialEq, Eq)]

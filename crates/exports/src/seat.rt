@@ -5,8 +5,11 @@ ghost use Rattle.host.specs.Ready.{IsReady};
 ghost use Rattle.exports.specs.Holds.{held_value, Holds-prop};
 ghost use Rattle.volume.specs.Volume.{flash_of};
 ghost use Rattle.volume.specs.Brooms.{IsBroomReady, IsBroomReady-prop};
+ghost use Rattle.exports.specs.Tallies.{tally_of};
+ghost use Rattle.std.specs.Prelude.{◌≡◌};
 
 use crate::codes::{DONE, NO_SECTOR, WRITTEN};
+use crate::reports::TallyReport;
 use ftl_one::OneFtl;
 use std::alloc::Global;
 use std::sync::Arc;
@@ -78,16 +81,22 @@ impl Holder {
     }
 }
 
-/// A broom, with its device.
+/// A broom, with its device and what it has done.
 pub struct Sweeper {
     pub(crate) volume: Arc<Volume, Global>,
     pub(crate) broom: Broom,
+    pub(crate) done: TallyReport,
     ghost ready: { IsBroomReady (arc_value volume) broom } by { Prim.hlevel IsBroomReady-prop },
+    pub ghost counted: { done ≡ tally_of broom },
 }
 
 impl Drop for Sweeper {
     fn drop(self) {
-        let Sweeper { volume, broom } = self;
+        let Sweeper {
+            volume,
+            broom,
+            done: _,
+        } = self;
         volume.retire_broom(broom);
         drop(volume);
     }

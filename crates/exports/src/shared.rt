@@ -17,12 +17,13 @@ ghost use Rattle.volume.specs.Volume.{flash_of};
 ghost use Rattle.volume.specs.Undisturbed.{IsUndisturbed};
 ghost use Rattle.exports.specs.Codes.{as_number, got_by, written_by, was_by, drain_code, drain_by, erase_by, restock_code, stocked_by};
 ghost use Rattle.exports.specs.Blocks.{BlockReported, block_code, counts_code, counts_report};
+ghost use Rattle.exports.specs.Tallies.{tally_of};
 ghost use Rattle.exports.specs.Handles.{seat_of};
 ghost use Rattle.exports.specs.Holding.{by_holder, holder_code, hold_code, HoldCalled, HolderCalled, ReleaseCalled};
 ghost use Rattle.exports.specs.Holding.{copy_code, copied, word_code, word_read, page_report};
 ghost use Rattle.exports.specs.Shared.{numbers_of, sweeper_volume, by_host, host_code, sweeper_code, HostCalled, BroomCalled, seen_of, read_code, read_buffer};
 ghost use Rattle.exports.specs.Shared.{look_code, write_code, trim_code, erased_code, numbers_code, numbers_report, IsStep, HasWritten};
-ghost use Rattle.exports.specs.Shared.{HasWrittenNew, HasTrimmed};
+ghost use Rattle.exports.specs.Shared.{HasWrittenNew, HasTrimmed, by_sweeper};
 ghost use Rattle.volume.specs.Correct.{Read, Look, Write, WriteNew, Trim, Found, IsWritten, Replaced};
 
 use crate::codes::{
@@ -30,7 +31,7 @@ use crate::codes::{
 };
 use crate::handle::Handle;
 use crate::layer;
-use crate::reports::{CountsReport, Drained, NumbersReport, PageReport, StateReport};
+use crate::reports::{CountsReport, Drained, NumbersReport, PageReport, StateReport, TallyReport};
 use crate::seat::Seat;
 use std::alloc::Global;
 use std::mem;
@@ -436,6 +437,23 @@ pub extern "C" fn mintlintel_broom_counts(
 {
     handle.on_with(alloc, out, |seat, out| match seat {
         Seat::Sweeper(sweeper) => sweeper.counts(out),
+        _ => WRONG_KIND,
+    })
+}
+
+/// What the broom has done since its open: the pages that it programmed, the copies that became their sectors' pages, and its erases.
+#[unsafe(no_mangle)]
+pub extern "C" fn mintlintel_broom_tally(
+    alloc: Global,
+    handle: &mut Handle,
+    out: &mut TallyReport,
+) -> u32
+    ensures code { result ≡ sweeper_code (seat_of handle.old) (λ _. DONE) }
+    ensures tally { out.new ≡ by_sweeper (seat_of handle.old) out.old out.old (λ s. tally_of s.broom) }
+    ensures same { seat_of handle.new ≡ seat_of handle.old }
+{
+    handle.on_with(alloc, out, |seat, out| match seat {
+        Seat::Sweeper(sweeper) => sweeper.tally(out),
         _ => WRONG_KIND,
     })
 }

@@ -9,11 +9,12 @@ ghost use Rattle.broom.specs.Restocking.{RestockTold};
 ghost use Rattle.broom.specs.declared.answer.Drain.TheVariants as drain;
 ghost use Rattle.exports.specs.Codes.{drain_code, drain_by, erase_by, restock_code, stocked_by};
 ghost use Rattle.exports.specs.Shared.{numbers_of, sweeper_volume, erased_code};
+ghost use Rattle.exports.specs.Tallies.{empty_tally, with_drain, with_erase};
 
 use crate::codes::{
     DONE, KEPT, LOST, NO_SPARE, NO_SUCH_BLOCK, NOTHING_TO_GAIN, PINNED, RETIRED, STALE,
 };
-use crate::reports::Drained;
+use crate::reports::{Drained, TallyReport};
 use crate::seat::Sweeper;
 use volume::{Drain, Erase, NoGate};
 
@@ -28,7 +29,11 @@ impl Sweeper {
         ensures below { IsBelow (blocks_of (numbers_of (sweeper_volume self.old))) (drain_by result out.new.block out.new.moved) }
         ensures same { result ≢ DONE → out.new ≡ out.old }
     {
+        let pages = self.volume.geometry().pages();
+        let room = self.broom.room(pages);
         let answer = self.volume.drain(&mut self.broom, &mut NoGate);
+        let programs = room.saturating_sub(self.broom.room(pages));
+        self.done = self.done.with_drain(programs, answer);
         hand_out(answer, out)
     }
 
@@ -41,7 +46,11 @@ impl Sweeper {
         ensures below { IsBelow (blocks_of (numbers_of (sweeper_volume self.old))) (drain_by result out.new.block out.new.moved) }
         ensures same { result ≢ DONE → out.new ≡ out.old }
     {
+        let pages = self.volume.geometry().pages();
+        let room = self.broom.room(pages);
         let answer = self.volume.drain_next(&mut self.broom, &mut NoGate);
+        let programs = room.saturating_sub(self.broom.room(pages));
+        self.done = self.done.with_drain(programs, answer);
         hand_out(answer, out)
     }
 
@@ -70,7 +79,9 @@ impl Sweeper {
         if block >= self.volume.geometry().blocks() {
             return NO_SUCH_BLOCK;
         }
-        match self.volume.erase(&mut self.broom, block, &mut NoGate) {
+        let answer = self.volume.erase(&mut self.broom, block, &mut NoGate);
+        self.done = self.done.with_erase(answer);
+        match answer {
             Erase::Erased { kept: true, .. } => KEPT,
             Erase::Erased { .. } => DONE,
             Erase::Retired { .. } => RETIRED,
@@ -91,6 +102,49 @@ impl Sweeper {
             DONE
         } else {
             NO_SPARE
+        }
+    }
+}
+
+impl TallyReport {
+    // Nothing was done.
+    pub(crate) fn new() -> TallyReport
+        ensures { result ≡ empty_tally }
+    {
+        TallyReport {
+            programs: 0,
+            moved: 0,
+            erases: 0,
+        }
+    }
+
+    // This, and a drain that has programmed so many pages.
+    fn with_drain(self, programs: u64, answer: Drain) -> TallyReport
+        ensures { result ≡ with_drain self programs answer }
+    {
+        let moved = match answer {
+            Drain::Drained { block: _, copied } => u64::from(copied),
+            _ => 0,
+        };
+        TallyReport {
+            programs: self.programs.wrapping_add(programs),
+            moved: self.moved.wrapping_add(moved),
+            erases: self.erases,
+        }
+    }
+
+    // This, and an erase.
+    fn with_erase(self, answer: Erase) -> TallyReport
+        ensures { result ≡ with_erase self answer }
+    {
+        let erases = match answer {
+            Erase::Erased { .. } | Erase::Retired { .. } => 1,
+            _ => 0,
+        };
+        TallyReport {
+            programs: self.programs,
+            moved: self.moved,
+            erases: self.erases.wrapping_add(erases),
         }
     }
 }

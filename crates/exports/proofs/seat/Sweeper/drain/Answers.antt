@@ -19,6 +19,6 @@ returns-clause-left c =
 
 pub returns-clause-below : goal.returns-clause-below
 returns-clause-below c =
-    let below = subst (λ (v : Volume). IsBelow (blocks_of (numbers_of v)) c.drain-answer.result) c.deref.ensures c.drain-answer.ensures.block in
+    let below = subst (λ (v : Volume). IsBelow (blocks_of (numbers_of v)) c.drain-answer.result) c.deref-2.ensures c.drain-answer.ensures.block in
     as_said (IsBelow (blocks_of (numbers_of (sweeper_volume c.args.self.now)))) _ _
     (drain_has_room _ _ _ c.drain-answer.ensures.told) c.hand_out.ensures.answer below
