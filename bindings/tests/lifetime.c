@@ -3,6 +3,7 @@
  * each of its codes, and no other one. Each sector reads as its host left it. */
 #include "testing.h"
 #include <pthread.h>
+#include <sched.h>
 #include <stdatomic.h>
 #include <time.h>
 
@@ -34,7 +35,7 @@ enum { WITHIN = 60, FEW = 6, LIVES = 1000, CODES = 128 };
 
 static struct mintlintel_seat hosts[HOSTS], brooms[BROOMS];
 static atomic_ulong returned[COUNT_OF_CALLS][CODES];
-static atomic_int hosts_left;
+static atomic_int hosts_left, arrivals;
 static uint32_t open_brooms;
 /* of each sector the count of its last write, 0 for none; each host has sectors of its own */
 static uint32_t last[SECTORS];
@@ -293,13 +294,58 @@ static void live_once(uint32_t broom_count)
     CHECK(CALL(seat_numbers, &hosts[0], &told) == MINTLINTEL_CLOSED);
 }
 
+/* Waits until both brooms have come here as often. They spin, so that they go on in the same moment. */
+static void come_together(int times)
+{
+    atomic_fetch_add(&arrivals, 1);
+    for (int tries = 0; atomic_load(&arrivals) < BROOMS * times; tries++)
+        if (tries % 1000 == 999)
+            sched_yield();
+}
+
+/* Looks for a block without live pages when the other broom does, so that one of them may claim the block that both have found. */
+static void *race(void *broom)
+{
+    uint32_t block = 0, moved = 0;
+    for (int times = 1; times <= BLOCKS; times++) {
+        come_together(times);
+        if (CALL(broom_drain_dead, AT(broom), &block, &moved) == MINTLINTEL_DONE)
+            CALL(broom_erase, AT(broom), block);
+    }
+    return NULL;
+}
+
+/* Two brooms for many blocks that were filled and trimmed. */
+static void race_once(void)
+{
+    const struct mintlintel_numbers n = {1, BLOCKS, PAGES, WORDS, SECTORS, ENDURANCE, HOSTS, BROOMS};
+    uint8_t page[PAGE] = {0};
+    pthread_t threads[BROOMS];
+    CHECK(open_with(BROOMS, n) == MINTLINTEL_DONE);
+    for (uint32_t i = 0; CALL(host_write, AT(&hosts[0]), i % SECTORS, page, PAGE) != MINTLINTEL_NO_BLOCK; i++)
+        ;
+    for (uint32_t sector = 0; sector < SECTORS; sector++)
+        CHECK(CALL(host_trim, AT(&hosts[0]), sector) == MINTLINTEL_WRITTEN);
+    atomic_store(&arrivals, 0);
+    for (int i = 0; i < BROOMS; i++)
+        CHECK(pthread_create(&threads[i], NULL, race, &brooms[i]) == 0);
+    for (int i = 0; i < BROOMS; i++)
+        CHECK(pthread_join(threads[i], NULL) == 0);
+    for (int i = 0; i < HOSTS; i++)
+        mintlintel_seat_close(&hosts[i]);
+    for (int i = 0; i < BROOMS; i++)
+        mintlintel_seat_close(&brooms[i]);
+}
+
 int main(void)
 {
     uint32_t code = 0;
     int lives = 0;
     open_wrongly();
-    for (; (lives < 2 || lacking(&code)) && lives < LIVES; lives++)
+    for (; (lives < 2 || lacking(&code)) && lives < LIVES; lives++) {
         live_once(lives % 2 == 0 ? BROOMS : 1);
+        race_once();
+    }
     const char *name = lacking(&code);
     if (name) {
         fprintf(stderr, "in %d lives %s has not returned %u\n", lives, name, code);
