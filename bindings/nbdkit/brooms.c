@@ -102,13 +102,11 @@ static uint32_t next_destination(struct broom *broom) {
     return broom->destination;
 }
 
-// The pages that the broom has programmed for copies since it was asked last, those among them that a host was before with its write.
-static uint32_t new_copies(struct broom *broom) {
-    struct mintlintel_tally tally = {0, 0, 0};
-    mintlintel_broom_tally(announced(broom->seat), &tally);
-    uint64_t copies = tally.programs - tally_of(&broom->copies);
-    tally_add(&broom->copies, copies);
-    return (uint32_t) copies;
+// Copies that a host was before with its write are pages of the destination too.
+static void count_filled(struct broom *broom) {
+    struct mintlintel_state state;
+    if (broom->destination != NO_BLOCK && mintlintel_broom_block(announced(broom->seat), broom->destination, &state) == MINTLINTEL_DONE)
+        broom->filled = state.phase == MINTLINTEL_PHASE_OPEN ? state.written : broom->all->pages;
 }
 
 // The copies of a drain take their time one after the other, so that requests come between them.
@@ -119,6 +117,7 @@ static void take_copies(struct broom *broom, uint32_t victim, uint32_t count) {
         until = luns_copy(broom->all->luns, victim, to == NO_BLOCK ? victim : to, until);
         sleep_until(broom, until);
     }
+    count_filled(broom);
 }
 
 // ---- Which block is drained.
@@ -333,7 +332,8 @@ static int drain(struct broom *broom) {
     case MINTLINTEL_DONE:
         broom->was_poor = moved > broom->all->pages - broom->all->pages / POOR_PART;
         tally_add(&broom->drains, 1);
-        take_copies(broom, block, new_copies(broom));
+        tally_add(&broom->copies, moved);
+        take_copies(broom, block, moved);
         return 1;
     case MINTLINTEL_LOST:
         tally_add(&broom->lost, 1);
