@@ -28,6 +28,8 @@ struct mintlintel_flash {
     uint32_t stranded; /* the first sector that may be in a block that isn't in use */
     int is_stuck, has_failed; /* such a sector can't be read; a block has failed and isn't marked */
     struct mintlintel_totals earlier; /* what was done before the last mount */
+    uint64_t losses; /* what the last mount has told */
+    int despite_losses; /* the caller goes on with losses */
     const uint32_t *reason; /* the code in place of 28, if there is one */
     uint32_t stopped; /* the code that every call returns since the power went, or a sync or a mount failed, or 0 */
     uint32_t worn; /* the code of writes and trims since bad blocks have left no room, or 0 */
@@ -256,6 +258,14 @@ static void add_earlier(const struct mintlintel_flash *flash, struct mintlintel_
     totals->erases += flash->earlier.erases;
 }
 
+/* Asks for the losses of the mount, which stop it unless the caller goes on with them. */
+static uint32_t tell_losses(struct mintlintel_durable *device)
+{
+    struct mintlintel_flash *flash = device->flash;
+    mintlintel_core_losses(&device->core, &flash->losses);
+    return flash->losses > 0 && !flash->despite_losses ? MINTLINTEL_PAGES_LOST : MINTLINTEL_DONE;
+}
+
 /* Mounts the core by these numbers of the blocks. */
 static uint32_t mount_core(struct mintlintel_durable *device, struct opening *opening)
 {
@@ -272,7 +282,9 @@ static uint32_t mount_core(struct mintlintel_durable *device, struct opening *op
         code = note_block(device, block, opening);
     flash->stranded = 0;
     flash->is_stuck = 0;
-    return code == MINTLINTEL_DONE ? mintlintel_core_finish(&device->core) : code;
+    if (code == MINTLINTEL_DONE)
+        code = mintlintel_core_finish(&device->core);
+    return code == MINTLINTEL_DONE ? tell_losses(device) : code;
 }
 
 /* Mounts without the bad blocks and the reserve. Where no block of the others can be freed, the reserve comes in use. */
@@ -299,7 +311,7 @@ static uint32_t open_flash(struct mintlintel_durable *device)
 }
 
 uint32_t mtl_durable_open(struct mintlintel_durable *device, const struct mintlintel_nand *nand, const struct mintlintel_durable_numbers *numbers,
-                          const uint32_t *reason)
+                          const uint32_t *reason, uint64_t *losses)
 {
     if (device->flash)
         return MINTLINTEL_ALREADY_OPEN;
@@ -310,9 +322,12 @@ uint32_t mtl_durable_open(struct mintlintel_durable *device, const struct mintli
     if (!device->flash)
         return MINTLINTEL_NO_MEMORY;
     device->flash->reason = reason;
+    device->flash->despite_losses = losses != NULL;
     code = stops(device->flash, open_flash(device));
     if (code != MINTLINTEL_DONE)
         mintlintel_durable_close(device);
+    else if (losses)
+        *losses = device->flash->losses;
     return code;
 }
 
@@ -320,7 +335,14 @@ uint32_t mintlintel_durable_open(struct mintlintel_durable *device, const struct
                                  uint32_t pages, uint32_t page_bytes, uint32_t sectors)
 {
     struct mintlintel_durable_numbers numbers = {luns, blocks, pages, page_bytes, sectors};
-    return mtl_durable_open(device, nand, &numbers, NULL);
+    return mtl_durable_open(device, nand, &numbers, NULL, NULL);
+}
+
+uint32_t mintlintel_durable_open_despite_losses(struct mintlintel_durable *device, const struct mintlintel_nand *nand, uint32_t luns, uint32_t blocks,
+                                                uint32_t pages, uint32_t page_bytes, uint32_t sectors, uint64_t *losses)
+{
+    struct mintlintel_durable_numbers numbers = {luns, blocks, pages, page_bytes, sectors};
+    return mtl_durable_open(device, nand, &numbers, NULL, losses);
 }
 
 void mintlintel_durable_close(struct mintlintel_durable *device)
@@ -549,6 +571,14 @@ uint32_t mintlintel_durable_counts(struct mintlintel_durable *device, struct min
     mintlintel_core_counts(&device->core, &done); /* a core whose mount failed has done nothing */
     add_earlier(device->flash, &done);
     *totals = done;
+    return MINTLINTEL_DONE;
+}
+
+uint32_t mintlintel_durable_losses(struct mintlintel_durable *device, uint64_t *losses)
+{
+    if (!device->flash)
+        return MINTLINTEL_CLOSED;
+    *losses = device->flash->losses;
     return MINTLINTEL_DONE;
 }
 

@@ -11,3 +11,6 @@ pub mod Noting
 pub mod Reserves
 pub mod Subsequences
 pub mod Exact
+mod Losses
+mod Counted
+mod Telling

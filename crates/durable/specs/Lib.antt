@@ -13,5 +13,6 @@ pub mod Collecting
 pub mod Memory
 pub mod Choice
 pub mod Spare
+pub mod Losses
 pub mod Candidates
 pub mod Mounting

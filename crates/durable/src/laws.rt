@@ -2,8 +2,8 @@
 ghost use Rattle.std.specs.Prelude.{◌≡◌, ◌≢◌, ◌⊎◌, ◌<◌, ◌+◌, ◌-◌, ◌^◌, ℕ, List, [], ◌∷◌, None, Some, true, false, length, codes};
 ghost use Rattle.geometry.specs.Sectors.{Sector};
 ghost use Rattle.geometry.specs.declared.page_addr.PageAddr.{PageAddr as Addr};
-ghost use Rattle.durable.specs.Candidates.{IsEntryOf, IsFreeable, found_with, number_above};
-ghost use Rattle.durable.specs.Calls.{Acknowledges, HasNoted, IsSafe, Remounts, SurvivesCut, SurvivesIdleCut};
+ghost use Rattle.durable.specs.Candidates.{IsEntryOf, IsFreeable, found_with, number_above, with_twin};
+ghost use Rattle.durable.specs.Calls.{Acknowledges, HasNoted, IsSafe, Remounts, SurvivesCut, SurvivesIdleCut, TellsLosses, TellsNoFalseLoss};
 ghost use Rattle.durable.specs.Choice.{IsNext, Spends, StaysOpen, left, number_after};
 ghost use Rattle.durable.specs.Collecting.{AreLiveCounts, CanCollect, HasCapacity, IsFree, IsPageOn, live_in};
 ghost use Rattle.durable.specs.Commands.{Completes, CutLeaves, IsAllowed, is_program, updates_with};
@@ -11,6 +11,7 @@ ghost use Rattle.durable.specs.Device.{Device, IsReadOn, IsWrittenOn, NamesOn, d
 ghost use Rattle.durable.specs.Failures.{Changes, HasVersionlessBlock, HoldsNoVersion, IsRenumbered, IsSameFlashOf, IsSwapped, swapped};
 ghost use Rattle.durable.specs.Faults.{mount_fault_text};
 ghost use Rattle.durable.specs.Flash.{Erased, Flash, HoldsNewest, IsErased, RecoversSector, SetsPage, Torn, Version};
+ghost use Rattle.durable.specs.Losses.{HasNoLoss, IsWhole, gaps_before, losses_in, versions_before};
 ghost use Rattle.durable.specs.Memory.{IsMappedTo, map_entry};
 ghost use Rattle.durable.specs.Mounting.{IsStampOf, next_in, after_in};
 ghost use Rattle.durable.specs.Promise.{IsConsistent, IsReadable, IsRecoverable, KeepsAcknowledged};
@@ -189,18 +190,53 @@ pub fn candidates()
     ensures found { IsEntryOf (Some (record { at = record { block = 1; page = 0 }; number = 5; twin = None })) (Some (record { block = 1; page = 0 })) }
     ensures other { ¬ IsEntryOf (Some (record { at = record { block = 1; page = 0 }; number = 5; twin = None })) (Some (record { block = 2; page = 0 })) }
     ensures lost { ¬ IsEntryOf (Some (record { at = record { block = 1; page = 0 }; number = 5; twin = None })) None }
-    ensures newer { found_with (Some (record { at = record { block = 1; page = 0 }; number = 5; twin = None }) ∷ []) (record { block = 2; page = 3 })
+    ensures newer { found_with [] (Some (record { at = record { block = 1; page = 0 }; number = 5; twin = None }) ∷ []) (record { block = 2; page = 3 })
         (Some (record { sector = 0; number = 6 })) ≡ Some (record { at = record { block = 2; page = 3 }; number = 6; twin = None }) ∷ [] }
-    ensures older { found_with (Some (record { at = record { block = 1; page = 0 }; number = 5; twin = None }) ∷ []) (record { block = 2; page = 3 })
+    ensures older { found_with [] (Some (record { at = record { block = 1; page = 0 }; number = 5; twin = None }) ∷ []) (record { block = 2; page = 3 })
         (Some (record { sector = 0; number = 4 })) ≡ Some (record { at = record { block = 1; page = 0 }; number = 5; twin = None }) ∷ [] }
-    ensures twin { found_with (Some (record { at = record { block = 1; page = 0 }; number = 5; twin = None }) ∷ []) (record { block = 2; page = 3 })
+    ensures twin { found_with [] (Some (record { at = record { block = 1; page = 0 }; number = 5; twin = None }) ∷ []) (record { block = 2; page = 3 })
         (Some (record { sector = 0; number = 5 }))
         ≡ Some (record { at = record { block = 1; page = 0 }; number = 5; twin = Some (record { block = 2; page = 3 }) }) ∷ [] }
-    ensures empty { IsFreeable [] 1 }
-    ensures alone { ¬ IsFreeable (Some (record { at = record { block = 1; page = 0 }; number = 5; twin = None }) ∷ []) 1 }
-    ensures elsewhere { IsFreeable (Some (record { at = record { block = 1; page = 0 }; number = 5; twin = None }) ∷ []) 2 }
-    ensures same_block { ¬ IsFreeable (Some (record { at = record { block = 1; page = 0 }; number = 5; twin = Some (record { block = 1; page = 2 }) }) ∷ []) 1 }
+    ensures gap { found_with (0 ∷ 1 ∷ []) (Some (record { at = record { block = 1; page = 0 }; number = 5; twin = None }) ∷ [])
+        (record { block = 2; page = 3 }) (Some (record { sector = 0; number = 5 }))
+        ≡ Some (record { at = record { block = 2; page = 3 }; number = 5; twin = Some (record { block = 1; page = 0 }) }) ∷ [] }
+    ensures third { with_twin (0 ∷ 0 ∷ 1 ∷ []) (record { at = record { block = 1; page = 0 }; number = 5; twin = Some (record { block = 2; page = 3 }) })
+        (record { block = 4; page = 0 })
+        ≡ record { at = record { block = 1; page = 0 }; number = 5; twin = Some (record { block = 4; page = 0 }) } }
+    ensures second { with_twin (0 ∷ 0 ∷ 0 ∷ []) (record { at = record { block = 1; page = 0 }; number = 5; twin = Some (record { block = 2; page = 3 }) })
+        (record { block = 4; page = 0 })
+        ≡ record { at = record { block = 1; page = 0 }; number = 5; twin = Some (record { block = 2; page = 3 }) } }
+    ensures within { with_twin [] (record { at = record { block = 1; page = 0 }; number = 5; twin = None }) (record { block = 1; page = 3 })
+        ≡ record { at = record { block = 1; page = 0 }; number = 5; twin = None } }
+    ensures empty { IsFreeable [] [] 1 }
+    ensures alone { ¬ IsFreeable [] (Some (record { at = record { block = 1; page = 0 }; number = 5; twin = None }) ∷ []) 1 }
+    ensures elsewhere { IsFreeable [] (Some (record { at = record { block = 1; page = 0 }; number = 5; twin = None }) ∷ []) 2 }
+    ensures same_block { ¬ IsFreeable [] (Some (record { at = record { block = 1; page = 0 }; number = 5; twin = Some (record { block = 1; page = 2 }) }) ∷ [])
+        1 }
+    ensures behind_gap { ¬ IsFreeable (0 ∷ 0 ∷ 1 ∷ [])
+        (Some (record { at = record { block = 1; page = 0 }; number = 5; twin = Some (record { block = 2; page = 2 }) }) ∷ []) 1 }
     ensures text { mount_fault_text NoFreeBlock ≡ codes "no block can be freed" }
+{}
+
+/// Which pages are gaps, and which gaps are losses.
+pub fn losses()
+    ensures erased { (f : Flash) → IsErased f → IsWhole f 1 }
+    ensures gap { (f : Flash) (v : Sector) → f 1 0 ≡ Torn → f 1 1 ≡ Version 7 5 v → ¬ IsWhole f 1 }
+    ensures erased_gap { (f : Flash) (v : Sector) → f 1 0 ≡ Erased → f 1 1 ≡ Version 7 5 v → ¬ IsWhole f 1 }
+    ensures counted { (f : Flash) (v : Sector) → f 1 0 ≡ Torn → f 1 1 ≡ Version 7 5 v → gaps_before f 1 2 ≡ 1 }
+    ensures torn_last { (f : Flash) (v : Sector) → f 1 0 ≡ Version 7 5 v → f 1 1 ≡ Torn → gaps_before f 1 2 ≡ 0 }
+    ensures versions { (f : Flash) (v : Sector) → f 1 0 ≡ Torn → f 1 1 ≡ Version 7 5 v → versions_before f 1 2 ≡ 1 }
+    ensures new { (f : Flash) → IsErased f → HasNoLoss f 8 }
+    ensures lost { (f : Flash) (v : Sector) → f 1 0 ≡ Torn → HoldsNewest f 7 v 1 1 → ((d q : ℕ) → HoldsNewest f 7 v d q → d ≡ 1)
+        → ((d q : ℕ) (w : Sector) → HoldsNewest f 7 w d q → w ≡ v) → ¬ HasNoLoss f 8 }
+    ensures elsewhere { (f : Flash) (s : ℕ) (v : Sector) → HasNoLoss f 8 → s < 8 → HoldsNewest f s v 1 1
+        → (d : ℕ) × (q : ℕ) × (w : Sector) × IsWhole f d × HoldsNewest f s w d q }
+    ensures in_use { losses_in (Some (record { at = record { block = 1; page = 1 }; number = 5; twin = None }) ∷ []) (3 ∷ 2 ∷ []) 2 ≡ 2 }
+    ensures unused { losses_in (None ∷ []) (3 ∷ 2 ∷ []) 2 ≡ 0 }
+    ensures tells { (mount : Reading) (core : Layer) (f : Flash) → TellsLosses mount core → HasNoted f mount → IsWrittenOn (device_in mount) f
+        → ¬ HasNoLoss f (device_in mount).sectors → core.losses ≢ 0 }
+    ensures quiet { (mount : Reading) (core : Layer) (f : Flash) (acked begun : List Update) → TellsNoFalseLoss mount core → HasNoted f mount
+        → IsReadable f (device_in mount) acked begun → HasNoLoss f (device_in mount).sectors → core.losses ≡ 0 }
 {}
 
 /// What the promise says of an erased flash, and of one with a version that nobody began.

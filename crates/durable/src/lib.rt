@@ -7,6 +7,7 @@ mod command;
 mod counting;
 mod fault;
 mod found;
+mod gaps;
 mod laws;
 mod layer;
 mod memory;

@@ -15,7 +15,7 @@ pushed Q map new k n size is before here = below_more _ n
     (subst (λ (xs : List (Option PageAddr)). Q n (get_or xs n None)) (sym is) (subst (Q n) (sym (get_or_push map k None n size)) here))
 
 abbrev AwayAt : List (Option Candidate) → ℕ → ℕ → Option PageAddr → Type 0
-AwayAt found avoided s k = (x : Candidate) (at : PageAddr) → get_or found s None ≡ Some x → k ≡ Some at → (x.at.block ≡ avoided → HasTwin x avoided)
+AwayAt found avoided s k = (x : Candidate) (at : PageAddr) → get_or found s None ≡ Some x → k ≡ Some at → (x.at.block ≡ avoided → HasTwin [] x avoided)
     → at.block ≢ avoided
 
 pub loop-candidate-preserved : goal.loop-candidate-preserved
