@@ -13,8 +13,9 @@ enum { LOOKED_AT = 4096 };
 enum { SAMPLES = 8 };
 /* Of so many blocks one is in reserve, and at least one of a device, if the sectors leave room for it. */
 enum { ONE_RESERVE_IN = 50 };
-/* A block that has failed is marked once nothing in it is needed; so a marked one is not read. */
-enum { GOOD, FAILED, MARKED };
+/* A block that has failed is marked once nothing in it is needed; so a marked one is not read. Nor is one that failed an erase: it kept nothing, and
+ * what is left in it must not be mapped, since an erase may lose pages before others. */
+enum { GOOD, FAILED, FAILED_ERASE, MARKED };
 
 /* What a handle keeps beside its core. The core numbers the blocks that are in use, then those in reserve, then the bad ones: `chip_block` gives the
  * chip's number of each. `state` and `erases` go by the chip's numbers. */
@@ -203,16 +204,16 @@ static void number_all(struct mintlintel_flash *flash)
     flash->used = flash->numbers.blocks;
 }
 
-/* Notes the stamps of a block, and none of a marked one. At an open its erases are those that its newest version tells: the copies in it tell those of
+/* Notes the stamps of a block that is read. At an open its erases are those that its newest version tells: the copies in it tell those of
  * other blocks. */
 static uint32_t note_block(struct mintlintel_durable *device, uint32_t block, struct opening *opening)
 {
     struct mintlintel_flash *flash = device->flash;
-    int is_marked = flash->state[flash->chip_block[block]] == MARKED;
+    int is_read = flash->state[flash->chip_block[block]] < FAILED_ERASE;
     uint64_t newest = 0;
     for (uint32_t page = 0; page < flash->numbers.pages; page++) {
         struct stamp stamp = {0, 0, 0, 0, 0};
-        int reading = is_marked ? 2 : read_page(flash, block, page, NULL, &stamp);
+        int reading = is_read ? read_page(flash, block, page, NULL, &stamp) : 1;
         if (reading == 3)
             return MINTLINTEL_POWER_GONE;
         if (reading == 0 && (stamp.kind > STAMP_TRIM || stamp.count != 1))
@@ -402,7 +403,7 @@ static uint32_t retire(struct mintlintel_durable *device, const struct mintlinte
 {
     struct mintlintel_flash *flash = device->flash;
     uint32_t block = flash->chip_block[command->block];
-    flash->state[block] = FAILED;
+    flash->state[block] = command->kind == ERASE ? FAILED_ERASE : FAILED;
     flash->has_failed = 1;
     uint32_t code = mount(device, NULL);
     if (code == MINTLINTEL_NO_ROOM) {
@@ -444,7 +445,7 @@ static void mark_blocks(struct mintlintel_durable *device)
     struct mintlintel_flash *flash = device->flash;
     flash->has_failed = 0;
     for (uint32_t block = 0; block < flash->numbers.blocks && !flash->stopped; block++) {
-        if (flash->state[block] != FAILED)
+        if (flash->state[block] == GOOD || flash->state[block] == MARKED)
             continue;
         flash->state[block] = MARKED;
         if (flash->nand.mark_bad && flash->nand.mark_bad(flash->nand.chip, block) != 0)
