@@ -233,6 +233,50 @@ static void decay_often(void)
     }
 }
 
+/* The next erase fails, with one page lost, and in the one after it the power goes, with all pages lost. */
+static int erase_stage;
+
+static int erase_badly(void *at, uint32_t block)
+{
+    if (erase_stage == 0 || chip.is_off)
+        return chip_erase(at, block);
+    int first = erase_stage++ == 1;
+    for (int p = 0; p < (first ? 1 : CHIP_PAGES); p++)
+        chip.pages[block][p].contents = TORN;
+    chip.is_off = !first;
+    return first ? 1 : 3;
+}
+
+/* An erase that fails on a chip that marks no block leaves pages before others, and no loss is told of them. */
+static void fail_erases(void)
+{
+    long failed = 0;
+    nand.erase = erase_badly;
+    for (int round = 0; round < 3000; round++) {
+        memset(&chip, 0, sizeof chip);
+        memset(values, 0, sizeof values);
+        chip.state = state | 1;
+        CHECK(open_device() == MINTLINTEL_DONE);
+        use(40, 0);
+        chip.one_cut_in = 4;
+        while (!chip.is_off)
+            write_value(drawn(&state) % SECTORS);
+        chip.one_cut_in = 0;
+        CHECK(open_device() == MINTLINTEL_DONE);
+        erase_stage = 1;
+        for (int i = 0; i < 6 && !chip.is_off; i++) {
+            uint8_t page[CHIP_PAGE_BYTES] = {0};
+            uint32_t code = mintlintel_durable_write(&device, drawn(&state) % SECTORS, page, sizeof page);
+            CHECK(code <= MINTLINTEL_WRITTEN || code == MINTLINTEL_POWER_GONE || code == MINTLINTEL_EXHAUSTED);
+        }
+        failed += erase_stage > 1;
+        erase_stage = 0;
+        CHECK(open_device() == MINTLINTEL_DONE); /* no loss is told after a failed erase */
+    }
+    nand.erase = chip_erase;
+    CHECK(failed > 1000);
+}
+
 /* A page that decays while the device is open: its sector is not read, and the mount after a failure stops the device, unless it goes on despite losses. */
 static void decay_while_open(void)
 {
@@ -277,6 +321,7 @@ int main(void)
     decay_each();
     decay_often();
     decay_while_open();
+    fail_erases();
     mintlintel_durable_close(&device);
     CHECK(told > 100 && silent > 100);
     printf("decay: %ld losses were told, and %ld times none was; %ld times no block was left to free; %ld times an older version came back"
