@@ -1,5 +1,5 @@
 -- One stamp more is counted.
-use Rattle.std.proofs.Common.{◌≡◌, ◌≢◌, ◌⊎◌, inl, inr, ⊎_elim, ◌+◌, ◌-◌, ◌<◌, ◌≤◌, ℕ, suc, List, length, Option, None, Some, get_or, refl, sym, ◌∙◌, ap, subst, arith}
+use Rattle.std.proofs.Common.{◌≡◌, ◌≢◌, ◌⊎◌, inl, inr, ⊎_elim, ◌+◌, ◌-◌, ◌<◌, ◌≤◌, ℕ, suc, Bool, true, false, if◌then◌else◌, List, length, Option, None, Some, get_or, refl, sym, ◌∙◌, ap, subst, arith}
 use Rattle.std.proofs.lemmas.Bool.{cases_eq, cases_lt}
 use Rattle.std.proofs.lemmas.List.{get_or-set_same, get_or-set_other}
 use Rattle.geometry.specs.Sectors.{Sector}
@@ -7,13 +7,13 @@ use Rattle.geometry.specs.declared.page_addr.PageAddr.{PageAddr}
 use Rattle.durable.specs.declared.found.Candidate.{Candidate}
 use Rattle.durable.specs.declared.found.Stamp.{Stamp}
 use Rattle.durable.specs.Flash.{PageContents, Erased, Torn, Version, Flash}
-use Rattle.durable.specs.Candidates.{with_twin, newer_of, found_with, number_above}
-use Rattle.durable.specs.Losses.{version_count, versions_before, gaps_with, gaps_before, gaps_in, gaps_noted, versions_noted, CountsGaps}
-use Rattle.durable.specs.Losses.{IsInWhole, IsPreferred}
+use Rattle.durable.specs.Candidates.{twin_with, with_twin, newer_of, found_with, number_above}
+use Rattle.durable.specs.Losses.{version_count, versions_before, gaps_with, gaps_before, gaps_in, has_gap, gaps_noted, versions_noted, CountsGaps}
+use Rattle.durable.specs.Losses.{IsInWhole, IsWholeOrHere, IsPreferred}
 use Rattle.durable.specs.Mounting.{IsStampOf, IsBest, IsLone, Finds}
 use Rattle.durable.proofs.Cells.{same_held}
-use Rattle.durable.proofs.Scans.{noted, later_old, later_new, later_same, twin_cases, set_each}
-use Rattle.durable.proofs.Losses.{no_gap, some_gap}
+use Rattle.durable.proofs.Scans.{noted, later_old, later_new, later_same, some_is, none_is, twin_cases, twin_is, set_each}
+use Rattle.durable.proofs.Losses.{no_gap, none_has_gap, some_gap}
 
 none_counted : (c : PageContents) → ((s m : ℕ) (v : Sector) → c ≢ Version s m v) → (p versions gaps : ℕ)
     → (version_count c ≡ 0) × (gaps_with c p versions gaps ≡ gaps)
@@ -70,25 +70,68 @@ module _ (f : Flash) (pages b p : ℕ) (gaps new : List ℕ) (same : (c : ℕ) �
   within : (q : ℕ) → q < suc p → (q < p) ⊎ (q ≡ p)
   within q lt = ⊎_elim (λ is. inr is) (λ differs. inl (omega (arith, lt, differs))) (cases_eq q p)
 
+  whole_or_here : (c : ℕ) → IsWholeOrHere gaps b c → IsWholeOrHere new b c
+  whole_or_here c is = ⊎_elim (λ here. inl here) (λ whole. inr (whole.0, same c whole.0 ∙ whole.1)) is
+
+  whole_twin : (x : Candidate) → ((t : PageAddr) × (x.twin ≡ Some t) × (t.block < b) × (gaps_in gaps t.block ≡ 0))
+      → (t : PageAddr) × (x.twin ≡ Some t) × (t.block < b) × (gaps_in new t.block ≡ 0)
+  whole_twin x has = (has.0, has.1, has.2, same has.0.block has.2 ∙ has.3)
+
+  -- what is said of pages before this one is said of this one too, which has no such version
+  prefers_still : (s : ℕ) (x : Candidate) → IsPreferred f pages b p gaps s (Some x) → ((v : Sector) → f b p ≢ Version s x.number v)
+      → IsPreferred f pages b (suc p) new s (Some x)
+  prefers_still s x prefers none = (
+    (λ c q v lt on e gap. whole_still x (prefers.0 c q v lt on e (sym (same c lt) ∙ gap))),
+    (λ q v lt e. ⊎_elim
+        (λ old. whole_or_here x.at.block (prefers.1 q v old e))
+        (λ is. absurd (none v ((λ i. f b (sym is i)) ∙ e)))
+        (within q lt)),
+    (λ c q v lt on e gap differs. whole_twin x (prefers.2 c q v lt on e (sym (same c lt) ∙ gap) differs)),
+    (λ q v lt e differs. ⊎_elim
+        (λ old. let has = prefers.3 q v old e differs in (has.0, has.1, whole_or_here has.0.block has.2))
+        (λ is. absurd (none v ((λ i. f b (sym is i)) ∙ e)))
+        (within q lt)),
+    prefers.4,
+  )
+
   prefers_beside : (s : ℕ) (k : Option Candidate) → IsPreferred f pages b p gaps s k → ((m : ℕ) (v : Sector) → f b p ≢ Version s m v)
       → IsPreferred f pages b (suc p) new s k
   prefers_beside s None prefers none = tt
-  prefers_beside s (Some x) prefers none = (
-    (λ c q v lt on e gap. whole_still x (prefers.0 c q v lt on e (sym (same c lt) ∙ gap))),
-    (λ q v lt e. ⊎_elim
-        (λ old. ⊎_elim (λ here. inl here) (λ whole. inr (whole_still x whole)) (prefers.1 q v old e))
-        (λ is. absurd (none x.number v ((λ i. f b (sym is i)) ∙ e)))
-        (within q lt)),
-  )
+  prefers_beside s (Some x) prefers none = prefers_still s x prefers (none x.number)
 
-  -- a page of this block with a number of its own
+  -- a page of this block with a number that no block without a gap has
   prefers_new : (s n : ℕ) (at : PageAddr) (twin : Option PageAddr) → at.block ≡ b
       → ((c q : ℕ) (v : Sector) → c < b → q < pages → f c q ≡ Version s n v → gaps_in gaps c ≢ 0)
+      → ((t : PageAddr) → twin ≡ Some t → t.block ≤ b)
       → IsPreferred f pages b (suc p) new s (Some (record { at = at; number = n; twin = twin }))
-  prefers_new s n at twin is_b none = (
+  prefers_new s n at twin is_b none low = (
     (λ c q v lt on e gap. absurd (none c q v lt on e (sym (same c lt) ∙ gap))),
     (λ q v lt e. inl is_b),
+    (λ c q v lt on e gap differs. absurd (none c q v lt on e (sym (same c lt) ∙ gap))),
+    (λ q v lt e differs. absurd (differs is_b)),
+    low,
   )
+
+  -- the twin with one page more: the old one if its block has no gap, or this page
+  twin_here : (k : Option PageAddr) (at : PageAddr) → at.block ≡ b → ((t : PageAddr) → k ≡ Some t → t.block ≤ b)
+      → IsWholeOrHere new b (twin_with gaps k at).block
+  twin_here None at is_b low = inl is_b
+  twin_here (Some twin) at is_b low = chosen_here (has_gap gaps twin.block) refl
+    where
+      chosen_here : (k : Bool) → has_gap gaps twin.block ≡ k → IsWholeOrHere new b (if k then at else twin).block
+      chosen_here true is = inl is_b
+      chosen_here false is = ⊎_elim
+          (λ here. inl here)
+          (λ differs. let before : twin.block < b = omega (arith, low twin refl, differs) in
+              inr (before, same twin.block before ∙ no_gap gaps twin.block is))
+          (cases_eq twin.block b)
+
+  twin_stays : (k : Option PageAddr) (at t : PageAddr) → k ≡ Some t → gaps_in gaps t.block ≡ 0 → twin_with gaps k at ≡ t
+  twin_stays None at t is none = absurd (none_is t is)
+  twin_stays (Some twin) at t is none =
+      let same_twin = some_is twin t is in
+      let no : has_gap gaps twin.block ≡ false = none_has_gap gaps twin.block (subst (λ (a : PageAddr). gaps_in gaps a.block ≡ 0) (sym same_twin) none) in
+      (λ i. if no i then at else twin) ∙ same_twin
 
   prefers_twin : (s n : ℕ) (d : Sector) (at : PageAddr) (old : Candidate) → at.block ≡ b → n ≡ old.number → (old.at.block ≤ b)
       → IsPreferred f pages b p gaps s (Some old) → IsPreferred f pages b (suc p) new s (Some (with_twin gaps old at))
@@ -96,15 +139,25 @@ module _ (f : Flash) (pages b p : ℕ) (gaps new : List ℕ) (same : (c : ℕ) �
       (λ stays. subst (λ (x : Candidate). IsPreferred f pages b (suc p) new s (Some x)) (sym stays.1) (
         (λ c q v lt on e gap. whole_still old (prefers.0 c q v lt on e (sym (same c lt) ∙ gap))),
         (λ q v lt e. inl (sym stays.0 ∙ is_b)),
+        (λ c q v lt on e gap differs. whole_twin old (prefers.2 c q v lt on e (sym (same c lt) ∙ gap) differs)),
+        (λ q v lt e differs. absurd (differs (sym stays.0 ∙ is_b))),
+        prefers.4,
       ))
       (λ other. ⊎_elim
       (λ takes. subst (λ (x : Candidate). IsPreferred f pages b (suc p) new s (Some x)) (sym takes.2)
-      (prefers_new s old.number at (Some old.at) is_b (λ c q v lt on e gap.
-      let none = (prefers.0 c q v lt on e gap).1 in let some = some_gap gaps old.at.block takes.1 in absurd (omega (arith, none, some)))))
+          (prefers_new s old.number at (Some old.at) is_b (λ c q v lt on e gap.
+          let none = (prefers.0 c q v lt on e gap).1 in let some = some_gap gaps old.at.block takes.1 in absurd (omega (arith, none, some)))
+          (λ t e. subst (λ (a : PageAddr). a.block ≤ b) (some_is old.at t e) before)))
       (λ keeps. subst (λ (x : Candidate). IsPreferred f pages b (suc p) new s (Some x)) (sym keeps.2) (
         (λ c q v lt on e gap. whole_still old (prefers.0 c q v lt on e (sym (same c lt) ∙ gap))),
         (λ q v lt e. let differs = keeps.0 in
-            inr (whole_still old (omega (arith, before, differs, is_b), no_gap gaps old.at.block keeps.1))),
+            inr (omega (arith, before, differs, is_b), same old.at.block (omega (arith, before, differs, is_b)) ∙ no_gap gaps old.at.block keeps.1)),
+        (λ c q v lt on e gap differs.
+            let has = prefers.2 c q v lt on e (sym (same c lt) ∙ gap) differs in
+            (has.0, ap Some (twin_stays old.twin at has.0 has.1 has.3), has.2, same has.0.block has.2 ∙ has.3)),
+        (λ q v lt e differs. (twin_with gaps old.twin at, refl, twin_here old.twin at is_b prefers.4)),
+        (λ t e. subst (λ (a : PageAddr). a.block ≤ b) (some_is (twin_with gaps old.twin at) t e)
+            (twin_is (λ a. a.block ≤ b) gaps old.twin at prefers.4 (omega (arith, is_b)))),
       ))
       other)
       (twin_cases gaps old at)
@@ -113,20 +166,16 @@ module _ (f : Flash) (pages b p : ℕ) (gaps new : List ℕ) (same : (c : ℕ) �
       → ((x : Candidate) → k ≡ Some x → x.at.block ≤ b) → IsBest f pages b p s k → IsPreferred f pages b p gaps s k
       → IsPreferred f pages b (suc p) new s (newer_of gaps k at n)
   prefers_later s n d at None is_b is before best prefers =
-      prefers_new s n at None is_b (λ c q v lt on e gap. absurd (best c q n v (on, inl lt) e))
+      prefers_new s n at None is_b (λ c q v lt on e gap. absurd (best c q n v (on, inl lt) e)) (λ t e. absurd (none_is t e))
   prefers_later s n d at (Some old) is_b is before best prefers = ⊎_elim
-      (λ lt. subst (IsPreferred f pages b (suc p) new s) (sym (later_old gaps old at n lt)) (
-        (λ c q v less on e gap. whole_still old (prefers.0 c q v less on e (sym (same c less) ∙ gap))),
-        (λ q v less e. ⊎_elim
-            (λ before. ⊎_elim (λ here. inl here) (λ whole. inr (whole_still old whole)) (prefers.1 q v before e))
-            (λ here. let number = (same_held s n d s old.number v (sym is ∙ (λ i. f b (sym here i)) ∙ e)).1 in absurd (omega (arith, number, lt)))
-            (within q less)),
-      ))
+      (λ lt. subst (IsPreferred f pages b (suc p) new s) (sym (later_old gaps old at n lt))
+          (prefers_still s old prefers (λ v e. let number = (same_held s n d s old.number v (sym is ∙ e)).1 in omega (arith, number, lt))))
       (λ le. ⊎_elim
       (λ gt. subst (IsPreferred f pages b (suc p) new s) (sym (later_new gaps old at n gt))
-      (prefers_new s n at None is_b (λ c q v less on e gap. let most = best.1 c q n v (on, inl less) e in omega (arith, most, gt))))
+          (prefers_new s n at None is_b (λ c q v less on e gap. let most = best.1 c q n v (on, inl less) e in omega (arith, most, gt))
+          (λ t e. absurd (none_is t e))))
       (λ ge. let eq : n ≡ old.number = omega (arith, le, ge) in subst (IsPreferred f pages b (suc p) new s) (sym (later_same gaps old at n eq))
-      (prefers_twin s n d at old is_b eq (before old refl) prefers))
+          (prefers_twin s n d at old is_b eq (before old refl) prefers))
       (cases_lt old.number n))
       (cases_lt n old.number)
 
@@ -165,6 +214,17 @@ wrapped_one f pages b p gaps full s (Some x) prefers = (
       (λ differs. let whole = prefers.0 c q v (omega (arith, lt, differs)) on e gap in (omega (arith, whole.0), whole.1))
       (cases_eq c b)),
   (λ q v lt e. absurd (omega (arith, lt))),
+  (λ c q v lt on e gap apart. ⊎_elim
+      (λ here.
+      let has = prefers.3 q v (omega (arith, on, full)) ((λ i. f (sym here i) q) ∙ e) (λ is. apart (here ∙ sym is)) in
+      ⊎_elim
+      (λ at_b. (has.0, has.1, omega (arith, at_b), (λ i. gaps_in gaps ((at_b ∙ sym here) i)) ∙ gap))
+      (λ whole. (has.0, has.1, omega (arith, whole.0), whole.1))
+      has.2)
+      (λ differs. let has = prefers.2 c q v (omega (arith, lt, differs)) on e gap apart in (has.0, has.1, omega (arith, has.2), has.3))
+      (cases_eq c b)),
+  (λ q v lt e differs. absurd (omega (arith, lt))),
+  (λ t e. let low = prefers.4 t e in omega (arith, low)),
 )
 
 pub prefers_wrap : (f : Flash) (pages b p : ℕ) (gaps : List ℕ) (found : List (Option Candidate)) → p ≡ pages

@@ -14,3 +14,5 @@ pub mod Exact
 mod Losses
 mod Counted
 mod Telling
+mod Whole
+mod Unharmed

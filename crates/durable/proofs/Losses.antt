@@ -50,6 +50,9 @@ no_gap gaps b is = ⊎_elim
     (λ none. omega (arith, none))
     (cases_lt 0 (gaps_in gaps b))
 
+pub none_has_gap : (gaps : List ℕ) (b : ℕ) → gaps_in gaps b ≡ 0 → has_gap gaps b ≡ false
+none_has_gap gaps b none = grind (arith, nat_tests)
+
 pub some_gap : (gaps : List ℕ) (b : ℕ) → has_gap gaps b ≡ true → 0 < gaps_in gaps b
 some_gap gaps b is = ⊎_elim
     (λ some. some)

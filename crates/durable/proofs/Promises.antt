@@ -213,7 +213,7 @@ erased_recoverable f device erased some =
     }
 
 -- a device with room has blocks
-some_blocks : (blocks pages sectors : ℕ) → sectors < (blocks - 1) * pages → 0 < blocks
+pub some_blocks : (blocks pages sectors : ℕ) → sectors < (blocks - 1) * pages → 0 < blocks
 some_blocks blocks pages sectors few = ⊎_elim
     (λ is. absurd (omega (arith, subst (λ (b : ℕ). sectors < (b - 1) * pages) is few)))
     (λ differs. omega (arith, differs))
@@ -272,7 +272,7 @@ readable_renumbered f t old new acked begun renumbered same is = record {
 }
 
 -- whole runs
-readable_on : (f : Flash) (old new : Device) (acked begun : List Update) → new ≡ old → IsReadable f old acked begun → IsReadable f new acked begun
+pub readable_on : (f : Flash) (old new : Device) (acked begun : List Update) → new ≡ old → IsReadable f old acked begun → IsReadable f new acked begun
 readable_on f old new acked begun same = subst (λ (d : Device). IsReadable f d acked begun) (sym same)
 
 pub remounts : (f : Flash) (device : Device) (new : Core) (acked begun : List Update) → IsMountedFrom f new → device_of new ≡ device

@@ -7,6 +7,7 @@ pub mod Promise
 pub mod Calls
 pub mod Failures
 pub mod Runs
+pub mod Whole
 pub mod Faults
 -- How the layer chooses its commands, and what a mount has found: internal.
 pub mod Collecting

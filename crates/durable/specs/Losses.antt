@@ -1,7 +1,8 @@
 -- Pages that have become unreadable: what a mount can tell of them. Pages are programmed in order, so a block in which a power cut fell while it was
 -- programmed has no page without a version before one with a version. A power cut in its erase may leave one, but then the block keeps nothing.
-use Rattle.std.specs.Prelude.{◌≡◌, ◌<◌, ◌+◌, ◌-◌, ◌==◌, ◌||◌, ◌⊎◌, ℕ, zero, suc, Bool, false, nat_lt, if◌then◌else◌, List, [], ◌∷◌, Option, None, Some, slice_index_or, slice_set}
+use Rattle.std.specs.Prelude.{◌≡◌, ◌≢◌, ◌<◌, ◌≤◌, ◌+◌, ◌-◌, ◌==◌, ◌||◌, ◌⊎◌, ℕ, zero, suc, Bool, false, nat_lt, if◌then◌else◌, List, [], ◌∷◌, Option, None, Some, slice_index_or, slice_set}
 use Rattle.geometry.specs.Sectors.{Sector}
+use Rattle.geometry.specs.declared.page_addr.PageAddr.{PageAddr}
 use Rattle.durable.specs.Flash.{PageContents, Erased, Torn, Version, Flash, HoldsNewest}
 use Rattle.durable.specs.declared.found.Candidate.{Candidate}
 use Rattle.durable.specs.declared.found.Stamp.{Stamp}
@@ -81,9 +82,18 @@ pub record CountsGaps (f : Flash) (pages b p : ℕ) (gaps : List ℕ) (versions 
 abbrev pub IsInWhole : List ℕ → ℕ → Candidate → Type 0
 IsInWhole gaps b x = (x.at.block < b) × (gaps_in gaps x.at.block ≡ 0)
 
--- where a block that was read has no gap and has the newest version, the page that was found is in such a block
+-- the block was read and has no gap, or it is this one
+abbrev pub IsWholeOrHere : List ℕ → ℕ → ℕ → Type 0
+IsWholeOrHere gaps b c = (c ≡ b) ⊎ ((c < b) × (gaps_in gaps c ≡ 0))
+
+-- where a block that was read has no gap and has the newest version, the page that was found is in such a block; and where another such block has it,
+-- so is its twin
 abbrev pub IsPreferred : Flash → ℕ → ℕ → ℕ → List ℕ → ℕ → Option Candidate → Type 0
 IsPreferred f pages b p gaps s None = Unit {0}
 IsPreferred f pages b p gaps s (Some x) =
     ((c q : ℕ) (v : Sector) → c < b → q < pages → f c q ≡ Version s x.number v → gaps_in gaps c ≡ 0 → IsInWhole gaps b x)
-    × ((q : ℕ) (v : Sector) → q < p → f b q ≡ Version s x.number v → (x.at.block ≡ b) ⊎ IsInWhole gaps b x)
+    × ((q : ℕ) (v : Sector) → q < p → f b q ≡ Version s x.number v → IsWholeOrHere gaps b x.at.block)
+    × ((c q : ℕ) (v : Sector) → c < b → q < pages → f c q ≡ Version s x.number v → gaps_in gaps c ≡ 0 → c ≢ x.at.block
+    → (t : PageAddr) × (x.twin ≡ Some t) × (t.block < b) × (gaps_in gaps t.block ≡ 0))
+    × ((q : ℕ) (v : Sector) → q < p → f b q ≡ Version s x.number v → x.at.block ≢ b → (t : PageAddr) × (x.twin ≡ Some t) × IsWholeOrHere gaps b t.block)
+    × ((t : PageAddr) → x.twin ≡ Some t → t.block ≤ b)

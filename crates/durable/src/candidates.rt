@@ -61,6 +61,7 @@ fn newer(gaps: &[u32], found: Option<Candidate>, at: PageAddr, number: u64) -> O
 fn entry_of(found: Option<Candidate>, avoided: u32) -> Option<PageAddr>
     ensures entry { IsEntryOf found result }
     ensures away { (x : Seen) (at : Addr) → found ≡ Some x → result ≡ Some at → (x.at.block ≡ avoided → HasTwin [] x avoided) → at.block ≢ avoided }
+    ensures stays { (x : Seen) (at : Addr) → found ≡ Some x → result ≡ Some at → at ≢ x.at → x.at.block ≡ avoided }
 {
     let found = found?;
     if found.at.block == avoided {
@@ -80,6 +81,8 @@ pub fn entries_of(
     ensures size { IfOk result (λ map. length map.items ≡ length found.now) }
     ensures entries { IfOk result (λ map. (s : ℕ) → s < length found.now → IsEntryOf (slice_index_or found.now s None) (slice_index_or map.items s None)) }
     ensures free { IfOk result (λ map. IsFreeable [] found.now avoided → IsFree map.items avoided) }
+    ensures stays { IfOk result (λ map. (s : ℕ) (x : Seen) (at : Addr) → s < length found.now → slice_index_or found.now s None ≡ Some x
+        → slice_index_or map.items s None ≡ Some at → at ≢ x.at → x.at.block ≡ avoided) }
 {
     let mut map = Vec::new(alloc);
     for candidate in found.iter() {

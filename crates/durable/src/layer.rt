@@ -15,6 +15,7 @@ impl Core {
     ghost use Rattle.durable.specs.Choice.{IsNext, StaysOpen, Spends, left, number_after};
     ghost use Rattle.durable.specs.Promise.{IsConsistent};
     ghost use Rattle.durable.specs.Calls.{IsSafe, SurvivesCut, SurvivesIdleCut, Acknowledges};
+    ghost use Rattle.durable.specs.Whole.{CutsIdleUnharmed, CutsUnharmed, StaysWhole};
     ghost use Rattle.durable.specs.declared.command.Command.TheVariants.{Refused};
 
     /// How many sectors the device has.
@@ -48,6 +49,8 @@ impl Core {
         ensures safe { IsSafe self.now result }
         ensures cut { SurvivesCut self.now sector result }
         ensures idle { SurvivesIdleCut self.now }
+        ensures unharmed { CutsUnharmed self.now sector result }
+        ensures idle_unharmed { CutsIdleUnharmed self.now }
 
         // It is refused only if the numbers have run out.
         ensures progress { next_number_of self.now + 1 < 2 ^ 64 → result ≢ Refused }
@@ -62,6 +65,7 @@ impl Core {
         ensures device { device_of self.new ≡ device_of self.old }
         ensures losses { losses_of self.new ≡ losses_of self.old }
         ensures acknowledges { Acknowledges self.old sector command self.new }
+        ensures whole { StaysWhole self.old sector command self.new }
         ensures number { next_number_of self.new ≡ number_after command (next_number_of self.old) }
 
         // Each command but the program brings the call nearer to its end.

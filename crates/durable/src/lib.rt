@@ -26,4 +26,4 @@ pub use geometry::PageAddr;
 pub use memory::Core;
 pub use mount::Mount;
 pub use rehearsal::Cost;
-pub use runs::{keeps_acknowledged, survives_failures};
+pub use runs::{keeps_acknowledged, survives_failures, tells_no_false_loss};

@@ -16,6 +16,7 @@ impl Mount {
     ghost use Rattle.durable.specs.Updates.{Update};
     ghost use Rattle.durable.specs.Device.{device_of, device_in, losses_of, IsWrittenOn};
     ghost use Rattle.durable.specs.Losses.{losses_in};
+    ghost use Rattle.durable.specs.Whole.{MountsWhole};
     ghost use Rattle.durable.specs.Collecting.{HasCapacity};
     ghost use Rattle.durable.specs.Mounting.{IsStampOf, next_in, after_in};
     ghost use Rattle.durable.specs.Promise.{IsRecoverable};
@@ -129,6 +130,7 @@ impl Mount {
         ensures losses { IfOk result (λ core. losses_of core ≡ losses_in self.found.items self.gaps.items self.read_blocks) }
         ensures tells { IfOk result (TellsLosses self) }
         ensures quiet { IfOk result (TellsNoFalseLoss self) }
+        ensures whole { IfOk result (MountsWhole self) }
         ensures frees { (f : Flash) (acked begun : List Update) → HasNoted f self → IsRecoverable f (device_in self) acked begun → result ≢ Err NoFreeBlock }
         ensures cause { OnErr result ((result ≡ Err NoFreeBlock) ⊎ (result ≡ Err OutOfMemory)) }
     {

@@ -10,4 +10,6 @@ invariant-loop-candidate l = record {
   entries : (s : ℕ) → s < l.candidate-index → IsEntryOf (slice_index_or l.found s None) (slice_index_or l.map.items s None);
   away : (s : ℕ) (x : Candidate) (at : PageAddr) → s < l.candidate-index → slice_index_or l.found s None ≡ Some x → slice_index_or l.map.items s None ≡ Some at
       → (x.at.block ≡ l.avoided → HasTwin [] x l.avoided) → at.block ≢ l.avoided;
+  stays : (s : ℕ) (x : Candidate) (at : PageAddr) → s < l.candidate-index → slice_index_or l.found s None ≡ Some x → slice_index_or l.map.items s None ≡ Some at
+      → at ≢ x.at → x.at.block ≡ l.avoided;
 }

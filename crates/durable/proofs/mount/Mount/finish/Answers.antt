@@ -1,4 +1,4 @@
-use Rattle.std.proofs.Common.{◌≡◌, ◌∙◌, ◌<◌, ◌^◌, ℕ, List, [], length, Option, None, get_or, refl, sym, ap, arith, subst}
+use Rattle.std.proofs.Common.{◌≡◌, ◌≢◌, ◌∙◌, ◌<◌, ◌^◌, ℕ, List, [], length, Option, None, Some, get_or, refl, sym, ap, arith, subst}
 use Rattle.durable.specs.Collecting.{AreLiveCounts, IsFree, HasCapacity}
 use Rattle.durable.specs.Device.{device_in}
 use Rattle.durable.specs.declared.found.Candidate.{Candidate}
@@ -6,9 +6,10 @@ use Rattle.durable.specs.Candidates.{IsEntryOf, IsFreeable}
 use Rattle.durable.proofs.Noting.{all_noted}
 use Rattle.durable.proofs.Frees.{free_collects}
 use Rattle.durable.specs.declared.mount.Mount.{Mount}
+use Rattle.geometry.specs.declared.page_addr.PageAddr.{PageAddr}
 use Rattle.durable.specs.Losses.{losses_in}
 use Rattle.durable.specs.Updates.{array_after}
-use Rattle.durable.proofs.Telling.{tells, quiet}
+use Rattle.durable.proofs.Telling.{tells, quiet, mounts_whole}
 use Rattle.durable.proofs.Promises.{readable, some_freeable, remounted}
 use Rattle.durable.proofs.mount.Mount.finish.Goals as goal
 
@@ -78,3 +79,29 @@ returns-clause-quiet c f acked begun noted is no_loss =
     counted_losses mount c.losses.result c.deref-6.result.now c.deref-7.result.now c.losses.ensures c.deref-6.ensures.value c.deref-7.ensures.value
     ∙ quiet mount (all_noted mount.read_blocks (record { block = mount.block; page = mount.page }) c.requires) f noted is.written array
     is.keeps.recovers no_loss
+
+pub returns-clause-whole : goal.returns-clause-whole
+returns-clause-whole c f acked begun noted is unharmed =
+    let mount = c.args.self in
+    let avoided = c.freeable-avoided.result in
+    let map = c.in-Ok.map.items in
+    let at_end = all_noted mount.read_blocks (record { block = mount.block; page = mount.page }) c.requires in
+    let array = array_after is.keeps.updates in
+    let lt : avoided < mount.blocks = omega (arith, c.if-avoided-self.false) in
+    (
+      mounts_whole mount at_end f noted is.written _ avoided unharmed array is.keeps.recovers
+          (c.in-Ok.ensures.size ∙ ap length c.deref-3.ensures.value)
+          (subst (λ (xs : List (Option Candidate)). (s : ℕ) → s < length xs → IsEntryOf (get_or xs s None) (get_or map s None)) c.deref-3.ensures.value
+          c.in-Ok.ensures.entries)
+          (subst (λ (xs : List (Option Candidate)). (s : ℕ) (x : Candidate) (at : PageAddr) → s < length xs → get_or xs s None ≡ Some x
+          → get_or map s None ≡ Some at → at ≢ x.at → x.at.block ≡ avoided) c.deref-3.ensures.value c.in-Ok.ensures.stays)
+          (subst (λ (gs : List ℕ). (b : ℕ) → b < mount.blocks → IsFreeable gs mount.found.items b → IsFreeable gs mount.found.items avoided)
+          c.deref-2.ensures.value
+          (subst (λ (xs : List (Option Candidate)). (b : ℕ) → b < mount.blocks → IsFreeable c.deref-2.result.now xs b
+          → IsFreeable c.deref-2.result.now xs avoided) c.deref.ensures.value c.freeable-avoided.ensures.first))
+          refl lt
+          (subst (λ (xs : List (Option Candidate)). IsFreeable [] xs avoided → IsFree map avoided) c.deref-3.ensures.value c.in-Ok.ensures.free
+          (subst (λ (xs : List (Option Candidate)). IsFreeable [] xs avoided) c.deref.ensures.value (c.freeable-avoided.ensures.found lt))),
+      counted_losses mount c.losses.result c.deref-6.result.now c.deref-7.result.now c.losses.ensures c.deref-6.ensures.value c.deref-7.ensures.value
+          ∙ quiet mount at_end f noted is.written array is.keeps.recovers unharmed.no_loss,
+    )
