@@ -171,7 +171,7 @@ impl Rule {
         version.covers(sector) || (self.is(Wrong::RangeOneMore) && !version.has_bytes() && sector == version.first + version.count)
     }
 
-    /// Whether a mount may find this out of the flash: a page without a version, before one with a version in its block.
+    /// How many pages without a version are before the last one with a version.
     fn gaps(&self, block: &Block) -> usize {
         let seen = self.read(block);
         if self.is(Wrong::TornTakenForLoss) {
@@ -352,7 +352,10 @@ impl Rule {
             Freed::FewestFirst => self.fewest_first(found, frees),
         };
         let is_kept = |place: &Place, set: u32| set >> place.0 & 1 == 0 && self.gaps(&device.blocks[place.0]) == 0;
-        let is_safe = |set: &u32| found.iter().all(|twins| twins.first().map_or(true, |first| set >> first.0 & 1 == 0 || twins.iter().any(|twin| is_kept(twin, *set))));
+        let stays = |twins: &Vec<Place>, set: u32| {
+            twins.first().map_or(true, |first| set >> first.0 & 1 == 0 || twins.iter().any(|twin| is_kept(twin, set)))
+        };
+        let is_safe = |set: &u32| found.iter().all(|twins| stays(twins, *set));
         let safe: Vec<u32> = chosen.iter().copied().filter(is_safe).collect();
         match (chosen.is_empty(), safe.is_empty() || self.is(Wrong::FreesByTwinsBehindGap)) {
             (true, _) => vec![0],

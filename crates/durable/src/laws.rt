@@ -7,7 +7,7 @@ ghost use Rattle.durable.specs.Calls.{Acknowledges, HasNoted, IsSafe, Remounts, 
 ghost use Rattle.durable.specs.Choice.{IsNext, Spends, StaysOpen, left, number_after};
 ghost use Rattle.durable.specs.Collecting.{AreLiveCounts, CanCollect, HasCapacity, IsFree, IsPageOn, live_in};
 ghost use Rattle.durable.specs.Commands.{Completes, CutLeaves, IsAllowed, is_program, updates_with};
-ghost use Rattle.durable.specs.Device.{Device, IsReadOn, IsWrittenOn, NamesOn, device_in, device_of, next_number_of, next_page_of};
+ghost use Rattle.durable.specs.Device.{Device, IsReadOn, IsWrittenOn, NamesOn, device_in, device_of, losses_of, next_number_of, next_page_of};
 ghost use Rattle.durable.specs.Failures.{Changes, HasVersionlessBlock, HoldsNoVersion, IsRenumbered, IsSameFlashOf, IsSwapped, swapped};
 ghost use Rattle.durable.specs.Faults.{mount_fault_text};
 ghost use Rattle.durable.specs.Flash.{Erased, Flash, HoldsNewest, IsErased, RecoversSector, SetsPage, Torn, Version};
@@ -16,6 +16,7 @@ ghost use Rattle.durable.specs.Memory.{IsMappedTo, map_entry};
 ghost use Rattle.durable.specs.Mounting.{IsStampOf, next_in, after_in};
 ghost use Rattle.durable.specs.Promise.{IsConsistent, IsReadable, IsRecoverable, KeepsAcknowledged};
 ghost use Rattle.durable.specs.Runs.{Completed, CutBetween, CutInside, Event, Failed, IsMountedFrom, Runs, RunsOnReserve};
+ghost use Rattle.durable.specs.Whole.{CutsIdleUnharmed, CutsUnharmed, IsMountedWhole, IsSafelyDuplicated, IsUnharmed, KeepsWhole, RunsWhole, StaysWhole};
 ghost use Rattle.durable.specs.Runs.{acknowledged_in, begun_in, outcomes_in, failures_in};
 ghost use Rattle.durable.specs.Updates.{AreMade, IsSubsequence, Makes, Update, array_after, changed};
 ghost use Rattle.durable.specs.declared.command.Command.TheVariants as command;
@@ -237,6 +238,30 @@ pub fn losses()
         → ¬ HasNoLoss f (device_in mount).sectors → core.losses ≢ 0 }
     ensures quiet { (mount : Reading) (core : Layer) (f : Flash) (acked begun : List Update) → TellsNoFalseLoss mount core → HasNoted f mount
         → IsReadable f (device_in mount) acked begun → HasNoLoss f (device_in mount).sectors → core.losses ≡ 0 }
+{}
+
+/// What keeps a loss from being told where no page was lost.
+pub fn unharmed()
+    ensures spare { (f : Flash) (device : Device) → IsUnharmed f device → (b : ℕ) × (b < device.blocks) × IsSafelyDuplicated f device.sectors b }
+    ensures no_loss { (f : Flash) (device : Device) → IsUnharmed f device → HasNoLoss f device.sectors }
+    ensures alone { (f : Flash) (v : Sector) → HoldsNewest f 7 v 1 1 → ((d q : ℕ) (w : Sector) → HoldsNewest f 7 w d q → d ≡ 1)
+        → ¬ IsSafelyDuplicated f 8 1 }
+    ensures mapped { (f : Flash) (layer : Layer) → KeepsWhole f layer → 7 < length layer.map.items → map_entry layer 7 ≡ Some (record { block = 1; page = 1 })
+        → IsWhole f 1 }
+    ensures full { (f : Flash) (layer : Layer) → KeepsWhole f layer → layer.next_page ≡ Some (record { block = 1; page = 2 }) → f 1 1 ≢ Torn }
+    ensures spared { (f : Flash) (layer : Layer) → KeepsWhole f layer → layer.next_page ≡ None → (b : ℕ) × (b < layer.blocks) × IsFree layer.map.items b }
+    ensures mounted { (f : Flash) (layer : Layer) (acked begun : List Update) (from : IsMountedWhole f layer) → IsReadable f (device_in from.0) acked begun
+        → IsUnharmed f (device_in from.0) → KeepsWhole f layer × (layer.losses ≡ 0) }
+    ensures first { (f : Flash) (layer : Layer) → RunsWhole [] f layer → IsErased f × IsMountedWhole f layer }
+    ensures done { (events : List Event) (t : Flash) (new : Layer) (u : Update) → RunsWhole (Completed u (command.Erase 1) ∷ events) t new
+        → (f : Flash) × (old : Layer) × RunsWhole events f old × StaysWhole old u.sector (command.Erase 1) new × (losses_of new ≡ losses_of old) }
+    ensures failed { (events : List Event) (t : Flash) (new : Layer) (u : Update) → RunsWhole (Failed u (command.Erase 1) ∷ events) t new
+        → (f : Flash) × (old : Layer) × RunsWhole events f old × CutsUnharmed old u.sector (command.Erase 1) × IsMountedWhole t new
+        × HasVersionlessBlock t (device_of new) }
+    ensures inside { (events : List Event) (t : Flash) (new : Layer) (u : Update) → RunsWhole (CutInside u (command.Erase 1) ∷ events) t new
+        → (f : Flash) × (old : Layer) × RunsWhole events f old × CutsUnharmed old u.sector (command.Erase 1) × IsMountedWhole t new }
+    ensures idle { (events : List Event) (t : Flash) (new : Layer) → RunsWhole (CutBetween ∷ events) t new
+        → (f : Flash) × (old : Layer) × RunsWhole events f old × CutsIdleUnharmed old × IsMountedWhole t new }
 {}
 
 /// What the promise says of an erased flash, and of one with a version that nobody began.

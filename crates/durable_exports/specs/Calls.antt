@@ -10,6 +10,7 @@ use Rattle.durable.specs.Choice.{IsNext, Spends, StaysOpen, left, number_after}
 use Rattle.durable.specs.Promise.{IsRecoverable, IsConsistent}
 use Rattle.durable.specs.Calls.{IsSafe, SurvivesCut, SurvivesIdleCut, Acknowledges, HasNoted, Remounts, TellsLosses, TellsNoFalseLoss}
 use Rattle.durable.specs.Losses.{losses_in}
+use Rattle.durable.specs.Whole.{CutsIdleUnharmed, CutsUnharmed, MountsWhole, StaysWhole}
 use Rattle.durable.specs.declared.command.Command.{Command}
 use Rattle.durable.specs.declared.command.Command.TheVariants.{Refused}
 use Rattle.durable.specs.declared.found.Stamp.{Stamp}
@@ -102,6 +103,7 @@ abbrev pub IsMounted : Mount → Layer → Type 0
 IsMounted m l =
     (layer_device l ≡ device_in m) × Remounts m l.core × (l.totals ≡ no_totals)
     × (layer_losses l ≡ losses_in m.found.items m.gaps.items m.read_blocks) × TellsLosses m l.core × TellsNoFalseLoss m l.core
+    × MountsWhole m l.core
 
 -- the code of a call for a sector of a layer
 abbrev pub sector_code : ℕ → ℕ → Layer → ℕ
@@ -117,13 +119,14 @@ abbrev pub IsCommandFor : ℕ → CommandReport → Layer → Type 0
 IsCommandFor s out l =
     (command : Command) × (out ≡ report_of s command) × (command ≢ Refused)
     × IsNext l.core command × IsSafe l.core command × SurvivesCut l.core s command × SurvivesIdleCut l.core
+    × CutsUnharmed l.core s command × CutsIdleUnharmed l.core
 
 -- the command of this report has succeeded for the sector
 abbrev pub IsDone : ℕ → CommandReport → Layer → Layer → Type 0
 IsDone s did l after =
     (command : Command) × (did ≡ report_of s command) × IsNext l.core command
     × (layer_device after ≡ layer_device l) × Acknowledges l.core s command after.core
-    × (layer_losses after ≡ layer_losses l)
+    × (layer_losses after ≡ layer_losses l) × StaysWhole l.core s command after.core
     × (next_number_of after.core ≡ number_after command (next_number_of l.core))
     × Spends command (layer_device l).pages (left l.core) (left after.core)
     × StaysOpen command (layer_device l).pages (next_page_of after.core)

@@ -9,6 +9,7 @@ ghost use Rattle.durable.specs.Mounting.{next_in, after_in};
 ghost use Rattle.durable.specs.Promise.{IsRecoverable};
 ghost use Rattle.durable.specs.Calls.{HasNoted, Remounts, TellsLosses, TellsNoFalseLoss};
 ghost use Rattle.durable.specs.Losses.{losses_in};
+ghost use Rattle.durable.specs.Whole.{CutsIdleUnharmed, CutsUnharmed, MountsWhole, StaysWhole};
 ghost use Rattle.durable.specs.declared.command.Command.{Command as Next};
 ghost use Rattle.durable.specs.declared.command.Command.TheVariants as command;
 ghost use Rattle.durable.specs.declared.found.Stamp.{Stamp};
@@ -103,6 +104,10 @@ pub fn calls()
     ensures losses { (m : Mount) (l : Layer) → IsMounted m l → layer_losses l ≡ losses_in m.found.items m.gaps.items m.read_blocks }
     ensures tells { (m : Mount) (l : Layer) → IsMounted m l → TellsLosses m l.core }
     ensures quiet { (m : Mount) (l : Layer) → IsMounted m l → TellsNoFalseLoss m l.core }
+    ensures whole { (m : Mount) (l : Layer) → IsMounted m l → MountsWhole m l.core }
+    ensures unharmed { (out : CommandReport) (l : Layer) → IsCommandFor 7 out l → (c : Next) × (out ≡ report_of 7 c) × CutsUnharmed l.core 7 c }
+    ensures idle_unharmed { (out : CommandReport) (l : Layer) → IsCommandFor 7 out l → CutsIdleUnharmed l.core }
+    ensures stays { (did : CommandReport) (l k : Layer) → IsDone 7 did l k → (c : Next) × (did ≡ report_of 7 c) × StaysWhole l.core 7 c k.core }
     ensures keeps { (did : CommandReport) (l k : Layer) → IsDone 7 did l k → layer_losses k ≡ layer_losses l }
     ensures beyond { (l : Layer) → (layer_device l).sectors ≡ 8 → IsNewestPageOf 8 None l }
     ensures told { (out : CommandReport) (l : Layer) → IsCommandFor 7 out l → (c : Next) × (out ≡ report_of 7 c) }

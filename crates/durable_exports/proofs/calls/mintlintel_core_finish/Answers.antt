@@ -1,6 +1,7 @@
 use Rattle.std.proofs.Common.{◌≡◌, ◌∙◌, Option, Some, Err, option_map, refl, sym, ap, subst}
 use Rattle.durable.specs.Calls.{Remounts, TellsLosses, TellsNoFalseLoss}
 use Rattle.durable.specs.Device.{device_of, losses_of}
+use Rattle.durable.specs.Whole.{MountsWhole}
 use Rattle.durable_exports.specs.Calls.{OfMount, HasLayer, FreesBlock, IsMounted}
 use Rattle.durable_exports.specs.Handles.{seat_of}
 use Rattle.handles.specs.Kept.{boxed}
@@ -30,6 +31,7 @@ returns-then-fill-clause-mounted c _ =
       ap losses_of core ∙ c.in-Ok.ensures.losses,
       subst (TellsLosses mount) (sym core) c.in-Ok.ensures.tells,
       subst (TellsNoFalseLoss mount) (sym core) c.in-Ok.ensures.quiet,
+      subst (MountsWhole mount) (sym core) c.in-Ok.ensures.whole,
     ) in
     subst (λ (x : Option Seat). OfMount x (λ m. HasLayer (seat_of c.fill.new.self) (IsMounted m))) (sym has)
     (subst (λ (y : Option Seat). HasLayer y (IsMounted mount)) (sym (c.if-fill.ensures.filled refl)) mounted)
