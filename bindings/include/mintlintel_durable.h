@@ -83,7 +83,8 @@ struct mintlintel_durable_numbers { uint32_t luns, blocks, pages, page_bytes, se
  * On a chip that can mark blocks one block of 50 is in reserve, less one for each bad block, and at least one if the sectors leave room for it:
  * sectors < (blocks - 1 - reserve) * pages. It takes the place of one that fails.
  * 0; 8; the first fault of the numbers, 101 to 105 and 109 (104 is of page_bytes); 6; 7 if no block can be freed, which this library leaves no
- * flash in; 28, 30 or 34; 35 if there are losses. With any code but 0 the handle is as it was, and nothing was programmed or erased. */
+ * flash in unless pages have become unreadable; 28, 30 or 34; 35 if there are losses. With any code but 0 the handle is as it was, and nothing was
+ * programmed or erased. */
 uint32_t mintlintel_durable_open(struct mintlintel_durable *device, const struct mintlintel_nand *nand, uint32_t luns, uint32_t blocks,
                                  uint32_t pages, uint32_t page_bytes, uint32_t sectors);
 

@@ -1,11 +1,12 @@
 -- What a mount's counts of gaps say of the flash.
-use Rattle.std.proofs.Common.{◌≡◌, ◌≢◌, ◌⊎◌, inl, inr, ⊎_elim, ◌<◌, ◌≤◌, ◌||◌, ◌==◌, ℕ, zero, suc, Bool, true, false, List, [], ◌∷◌, length, Option, None, Some, get_or, refl, sym, ◌∙◌, ap, subst, arith, if◌then◌else◌}
+use Rattle.std.proofs.Common.{◌≡◌, ◌≢◌, ◌⊎◌, inl, inr, ⊎_elim, ◌<◌, ◌≤◌, ◌||◌, ◌==◌, ℕ, zero, suc, Bool, true, false, List, [], ◌∷◌, length, Option, None}
+use Rattle.std.proofs.Common.{Some, get_or, refl, sym, ◌∙◌, ap, subst, arith, if◌then◌else◌}
 use Rattle.std.proofs.lemmas.Bool.{cases_eq, cases_lt, false≢true}
 use Rattle.std.proofs.lemmas.Bool.Decides.{nat_tests}
 use Rattle.geometry.specs.Sectors.{Sector}
 use Rattle.durable.specs.Flash.{PageContents, Erased, Torn, Version, Flash}
 use Rattle.durable.specs.declared.found.Candidate.{Candidate}
-use Rattle.durable.specs.Losses.{version_count, versions_before, gaps_with, gaps_before, IsWhole, gaps_in, has_gap, is_at, has_found, losses_in}
+use Rattle.durable.specs.Losses.{version_count, versions_before, gaps_with, gaps_before, IsGapless, gaps_in, has_gap, is_at, has_found, losses_in}
 
 or_right : (k j : Bool) → j ≡ true → (k || j) ≡ true
 or_right true j is = refl
@@ -130,13 +131,13 @@ none_whole f b (suc n) none p q s m v lt within is = ⊎_elim
     (cases_eq q n))
     (step_none f b n (f b n) refl none)
 
-step_whole : (f : Flash) (b n : ℕ) (c : PageContents) → f b n ≡ c → IsWhole f b → gaps_before f b n ≡ 0
+step_whole : (f : Flash) (b n : ℕ) (c : PageContents) → f b n ≡ c → IsGapless f b → gaps_before f b n ≡ 0
     → gaps_with c n (versions_before f b n) (gaps_before f b n) ≡ 0
 step_whole f b n (Version s m v) is whole before =
     let all = all_counted f b n (λ p lt. whole p n s m v lt is) in omega (arith, all)
 step_whole f b n Erased is whole before = before
 step_whole f b n Torn is whole before = before
 
-pub whole_none : (f : Flash) (b n : ℕ) → IsWhole f b → gaps_before f b n ≡ 0
+pub whole_none : (f : Flash) (b n : ℕ) → IsGapless f b → gaps_before f b n ≡ 0
 whole_none f b zero whole = refl
 whole_none f b (suc n) whole = step_whole f b n (f b n) refl whole (whole_none f b n whole)

@@ -1,5 +1,6 @@
 -- One stamp more is read.
-use Rattle.std.proofs.Common.{◌≡◌, ◌≢◌, ◌⊎◌, inl, inr, ⊎_elim, ◌+◌, ◌<◌, ◌≤◌, ◌==◌, if◌then◌else◌, ℕ, Bool, true, false, List, length, Option, None, Some, get_or, set, refl, sym, ◌∙◌, ap}
+use Rattle.std.proofs.Common.{◌≡◌, ◌≢◌, ◌⊎◌, inl, inr, ⊎_elim, ◌+◌, ◌<◌, ◌≤◌, ◌==◌, if◌then◌else◌, ℕ, Bool, true, false, List, length, Option, None, Some}
+use Rattle.std.proofs.Common.{get_or, set, refl, sym, ◌∙◌, ap}
 use Rattle.std.proofs.Common.{subst, arith}
 use Rattle.std.proofs.lemmas.Bool.{cases_eq, cases_lt}
 use Rattle.std.proofs.lemmas.Bool.Decides.{nat_tests}
@@ -303,7 +304,8 @@ finds_next f pages b p gaps found below at (Some stamp) is_b is_p finds matches 
     let n = stamp.number in
     let k = stamp.sector in
     record {
-      best = set_each gaps found at stamp (IsBest f pages b (p + 1)) (λ k_in. best_later f pages b p gaps k n matches.0 at (get_or found k None) is_b is_p matches.1 (finds.best k k_in))
+      best = set_each gaps found at stamp (IsBest f pages b (p + 1))
+          (λ k_in. best_later f pages b p gaps k n matches.0 at (get_or found k None) is_b is_p matches.1 (finds.best k k_in))
           (λ s is_in differs. best_beside f pages b p s (get_or found s None) (finds.best s is_in) (other_sector s differs));
       numbers = λ c q s m d seen e. ⊎_elim
           (λ old. let lt = finds.numbers c q s m d old e in omega (arith, lt))

@@ -156,7 +156,8 @@ module _ (f t : Flash) (core : Core) (array : ℕ → Sector) (stands : Represen
   cut_spare s x Refused next cut = same_spare cut
 
 -- a command that succeeds leaves the layer's memory such that a crash then leaves a spare
-pub none_set : (kept : List (Option PageAddr)) (k : ℕ) (to : PageAddr) (b : ℕ) → k < length kept → IsFree kept b → b ≢ to.block → IsFree (set kept k (Some to)) b
+pub none_set : (kept : List (Option PageAddr)) (k : ℕ) (to : PageAddr) (b : ℕ) → k < length kept → IsFree kept b → b ≢ to.block
+    → IsFree (set kept k (Some to)) b
 none_set kept k to b lt none apart = counted_none b (set kept k (Some to)) (stays_free kept k to b lt none apart)
 
 some_is_not_none : (at : PageAddr) → Some at ≢ None

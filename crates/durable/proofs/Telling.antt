@@ -5,7 +5,7 @@ use Rattle.durable.specs.declared.found.Candidate.{Candidate}
 use Rattle.durable.specs.declared.mount.Mount.{Mount}
 use Rattle.durable.specs.Flash.{Version, Flash, HoldsNewest, Recovers}
 use Rattle.durable.specs.Device.{device_in, IsWrittenOn}
-use Rattle.durable.specs.Losses.{IsWhole, HasNoLoss, IsPreferred, gaps_in, is_at, losses_in}
+use Rattle.durable.specs.Losses.{IsGapless, HasNoLoss, IsPreferred, gaps_in, is_at, losses_in}
 use Rattle.durable.specs.Mounting.{IsRead, IsBest, IsLone}
 use Rattle.durable.specs.Calls.{HasNoted}
 use Rattle.durable.specs.Candidates.{IsEntryOf, HasTwin, IsFreeable}
@@ -31,13 +31,13 @@ module _ (mount : Mount) (at_end : mount.read_blocks ≤ mount.block) (f : Flash
   all_seen : (s d q m : ℕ) (v : Sector) → f d q ≡ Version s m v → IsRead mount.pages mount.block mount.page d q
   all_seen s d q m v e = let w = written d q s m v e in (w.1, inl (omega (arith, w.0, at_end)))
 
-  whole_of : (b : ℕ) → b < mount.read_blocks → gaps_in mount.gaps.items b ≡ 0 → IsWhole f b
+  whole_of : (b : ℕ) → b < mount.read_blocks → gaps_in mount.gaps.items b ≡ 0 → IsGapless f b
   whole_of b lt none = λ p q s m v less is. none_whole f b mount.pages (sym (noted.counts.read b (omega (arith, lt, at_end))) ∙ none) p q s m v less
       (written b q s m v is).1 is
 
   no_loss_at : losses_in mount.found.items mount.gaps.items mount.read_blocks ≡ 0 → (s b p : ℕ) (v : Sector) → s < length mount.found.items
       → HoldsNewest f s v b p → (k : Option Candidate) → get_or mount.found.items s None ≡ k → IsBest f mount.pages mount.block mount.page s k
-      → (d : ℕ) × (q : ℕ) × (w : Sector) × IsWhole f d × HoldsNewest f s w d q
+      → (d : ℕ) × (q : ℕ) × (w : Sector) × IsGapless f d × HoldsNewest f s w d q
   no_loss_at none s b p v lt newest None is best = absurd (best b p newest.number v (all_seen s b p newest.number v newest.held) newest.held)
   no_loss_at none s b p v lt newest (Some x) is best =
       let w = written x.at.block x.at.page s x.number best.0.0 best.0.1 in
@@ -106,12 +106,12 @@ module _ (mount : Mount) (at_end : mount.read_blocks ≤ mount.block) (f : Flash
   pub entry_whole : (array : ℕ → Sector) → Recovers f (length mount.found.items) array → HasNoLoss f (length mount.found.items) → (avoided : ℕ)
       → IsFreeable mount.gaps.items mount.found.items avoided → (s : ℕ) → s < length mount.found.items → (entry : Option PageAddr)
       → ((x : Candidate) (at : PageAddr) → get_or mount.found.items s None ≡ Some x → entry ≡ Some at → at ≢ x.at → x.at.block ≡ avoided)
-      → (k : Option Candidate) → get_or mount.found.items s None ≡ k → IsEntryOf k entry → (at : PageAddr) → entry ≡ Some at → IsWhole f at.block
+      → (k : Option Candidate) → get_or mount.found.items s None ≡ k → IsEntryOf k entry → (at : PageAddr) → entry ≡ Some at → IsGapless f at.block
   entry_whole array recovers no_loss avoided freeable s lt entry stays None is none at mapped = absurd (none_some at (sym none ∙ mapped))
   entry_whole array recovers no_loss avoided freeable s lt entry stays (Some x) is (inl here) at mapped =
       let best = best array recovers s x lt is in
       let w = written x.at.block x.at.page s x.number best.0.0 best.0.1 in
-      subst (λ (a : PageAddr). IsWhole f a.block) (some_is x.at at (sym here ∙ mapped))
+      subst (λ (a : PageAddr). IsGapless f a.block) (some_is x.at at (sym here ∙ mapped))
       (whole_of x.at.block w.0 (found_whole array recovers s x lt is no_loss))
   entry_whole array recovers no_loss avoided freeable s lt entry stays (Some x) is (inr twin) at mapped =
       let best = best array recovers s x lt is in
@@ -122,7 +122,7 @@ module _ (mount : Mount) (at_end : mount.read_blocks ≤ mount.block) (f : Flash
       let twin_same : has.0 ≡ at = some_is has.0 at (sym has.1 ∙ (twin.1 ∙ ap Some same)) in
       let held = best.2 has.0 has.1 in
       let w = written has.0.block has.0.page s x.number held.0 held.1 in
-      subst (λ (a : PageAddr). IsWhole f a.block) twin_same (whole_of has.0.block w.0 (no_gap mount.gaps.items has.0.block has.3))
+      subst (λ (a : PageAddr). IsGapless f a.block) twin_same (whole_of has.0.block w.0 (no_gap mount.gaps.items has.0.block has.3))
 
   pub mounts_whole : (core : Core) (avoided : ℕ) → IsUnharmed f (device_in mount) → (array : ℕ → Sector) → Recovers f (length mount.found.items) array
       → length core.map.items ≡ length mount.found.items

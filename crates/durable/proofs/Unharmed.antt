@@ -7,12 +7,13 @@ use Rattle.durable.specs.Updates.{Update}
 use Rattle.durable.specs.Flash.{Version, Flash, HoldsNewest, IsErased}
 use Rattle.durable.specs.Device.{Device, device_of, device_in, losses_of}
 use Rattle.durable.specs.Failures.{HasVersionlessBlock, IsRenumbered, IsSameFlashOf}
-use Rattle.durable.specs.Losses.{IsWhole, HasNoLoss, version_count}
+use Rattle.durable.specs.Losses.{IsGapless, HasNoLoss, version_count}
 use Rattle.durable.specs.Promise.{IsReadable, IsRecoverable}
 use Rattle.durable.specs.Runs.{Event, Completed, Failed, CutInside, CutBetween, Runs, acknowledged_in, begun_in}
 use Rattle.durable.specs.Whole.{IsUnharmed, KeepsWhole, IsMountedWhole, RunsWhole}
 use Rattle.durable.proofs.Cells.{erased_holds_none}
-use Rattle.durable.proofs.Promises.{readable, readable_on, readable_renumbered, erased_recoverable, some_blocks, survives_idle_cut, runs_consistent, held_before}
+use Rattle.durable.proofs.Promises.{readable, readable_on, readable_renumbered, erased_recoverable, some_blocks, survives_idle_cut, runs_consistent}
+use Rattle.durable.proofs.Promises.{held_before}
 
 -- an erased flash has lost no page
 pub erased_unharmed : (f : Flash) (device : Device) → IsErased f → 0 < device.blocks → IsUnharmed f device
@@ -23,7 +24,7 @@ erased_unharmed f device erased some = record {
 
 -- nor has one whose blocks are numbered anew, with one in use that has no version
 module _ (f t : Flash) (blocks : ℕ) (renumbered : IsRenumbered f t blocks) where
-  renumbered_whole : (b : ℕ) → IsWhole f b → IsWhole t (renumbered.to b)
+  renumbered_whole : (b : ℕ) → IsGapless f b → IsGapless t (renumbered.to b)
   renumbered_whole b whole = λ p q s m v lt e. ap version_count (renumbered.moved b p) ∙ whole p q s m v lt (sym (renumbered.moved b q) ∙ e)
 
   renumbered_newest : (s : ℕ) (v : Sector) (b p : ℕ) → HoldsNewest f s v b p → HoldsNewest t s v (renumbered.to b) p

@@ -1,5 +1,6 @@
 -- A flash that has lost no page is told no loss of: what each command leaves.
-use Rattle.std.proofs.Common.{◌≡◌, ◌≢◌, ◌⊎◌, inl, inr, ⊎_elim, ◌+◌, ◌<◌, ◌≤◌, ℕ, List, length, Option, None, Some, get_or, set, refl, sym, ◌∙◌, ap, subst, arith}
+use Rattle.std.proofs.Common.{◌≡◌, ◌≢◌, ◌⊎◌, inl, inr, ⊎_elim, ◌+◌, ◌<◌, ◌≤◌, ℕ, List, length, Option, None, Some, get_or, set, refl, sym, ◌∙◌, ap, subst}
+use Rattle.std.proofs.Common.{arith}
 use Rattle.std.proofs.lemmas.Bool.{cases_eq, cases_lt}
 use Rattle.std.proofs.lemmas.List.{get_or-set_same, get_or-set_other, length-set}
 use Rattle.geometry.specs.Sectors.{Sector}
@@ -11,7 +12,7 @@ use Rattle.durable.specs.Flash.{PageContents, Erased, Torn, Version, Flash, Hold
 use Rattle.durable.specs.Collecting.{IsFree}
 use Rattle.durable.specs.Commands.{CutLeaves, Completes}
 use Rattle.durable.specs.Device.{device_of}
-use Rattle.durable.specs.Losses.{version_count, IsWhole, HasNoLoss}
+use Rattle.durable.specs.Losses.{version_count, IsGapless, HasNoLoss}
 use Rattle.durable.specs.Memory.{Represents, IsMappedTo, IsErasedFrom, map_entry}
 use Rattle.durable.specs.Choice.{IsNext}
 use Rattle.durable.specs.Spare.{LeavesSpare}
@@ -26,12 +27,12 @@ use Rattle.durable.proofs.Spares.{nothing_put, none_set}
 
 module _ (f t : Flash) where
   -- a block whose pages are the same has no gap still
-  same_whole : (b : ℕ) → ((p : ℕ) → t b p ≡ f b p) → IsWhole f b → IsWhole t b
+  same_whole : (b : ℕ) → ((p : ℕ) → t b p ≡ f b p) → IsGapless f b → IsGapless t b
   same_whole b same whole = λ p q s m v lt e. ap version_count (same p) ∙ whole p q s m v lt (sym (same q) ∙ e)
 
   -- nor has the open block, whatever is put into its next page
   put_here : (b p : ℕ) (x : PageContents) → ((q : ℕ) → p ≤ q → f b q ≡ Erased) → ((q : ℕ) → q < p → version_count (f b q) ≡ 1) → SetsPage f t b p x
-      → IsWhole t b
+      → IsGapless t b
   put_here b p x erased full puts = λ i j s m v lt e. ⊎_elim
       (λ behind. absurd (erased_holds_none s m v
       (sym (puts.others b j (inr (λ is. omega (arith, is, behind))) ∙ erased j (omega (arith, behind))) ∙ e)))
@@ -39,13 +40,13 @@ module _ (f t : Flash) where
       (cases_lt p j)
 
   put_whole : (b p : ℕ) (x : PageContents) → ((q : ℕ) → p ≤ q → f b q ≡ Erased) → ((q : ℕ) → q < p → version_count (f b q) ≡ 1) → SetsPage f t b p x
-      → (c : ℕ) → IsWhole f c → IsWhole t c
+      → (c : ℕ) → IsGapless f c → IsGapless t c
   put_whole b p x erased full puts c whole = ⊎_elim
-      (λ here. subst (IsWhole t) (sym here) (put_here b p x erased full puts))
+      (λ here. subst (IsGapless t) (sym here) (put_here b p x erased full puts))
       (λ differs. same_whole c (λ q. puts.others c q (inl differs)) whole)
       (cases_eq c b)
 
-  lost_whole : (b : ℕ) → LosesPages f t b → (c : ℕ) → c ≢ b → IsWhole f c → IsWhole t c
+  lost_whole : (b : ℕ) → LosesPages f t b → (c : ℕ) → c ≢ b → IsGapless f c → IsGapless t c
   lost_whole b loses c differs whole = same_whole c (λ q. loses.outside c q differs) whole
 
 -- the sector's newest version is in such a block, or it has none
@@ -57,11 +58,11 @@ kept_stands : (t : Flash) (P : ℕ → Type 0) (s : ℕ) (c : Sector) (k : Optio
 kept_stands t P s c None kept none holds = inr (none refl)
 kept_stands t P s c (Some at) kept none holds = inl (at.block, at.page, c, holds at refl, kept)
 
-no_loss_of : (t : Flash) (sectors : ℕ) → ((s : ℕ) → s < sectors → Stands t (IsWhole t) s) → HasNoLoss t sectors
+no_loss_of : (t : Flash) (sectors : ℕ) → ((s : ℕ) → s < sectors → Stands t (IsGapless t) s) → HasNoLoss t sectors
 no_loss_of t sectors all = λ s b p v lt shows. ⊎_elim (λ there. there) (λ none. absurd (none b p shows.number v shows.held)) (all s lt)
 
 abbrev WholeBeside : Flash → ℕ → ℕ → Type 0
-WholeBeside t b d = (d ≢ b) × IsWhole t d
+WholeBeside t b d = (d ≢ b) × IsGapless t d
 
 safe_of : (t : Flash) (sectors b : ℕ) → ((s : ℕ) → s < sectors → Stands t (WholeBeside t b) s) → IsSafelyDuplicated t sectors b
 safe_of t sectors b all = λ s p v lt shows. ⊎_elim
@@ -70,10 +71,10 @@ safe_of t sectors b all = λ s p v lt shows. ⊎_elim
     (all s lt)
 
 module _ (f t : Flash) (b p : ℕ) (x : PageContents) (erased : f b p ≡ Erased) (puts : SetsPage f t b p x)
-    (stay : (c : ℕ) → IsWhole f c → IsWhole t c) where
+    (stay : (c : ℕ) → IsGapless f c → IsGapless t c) where
   -- a block stays safely doubled where one page more holds nothing, or a version that stands outside of it
   safe_put : (sectors c : ℕ) → IsSafelyDuplicated f sectors c
-      → ((s m : ℕ) (v : Sector) → x ≡ Version s m v → (d : ℕ) × (q : ℕ) × (d ≢ c) × IsWhole f d × (f d q ≡ Version s m v))
+      → ((s m : ℕ) (v : Sector) → x ≡ Version s m v → (d : ℕ) × (q : ℕ) × (d ≢ c) × IsGapless f d × (f d q ≡ Version s m v))
       → IsSafelyDuplicated t sectors c
   safe_put sectors c doubled source = λ s q v lt shows. ⊎_elim
       (λ h. let from = source s shows.number v h in (
@@ -125,17 +126,17 @@ module _ (f t : Flash) (core : Core) (array : ℕ → Sector) (stands : Represen
   spare_now (Some to) (inr here) = (to.block, here.0, here.1)
 
   pub idle_unharmed : IsUnharmed f (device_of core)
-  idle_unharmed = record { no_loss = no_loss_of f sectors (from_map (IsWhole f) keeps.mapped); spare = spare_now core.next_page keeps.spared }
+  idle_unharmed = record { no_loss = no_loss_of f sectors (from_map (IsGapless f) keeps.mapped); spare = spare_now core.next_page keeps.spared }
 
   same_unharmed : ((b p : ℕ) → t b p ≡ f b p) → IsUnharmed t (device_of core)
   same_unharmed same = subst (λ (g : Flash). IsUnharmed g (device_of core)) (λ i b p. sym (same b p) i) idle_unharmed
 
   -- the open block has versions up to its next page, and is erased from there
   module _ (at : PageAddr) (x : PageContents) (is : core.next_page ≡ Some at) (puts : SetsPage f t at.block at.page x) where
-    pub opens : IsWhole t at.block
+    pub opens : IsGapless t at.block
     opens = put_here f t at.block at.page x (subst (IsErasedFrom f) is stands.erased) (subst (IsFullBefore f) is keeps.full) puts
 
-    pub stay_whole : (c : ℕ) → IsWhole f c → IsWhole t c
+    pub stay_whole : (c : ℕ) → IsGapless f c → IsGapless t c
     stay_whole = put_whole f t at.block at.page x (subst (IsErasedFrom f) is stands.erased) (subst (IsFullBefore f) is keeps.full) puts
 
     pub nothing_there : (s : ℕ) → s < sectors → map_entry core s ≡ None → ((m : ℕ) (v : Sector) → x ≢ Version s m v) → (d q m : ℕ) (v : Sector)
@@ -145,7 +146,7 @@ module _ (f t : Flash) (core : Core) (array : ℕ → Sector) (stands : Represen
 
   torn_unharmed : (at : PageAddr) → core.next_page ≡ Some at → SetsPage f t at.block at.page Torn → IsUnharmed t (device_of core)
   torn_unharmed at is puts = record {
-    no_loss = no_loss_of t sectors (λ s lt. kept_stands t (IsWhole t) s (array s) (map_entry core s)
+    no_loss = no_loss_of t sectors (λ s lt. kept_stands t (IsGapless t) s (array s) (map_entry core s)
         (kept_beside f t at.block at.page Torn (erased_next f t core array stands at is) puts s (array s) (map_entry core s) (stands.mapped s lt)
         (torn_holds_none s))
         (λ nowhere. nothing_there at Torn is puts s lt nowhere (torn_holds_none s))
@@ -184,7 +185,7 @@ module _ (f t : Flash) (core : Core) (array : ℕ → Sector) (stands : Represen
         let open_whole = opens at (Version k n c) is puts in
         let still = stay_whole at (Version k n c) is puts in
         record {
-          no_loss = no_loss_of t sectors (program_stands (IsWhole t) open_whole (λ s to lt there. still to.block (keeps.mapped s to lt there)));
+          no_loss = no_loss_of t sectors (program_stands (IsGapless t) open_whole (λ s to lt there. still to.block (keeps.mapped s to lt there)));
           spare = (
             b,
             within,
@@ -229,7 +230,7 @@ module _ (f t : Flash) (core : Core) (array : ℕ → Sector) (stands : Represen
 
     copy_unharmed : from.block ≢ to.block → IsSafelySpared f core.map.items core.blocks (Some to) → IsUnharmed t (device_of core)
     copy_unharmed apart spared = record {
-      no_loss = no_loss_of t sectors (copy_stands (IsWhole t) (opens to (f from.block from.page) is puts)
+      no_loss = no_loss_of t sectors (copy_stands (IsGapless t) (opens to (f from.block from.page) is puts)
           (λ s a lt there. stay_whole to (f from.block from.page) is puts a.block (keeps.mapped s a lt there)));
       spare = copy_spare apart spared;
     }
@@ -243,7 +244,7 @@ module _ (f t : Flash) (core : Core) (array : ℕ → Sector) (stands : Represen
           (λ nowhere d q m v e. clears.known s d q m v lt nowhere (loses.within d q s m v e))
           (λ at is. holds s at lt is) in
       record {
-        no_loss = no_loss_of t sectors (kept (IsWhole t) (λ s at lt is. lost_whole f t b loses at.block (none s at lt is) (keeps.mapped s at lt is)));
+        no_loss = no_loss_of t sectors (kept (IsGapless t) (λ s at lt is. lost_whole f t b loses at.block (none s at lt is) (keeps.mapped s at lt is)));
         spare = (
           b,
           within,
@@ -272,12 +273,12 @@ module _ (f t : Flash) (core new : Core) (array : ℕ → Sector) (stands : Repr
   -- a page is put, and a sector mapped to it
   module _ (at : PageAddr) (c : PageContents) (is : core.next_page ≡ Some at) (puts : SetsPage f t at.block at.page c) (k : ℕ)
       (klt : k < length core.map.items) (moved : new.map.items ≡ set core.map.items k (Some at)) (one : version_count c ≡ 1) where
-    put_mapped : (j : ℕ) (a : PageAddr) → j < length new.map.items → map_entry new j ≡ Some a → IsWhole t a.block
+    put_mapped : (j : ℕ) (a : PageAddr) → j < length new.map.items → map_entry new j ≡ Some a → IsGapless t a.block
     put_mapped j a l entry =
         let there : get_or (set core.map.items k (Some at)) j None ≡ Some a = ap (λ (m : List (Option PageAddr)). get_or m j None) (sym moved) ∙ entry in
         let inside : j < length core.map.items = subst (λ (n : ℕ). j < n) (ap length moved ∙ length-set core.map.items k (Some at)) l in
         ⊎_elim
-        (λ here. subst (λ (y : PageAddr). IsWhole t y.block)
+        (λ here. subst (λ (y : PageAddr). IsGapless t y.block)
         (some_addr at a (sym (get_or-set_same core.map.items k (Some at) None klt)
         ∙ subst (λ (i : ℕ). get_or (set core.map.items k (Some at)) i None ≡ Some a) here there))
         (opens f t core array stands clears keeps at c is puts))

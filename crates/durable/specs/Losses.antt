@@ -1,6 +1,7 @@
 -- Pages that have become unreadable: what a mount can tell of them. Pages are programmed in order, so a block in which a power cut fell while it was
 -- programmed has no page without a version before one with a version. A power cut in its erase may leave one, but then the block keeps nothing.
-use Rattle.std.specs.Prelude.{◌≡◌, ◌≢◌, ◌<◌, ◌≤◌, ◌+◌, ◌-◌, ◌==◌, ◌||◌, ◌⊎◌, ℕ, zero, suc, Bool, false, nat_lt, if◌then◌else◌, List, [], ◌∷◌, Option, None, Some, slice_index_or, slice_set}
+use Rattle.std.specs.Prelude.{◌≡◌, ◌≢◌, ◌<◌, ◌≤◌, ◌+◌, ◌-◌, ◌==◌, ◌||◌, ◌⊎◌, ℕ, zero, suc, Bool, false, nat_lt, if◌then◌else◌, List, [], ◌∷◌, Option, None}
+use Rattle.std.specs.Prelude.{Some, slice_index_or, slice_set}
 use Rattle.geometry.specs.Sectors.{Sector}
 use Rattle.geometry.specs.declared.page_addr.PageAddr.{PageAddr}
 use Rattle.durable.specs.Flash.{PageContents, Erased, Torn, Version, Flash, HoldsNewest}
@@ -30,13 +31,13 @@ gaps_before f b zero = 0
 gaps_before f b (suc p) = gaps_with (f b p) p (versions_before f b p) (gaps_before f b p)
 
 -- the block has no gap: each page before a version has one
-abbrev pub IsWhole : Flash → ℕ → Type 0
-IsWhole f b = (p q s m : ℕ) (v : Sector) → p < q → f b q ≡ Version s m v → version_count (f b p) ≡ 1
+abbrev pub IsGapless : Flash → ℕ → Type 0
+IsGapless f b = (p q s m : ℕ) (v : Sector) → p < q → f b q ≡ Version s m v → version_count (f b p) ≡ 1
 
 -- the newest version of each sector is in a block without a gap
 abbrev pub HasNoLoss : Flash → ℕ → Type 0
 HasNoLoss f sectors = (s b p : ℕ) (v : Sector) → s < sectors → HoldsNewest f s v b p
-    → (d : ℕ) × (q : ℕ) × (w : Sector) × IsWhole f d × HoldsNewest f s w d q
+    → (d : ℕ) × (q : ℕ) × (w : Sector) × IsGapless f d × HoldsNewest f s w d q
 
 -- the gaps of each block, by what a mount has counted
 abbrev pub gaps_in : List ℕ → ℕ → ℕ

@@ -7,7 +7,7 @@ use Rattle.durable.specs.Updates.{Update}
 use Rattle.durable.specs.Device.{Device, device_of, device_in, losses_of}
 use Rattle.durable.specs.Collecting.{IsFree}
 use Rattle.durable.specs.Commands.{Completes, CutLeaves}
-use Rattle.durable.specs.Losses.{IsWhole, HasNoLoss, version_count}
+use Rattle.durable.specs.Losses.{IsGapless, HasNoLoss, version_count}
 use Rattle.durable.specs.Memory.{map_entry}
 use Rattle.durable.specs.Promise.{IsReadable, IsConsistent}
 use Rattle.durable.specs.Calls.{Acknowledges, HasNoted, Remounts, SurvivesCut}
@@ -20,7 +20,7 @@ use Rattle.durable.specs.declared.mount.Mount.{Mount}
 -- each newest version in the block is in another block too, which has no gap
 abbrev pub IsSafelyDuplicated : Flash → ℕ → ℕ → Type 0
 IsSafelyDuplicated f sectors b = (s p : ℕ) (v : Sector) → s < sectors → HoldsNewest f s v b p
-    → (d : ℕ) × (q : ℕ) × (w : Sector) × (d ≢ b) × IsWhole f d × HoldsNewest f s w d q
+    → (d : ℕ) × (q : ℕ) × (w : Sector) × (d ≢ b) × IsGapless f d × HoldsNewest f s w d q
 
 -- no page of the flash was lost: each newest version is in a block without a gap, and a mount can free a block that needs no others
 pub record IsUnharmed (f : Flash) (device : Device) : Type 0 where
@@ -40,7 +40,7 @@ IsSafelySpared f map blocks (Some to) =
 
 -- the layer keeps nothing in a block that has a gap
 pub record KeepsWhole (f : Flash) (core : Core) : Type 0 where
-  pub mapped : (s : ℕ) (at : PageAddr) → s < length core.map.items → map_entry core s ≡ Some at → IsWhole f at.block
+  pub mapped : (s : ℕ) (at : PageAddr) → s < length core.map.items → map_entry core s ≡ Some at → IsGapless f at.block
   pub full : IsFullBefore f core.next_page
   pub spared : IsSafelySpared f core.map.items core.blocks core.next_page
 

@@ -11,7 +11,7 @@ ghost use Rattle.durable.specs.Device.{Device, IsReadOn, IsWrittenOn, NamesOn, d
 ghost use Rattle.durable.specs.Failures.{Changes, HasVersionlessBlock, HoldsNoVersion, IsRenumbered, IsSameFlashOf, IsSwapped, swapped};
 ghost use Rattle.durable.specs.Faults.{mount_fault_text};
 ghost use Rattle.durable.specs.Flash.{Erased, Flash, HoldsNewest, IsErased, RecoversSector, SetsPage, Torn, Version};
-ghost use Rattle.durable.specs.Losses.{HasNoLoss, IsWhole, gaps_before, losses_in, versions_before};
+ghost use Rattle.durable.specs.Losses.{HasNoLoss, IsGapless, gaps_before, gaps_noted, losses_in, versions_before, versions_noted};
 ghost use Rattle.durable.specs.Memory.{IsMappedTo, map_entry};
 ghost use Rattle.durable.specs.Mounting.{IsStampOf, next_in, after_in};
 ghost use Rattle.durable.specs.Promise.{IsConsistent, IsReadable, IsRecoverable, KeepsAcknowledged};
@@ -221,17 +221,21 @@ pub fn candidates()
 
 /// Which pages are gaps, and which gaps are losses.
 pub fn losses()
-    ensures erased { (f : Flash) → IsErased f → IsWhole f 1 }
-    ensures gap { (f : Flash) (v : Sector) → f 1 0 ≡ Torn → f 1 1 ≡ Version 7 5 v → ¬ IsWhole f 1 }
-    ensures erased_gap { (f : Flash) (v : Sector) → f 1 0 ≡ Erased → f 1 1 ≡ Version 7 5 v → ¬ IsWhole f 1 }
+    ensures erased { (f : Flash) → IsErased f → IsGapless f 1 }
+    ensures gap { (f : Flash) (v : Sector) → f 1 0 ≡ Torn → f 1 1 ≡ Version 7 5 v → ¬ IsGapless f 1 }
+    ensures erased_gap { (f : Flash) (v : Sector) → f 1 0 ≡ Erased → f 1 1 ≡ Version 7 5 v → ¬ IsGapless f 1 }
     ensures counted { (f : Flash) (v : Sector) → f 1 0 ≡ Torn → f 1 1 ≡ Version 7 5 v → gaps_before f 1 2 ≡ 1 }
     ensures torn_last { (f : Flash) (v : Sector) → f 1 0 ≡ Version 7 5 v → f 1 1 ≡ Torn → gaps_before f 1 2 ≡ 0 }
     ensures versions { (f : Flash) (v : Sector) → f 1 0 ≡ Torn → f 1 1 ≡ Version 7 5 v → versions_before f 1 2 ≡ 1 }
+    ensures noted { gaps_noted (0 ∷ 0 ∷ []) 1 3 1 (Some (record { sector = 7; number = 5 })) ≡ 0 ∷ 2 ∷ [] }
+    ensures not_noted { gaps_noted (0 ∷ 4 ∷ []) 1 3 1 None ≡ 0 ∷ 4 ∷ [] }
+    ensures one_more { versions_noted 1 (Some (record { sector = 7; number = 5 })) ≡ 2 }
+    ensures as_many { versions_noted 1 None ≡ 1 }
     ensures new { (f : Flash) → IsErased f → HasNoLoss f 8 }
     ensures lost { (f : Flash) (v : Sector) → f 1 0 ≡ Torn → HoldsNewest f 7 v 1 1 → ((d q : ℕ) → HoldsNewest f 7 v d q → d ≡ 1)
         → ((d q : ℕ) (w : Sector) → HoldsNewest f 7 w d q → w ≡ v) → ¬ HasNoLoss f 8 }
     ensures elsewhere { (f : Flash) (s : ℕ) (v : Sector) → HasNoLoss f 8 → s < 8 → HoldsNewest f s v 1 1
-        → (d : ℕ) × (q : ℕ) × (w : Sector) × IsWhole f d × HoldsNewest f s w d q }
+        → (d : ℕ) × (q : ℕ) × (w : Sector) × IsGapless f d × HoldsNewest f s w d q }
     ensures in_use { losses_in (Some (record { at = record { block = 1; page = 1 }; number = 5; twin = None }) ∷ []) (3 ∷ 2 ∷ []) 2 ≡ 2 }
     ensures unused { losses_in (None ∷ []) (3 ∷ 2 ∷ []) 2 ≡ 0 }
     ensures tells { (mount : Reading) (core : Layer) (f : Flash) → TellsLosses mount core → HasNoted f mount → IsWrittenOn (device_in mount) f
@@ -247,7 +251,7 @@ pub fn unharmed()
     ensures alone { (f : Flash) (v : Sector) → HoldsNewest f 7 v 1 1 → ((d q : ℕ) (w : Sector) → HoldsNewest f 7 w d q → d ≡ 1)
         → ¬ IsSafelyDuplicated f 8 1 }
     ensures mapped { (f : Flash) (layer : Layer) → KeepsWhole f layer → 7 < length layer.map.items → map_entry layer 7 ≡ Some (record { block = 1; page = 1 })
-        → IsWhole f 1 }
+        → IsGapless f 1 }
     ensures full { (f : Flash) (layer : Layer) → KeepsWhole f layer → layer.next_page ≡ Some (record { block = 1; page = 2 }) → f 1 1 ≢ Torn }
     ensures spared { (f : Flash) (layer : Layer) → KeepsWhole f layer → layer.next_page ≡ None → (b : ℕ) × (b < layer.blocks) × IsFree layer.map.items b }
     ensures mounted { (f : Flash) (layer : Layer) (acked begun : List Update) (from : IsMountedWhole f layer) → IsReadable f (device_in from.0) acked begun
