@@ -6,7 +6,7 @@ ghost use Rattle.durable.specs.Collecting.{HasCapacity};
 ghost use Rattle.durable.specs.Updates.{Update, array_after};
 ghost use Rattle.durable.specs.declared.fault.MountFault.TheVariants as mount_fault;
 ghost use Rattle.nand.specs.Nand.{Performs, CountsFault, value_with};
-ghost use Rattle.durable.specs.Device.{IsWrittenOn};
+ghost use Rattle.durable.specs.Device.{IsWrittenOn, losses_of};
 ghost use Rattle.durable.specs.Flash.{IsErased};
 ghost use Rattle.nand.specs.Numbers.{IsOrder, good_before, numbered};
 ghost use Rattle.nand.specs.Opened.{CanOpen, Fails, IsClosed, IsOpenLayer, IsSameDevice, IsTrueCause, ReadsSector};
@@ -147,6 +147,14 @@ impl<N: Nand> Durable<N> {
         ensures { result ≡ layer_sectors self.now }
     {
         self.core.sectors()
+    }
+
+    /// How many losses the open has found: pages that have become unreadable before others of their blocks, which have newest versions still. An
+    /// older version may stand for each of theirs.
+    pub fn losses(&self) -> u64
+        ensures { result ≡ losses_of self.now.core }
+    {
+        self.core.losses()
     }
 
     /// How many bytes a page has, and so a sector.
