@@ -124,7 +124,7 @@ module _ (f : Flash) (pages b p : ℕ) (gaps new : List ℕ) (same : (c : ℕ) �
       chosen_here false is = ⊎_elim
           (λ here. inl here)
           (λ differs. let before : twin.block < b = omega (arith, low twin refl, differs) in
-              inr (before, same twin.block before ∙ no_gap gaps twin.block is))
+          inr (before, same twin.block before ∙ no_gap gaps twin.block is))
           (cases_eq twin.block b)
 
   twin_stays : (k : Option PageAddr) (at t : PageAddr) → k ≡ Some t → gaps_in gaps t.block ≡ 0 → twin_with gaps k at ≡ t
@@ -146,9 +146,9 @@ module _ (f : Flash) (pages b p : ℕ) (gaps new : List ℕ) (same : (c : ℕ) �
       ))
       (λ other. ⊎_elim
       (λ takes. subst (λ (x : Candidate). IsPreferred f pages b (suc p) new s (Some x)) (sym takes.2)
-          (prefers_new s old.number at (Some old.at) is_b (λ c q v lt on e gap.
-          let none = (prefers.0 c q v lt on e gap).1 in let some = some_gap gaps old.at.block takes.1 in absurd (omega (arith, none, some)))
-          (λ t e. subst (λ (a : PageAddr). a.block ≤ b) (some_is old.at t e) before)))
+      (prefers_new s old.number at (Some old.at) is_b (λ c q v lt on e gap.
+      let none = (prefers.0 c q v lt on e gap).1 in let some = some_gap gaps old.at.block takes.1 in absurd (omega (arith, none, some)))
+      (λ t e. subst (λ (a : PageAddr). a.block ≤ b) (some_is old.at t e) before)))
       (λ keeps. subst (λ (x : Candidate). IsPreferred f pages b (suc p) new s (Some x)) (sym keeps.2) (
         (λ c q v lt on e gap. whole_still old (prefers.0 c q v lt on e (sym (same c lt) ∙ gap))),
         (λ q v lt e. let differs = keeps.0 in
@@ -170,13 +170,13 @@ module _ (f : Flash) (pages b p : ℕ) (gaps new : List ℕ) (same : (c : ℕ) �
       prefers_new s n at None is_b (λ c q v lt on e gap. absurd (best c q n v (on, inl lt) e)) (λ t e. absurd (none_is t e))
   prefers_later s n d at (Some old) is_b is before best prefers = ⊎_elim
       (λ lt. subst (IsPreferred f pages b (suc p) new s) (sym (later_old gaps old at n lt))
-          (prefers_still s old prefers (λ v e. let number = (same_held s n d s old.number v (sym is ∙ e)).1 in omega (arith, number, lt))))
+      (prefers_still s old prefers (λ v e. let number = (same_held s n d s old.number v (sym is ∙ e)).1 in omega (arith, number, lt))))
       (λ le. ⊎_elim
       (λ gt. subst (IsPreferred f pages b (suc p) new s) (sym (later_new gaps old at n gt))
-          (prefers_new s n at None is_b (λ c q v less on e gap. let most = best.1 c q n v (on, inl less) e in omega (arith, most, gt))
-          (λ t e. absurd (none_is t e))))
+      (prefers_new s n at None is_b (λ c q v less on e gap. let most = best.1 c q n v (on, inl less) e in omega (arith, most, gt))
+      (λ t e. absurd (none_is t e))))
       (λ ge. let eq : n ≡ old.number = omega (arith, le, ge) in subst (IsPreferred f pages b (suc p) new s) (sym (later_same gaps old at n eq))
-          (prefers_twin s n d at old is_b eq (before old refl) prefers))
+      (prefers_twin s n d at old is_b eq (before old refl) prefers))
       (cases_lt old.number n))
       (cases_lt n old.number)
 

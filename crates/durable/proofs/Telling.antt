@@ -88,7 +88,7 @@ module _ (mount : Mount) (at_end : mount.read_blocks ≤ mount.block) (f : Flash
         let w = written there.0 there.1 s there.5.number there.2 there.5.held in
         let before : there.0 < mount.block = omega (arith, w.0, at_end) in
         let twin = prefers.2 there.0 there.1 there.2 before w.1 (same_as_found there.0 there.1 there.2 there.5)
-            (noted.counts.read there.0 before ∙ whole_none f there.0 mount.pages there.4) (λ e. there.3 (e ∙ here)) in
+        (noted.counts.read there.0 before ∙ whole_none f there.0 mount.pages there.4) (λ e. there.3 (e ∙ here)) in
         (twin.0, twin.1, (λ e. lone.1 twin.0 twin.1 (e ∙ sym here)), none_has_gap mount.gaps.items twin.0.block twin.3)
 
   pub quiet : (array : ℕ → Sector) → Recovers f (length mount.found.items) array → HasNoLoss f (length mount.found.items)

@@ -2,12 +2,11 @@
 use Rattle.std.proofs.Common.{◌≡◌, ◌<◌, ◌∙◌, ℕ, List, [], ◌∷◌, length, refl, sym, ap, subst, arith}
 use Rattle.geometry.specs.Sectors.{Sector}
 use Rattle.durable.specs.declared.memory.Core.{Core}
-use Rattle.durable.specs.declared.mount.Mount.{Mount}
 use Rattle.durable.specs.Updates.{Update}
-use Rattle.durable.specs.Flash.{Version, Flash, HoldsNewest, IsErased}
+use Rattle.durable.specs.Flash.{Flash, HoldsNewest, IsErased}
 use Rattle.durable.specs.Device.{Device, device_of, device_in, losses_of}
-use Rattle.durable.specs.Failures.{HasVersionlessBlock, IsRenumbered, IsSameFlashOf}
-use Rattle.durable.specs.Losses.{IsGapless, HasNoLoss, version_count}
+use Rattle.durable.specs.Failures.{HasVersionlessBlock, IsRenumbered}
+use Rattle.durable.specs.Losses.{IsGapless, version_count}
 use Rattle.durable.specs.Promise.{IsReadable, IsRecoverable}
 use Rattle.durable.specs.Runs.{Event, Completed, Failed, CutInside, CutBetween, Runs, acknowledged_in, begun_in}
 use Rattle.durable.specs.Whole.{IsUnharmed, KeepsWhole, IsMountedWhole, RunsWhole}
@@ -55,9 +54,12 @@ runs_of [] f core runs = (runs.0, (runs.1.0, runs.1.1, runs.1.2, runs.1.3))
 runs_of (Completed update m ∷ events) t new runs =
     (runs.0, runs.1, runs_of events runs.0 runs.1 runs.2, (runs.3.0, runs.3.1, runs.3.2))
 runs_of (Failed update m ∷ events) t new runs =
-    let mounted = runs.3.4 in
-    (runs.0, runs.1, runs_of events runs.0 runs.1 runs.2,
-        (runs.3.0, runs.3.1, runs.3.2, runs.3.3, (mounted.0, mounted.1, mounted.2, mounted.3), runs.3.5))
+    let mounted = runs.3.4 in (
+      runs.0,
+      runs.1,
+      runs_of events runs.0 runs.1 runs.2,
+      (runs.3.0, runs.3.1, runs.3.2, runs.3.3, (mounted.0, mounted.1, mounted.2, mounted.3), runs.3.5),
+    )
 runs_of (CutInside update m ∷ events) t new runs =
     let mounted = runs.3.2 in
     (runs.0, runs.1, runs_of events runs.0 runs.1 runs.2, (runs.3.0, runs.3.1, (mounted.0, mounted.1, mounted.2, mounted.3), runs.3.3))

@@ -240,9 +240,9 @@ module _ (f t : Flash) (core : Core) (array : ℕ → Sector) (stands : Represen
       let kept : (P : ℕ → Type 0) → ((s : ℕ) (at : PageAddr) → s < sectors → map_entry core s ≡ Some at → P at.block) → (s : ℕ) → s < sectors
       → Stands t P s =
       λ P holds s lt. kept_stands t P s (array s) (map_entry core s)
-          (kept_in_loss f t b s (array s) (map_entry core s) (stands.mapped s lt) (λ at is. none s at lt is) loses)
-          (λ nowhere d q m v e. clears.known s d q m v lt nowhere (loses.within d q s m v e))
-          (λ at is. holds s at lt is) in
+      (kept_in_loss f t b s (array s) (map_entry core s) (stands.mapped s lt) (λ at is. none s at lt is) loses)
+      (λ nowhere d q m v e. clears.known s d q m v lt nowhere (loses.within d q s m v e))
+      (λ at is. holds s at lt is) in
       record {
         no_loss = no_loss_of t sectors (kept (IsGapless t) (λ s at lt is. lost_whole f t b loses at.block (none s at lt is) (keeps.mapped s at lt is)));
         spare = (

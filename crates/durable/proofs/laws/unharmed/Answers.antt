@@ -1,7 +1,4 @@
-use Rattle.std.proofs.Common.{◌≡◌, Some, ap, arith, subst}
-use Rattle.geometry.specs.Sectors.{Sector}
-use Rattle.geometry.specs.declared.page_addr.PageAddr.{PageAddr}
-use Rattle.durable.specs.Flash.{HoldsNewest}
+use Rattle.std.proofs.Common.{ap, arith, subst}
 use Rattle.durable.specs.Losses.{version_count}
 use Rattle.durable.specs.Whole.{IsFullBefore, IsSafelySpared}
 use Rattle.durable.proofs.laws.unharmed.Goals as goal

@@ -87,8 +87,7 @@ returns-clause-whole c f acked begun noted is unharmed =
     let map = c.in-Ok.map.items in
     let at_end = all_noted mount.read_blocks (record { block = mount.block; page = mount.page }) c.requires in
     let array = array_after is.keeps.updates in
-    let lt : avoided < mount.blocks = omega (arith, c.if-avoided-self.false) in
-    (
+    let lt : avoided < mount.blocks = omega (arith, c.if-avoided-self.false) in (
       mounts_whole mount at_end f noted is.written _ avoided unharmed array is.keeps.recovers
           (c.in-Ok.ensures.size ∙ ap length c.deref-3.ensures.value)
           (subst (λ (xs : List (Option Candidate)). (s : ℕ) → s < length xs → IsEntryOf (get_or xs s None) (get_or map s None)) c.deref-3.ensures.value
