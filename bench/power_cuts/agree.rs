@@ -4,7 +4,7 @@ use crate::flash::{Block, Cell, Device, Page, Place, Size, Version, BLOCKS};
 use crate::layer::{Command, Freed, Rule, Wrong};
 
 /// Wrong rules that runs without failures, ranges and flushes tell apart.
-pub const TOLD_APART: [Wrong; 12] = [
+pub const TOLD_APART: [Wrong; 11] = [
     Wrong::FirstFound,
     Wrong::LastFound,
     Wrong::NumbersStartAgain,
@@ -16,7 +16,6 @@ pub const TOLD_APART: [Wrong; 12] = [
     Wrong::ErasesEarly,
     Wrong::NoReserve,
     Wrong::CopyRenumbered,
-    Wrong::KeepsBehindGap,
 ];
 
 /// How much was compared.
