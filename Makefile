@@ -41,10 +41,11 @@ install: all
 	install -m 644 README.md CHANGELOG.md CONTRIBUTING.md $(DOC)
 	install -m 644 docs/*.md docs/*.svg $(DOC)/docs
 	install -m 644 bench/*.md $(DOC)/bench
-	install -d $(DOC)/examples/parts $(DOC)/examples/mtd
+	install -d $(DOC)/examples/parts $(DOC)/examples/mtd $(DOC)/bindings/examples
 	install -m 644 examples/*.csv examples/*.args examples/*.out $(DOC)/examples
 	install -m 644 examples/parts/*.toml $(DOC)/examples/parts
 	install -m 644 $(DRIVERS:%=examples/mtd/%) $(DOC)/examples/mtd
+	install -m 644 bindings/examples/*.c $(DOC)/bindings/examples
 	packaging/installed-links $(DOC)
 	commit=$$(git describe --always --abbrev=40 --dirty --exclude='*') && version=$$(rt version) && \
 	  printf 'commit %s\nproved with %s\n' "$$commit" "$$version" > $(LIB)/BUILT_FROM

@@ -1,21 +1,40 @@
 /* image FOLDER [GIB]: rates of an image file, in mode `never`: writes of 4 KiB pages by one thread on a device of which 70 % is used, at random sectors,
- * collection included; and an open, in stamps a second of the processor's time. With GIB, the open of a sparse image of so many GiB, with its memory. */
+ * collection included; and an open, in stamps a second of the processor's time, and by the clock. With GIB, the open of a sparse image of so many GiB, with
+ * its memory. */
 #include "mintlintel_image.h"
 #include <stdio.h>
 #include <stdlib.h>
 #include <string.h>
-#include <sys/resource.h>
 #include <time.h>
 #include <unistd.h>
 
 enum { PAGES = 256, PAGE_BYTES = 4096 };
 
+static double time_of(clockid_t clock)
+{
+    struct timespec t;
+    clock_gettime(clock, &t);
+    return (double)t.tv_sec + 1e-9 * (double)t.tv_nsec;
+}
+
 /* The processor's time of this process, so that other work on the machine doesn't count; in mode `never` it waits for no disk. */
 static double now(void)
 {
-    struct timespec t;
-    clock_gettime(CLOCK_PROCESS_CPUTIME_ID, &t);
-    return (double)t.tv_sec + 1e-9 * (double)t.tv_nsec;
+    return time_of(CLOCK_PROCESS_CPUTIME_ID);
+}
+
+/* The memory in use, in MB, as the line of /proc that begins so says. */
+static long memory(const char *line)
+{
+    char text[256];
+    long kilobytes = 0;
+    FILE *source = fopen("/proc/self/status", "r");
+    while (source && kilobytes == 0 && fgets(text, sizeof text, source))
+        if (strncmp(text, line, strlen(line)) == 0)
+            kilobytes = atol(text + strlen(line));
+    if (source)
+        fclose(source);
+    return kilobytes / 1000;
 }
 
 static uint32_t drawn(uint64_t *state)
@@ -47,7 +66,6 @@ int main(int argc, char **argv)
     static struct mintlintel_image image;
     static uint8_t page[PAGE_BYTES];
     struct mintlintel_totals totals;
-    struct rusage usage;
     uint64_t state = 88172645463325252u;
     char path[4096];
     if (argc < 2)
@@ -64,14 +82,14 @@ int main(int argc, char **argv)
     double written = now() - start;
     need(mintlintel_durable_counts(&image.device, &totals));
     need(mintlintel_image_close(&image));
-    double again = opened(&image, path, blocks, sectors);
+    double begun = time_of(CLOCK_MONOTONIC), again = opened(&image, path, blocks, sectors), by_clock = time_of(CLOCK_MONOTONIC) - begun;
+    long kept = memory("VmRSS:");
     mintlintel_image_close(&image);
-    getrusage(RUSAGE_SELF, &usage);
     unlink(path);
     printf("%u blocks of %d pages of %d bytes, %u sectors\n", blocks, PAGES, PAGE_BYTES, sectors);
     if (writes > 0)
         printf("writes: %.0f a second, %.2f programs and copies a write\n", writes / written, (double)(totals.programs + totals.copies) / writes);
-    printf("open of a new image: %.2f s; of this one: %.2f s, %.0f stamps a second\n", first, again, stamps / again);
-    printf("memory: %ld MB at most\n", usage.ru_maxrss / 1000);
+    printf("open of a new image: %.2f s; of this one: %.2f s, %.0f stamps a second, and %.0f by the clock\n", first, again, stamps / again, stamps / by_clock);
+    printf("memory: %ld MB when it is open, %ld MB at most\n", kept, memory("VmHWM:"));
     return 0;
 }

@@ -17,6 +17,12 @@ enum { ONE_RESERVE_IN = 50 };
  * what is left in it must not be mapped, since an erase may lose pages before others. */
 enum { GOOD, FAILED, FAILED_ERASE, MARKED };
 
+/* A page as its stamp tells it: what a read of the stamp alone returned, and if that is 0 the version. */
+struct noted { uint64_t number; uint32_t sector, erases : 24, reading : 2; };
+
+/* What a mount reads first: each page as its stamp tells it, and of each sector twice the newest number, and one more if two pages have it. */
+struct stamps { struct noted *pages; uint64_t *newest; };
+
 /* What a handle keeps beside its core. The core numbers the blocks that are in use, then those in reserve, then the bad ones: `chip_block` gives the
  * chip's number of each. `state` and `erases` go by the chip's numbers. */
 struct mintlintel_flash {
@@ -31,7 +37,8 @@ struct mintlintel_flash {
     struct mintlintel_totals earlier; /* what was done before the last mount */
     uint64_t losses; /* what the last mount has told */
     int despite_losses; /* the caller goes on with losses */
-    const uint32_t *reason; /* the code in place of 28, if there is one */
+    struct stamps stamps; /* while it mounts */
+    const uint32_t *reason; /* the code in place of 28, if there is one: then the flash is an image, which tells torn pages by itself */
     uint32_t stopped; /* the code that every call returns since the power went, or a sync or a mount failed, or 0 */
     uint32_t worn; /* the code of writes and trims since bad blocks have left no room, or 0 */
     uint8_t *page, *moved;
@@ -204,16 +211,98 @@ static void number_all(struct mintlintel_flash *flash)
     flash->used = flash->numbers.blocks;
 }
 
+/* ---- Torn pages ----
+ * The stamp of a torn page may be whole. A cut or a failure inside a program tears the last page of its block, since no block is gone on with after a
+ * mount. One inside an erase tears any page of a block in which nothing is needed: each version in it has a newer one elsewhere, or the same one stands
+ * elsewhere too, until a newer one is there. And only the newest version of a sector counts. So a stamp is believed but in two cases, in which the page
+ * is read whole: where it is the last one of its block, and where two pages have the newest version. */
+
+/* Notes the newest numbers in a block. */
+static void note_newest(struct stamps *stamps, const struct noted *pages, uint32_t count)
+{
+    for (const struct noted *page = pages; page < pages + count; page++) {
+        if (page->reading != 0)
+            continue;
+        uint64_t *newest = &stamps->newest[page->sector], number = page->number << 1;
+        *newest = number > *newest ? number : number == (*newest & ~(uint64_t)1) ? number | 1 : *newest;
+    }
+}
+
+/* Reads the stamps of a block, and its last version whole. */
+static uint32_t stamps_of_block(struct mintlintel_flash *flash, uint32_t block)
+{
+    struct noted *pages = flash->stamps.pages + (size_t)block * flash->numbers.pages, *last = NULL;
+    struct stamp stamp;
+    for (struct noted *page = pages; page < pages + flash->numbers.pages; page++) {
+        int reading = read_page(flash, block, (uint32_t)(page - pages), NULL, &stamp);
+        if (reading == 3)
+            return MINTLINTEL_POWER_GONE;
+        if (reading == 0 && (stamp.kind > STAMP_TRIM || stamp.count != 1 || stamp.sector >= flash->numbers.sectors))
+            return MINTLINTEL_OTHER_DEVICE;
+        page->reading = (unsigned)reading & 3;
+        if (reading != 0)
+            continue;
+        *page = (struct noted){stamp.number, stamp.sector, stamp.erases & STAMP_MOST_ERASES, 0};
+        last = page;
+    }
+    int reading = last ? read_page(flash, block, (uint32_t)(last - pages), flash->page, &stamp) : 0;
+    if (last)
+        last->reading = (unsigned)reading & 3;
+    if (reading != 3)
+        note_newest(&flash->stamps, pages, flash->numbers.pages);
+    return reading == 3 ? MINTLINTEL_POWER_GONE : MINTLINTEL_DONE;
+}
+
+/* Frees what was read first. */
+static void free_stamps(struct mintlintel_flash *flash)
+{
+    free(flash->stamps.pages);
+    free(flash->stamps.newest);
+    flash->stamps = (struct stamps){NULL, NULL};
+}
+
+/* Whether a mount reads a block. */
+static int is_read(const struct mintlintel_flash *flash, uint32_t block)
+{
+    return flash->state[flash->chip_block[block]] < FAILED_ERASE;
+}
+
+/* Reads what the stamps tell, of a flash that doesn't tell torn pages by itself. */
+static uint32_t read_stamps(struct mintlintel_flash *flash)
+{
+    const struct mintlintel_durable_numbers *n = &flash->numbers;
+    if (flash->reason)
+        return MINTLINTEL_DONE;
+    flash->stamps = (struct stamps){calloc((size_t)n->blocks * n->pages, sizeof(struct noted)), calloc(n->sectors, sizeof(uint64_t))};
+    if (!flash->stamps.pages || !flash->stamps.newest)
+        return MINTLINTEL_NO_MEMORY;
+    uint32_t code = MINTLINTEL_DONE;
+    for (uint32_t block = 0; code == MINTLINTEL_DONE && block < n->blocks; block++)
+        code = is_read(flash, block) ? stamps_of_block(flash, block) : MINTLINTEL_DONE;
+    return code;
+}
+
+/* A page as a mount has to note it: what `read_page` returns. The kind of a version isn't kept. */
+static int read_noted(struct mintlintel_flash *flash, uint32_t block, uint32_t page, struct stamp *stamp)
+{
+    if (!flash->stamps.pages)
+        return read_page(flash, block, page, NULL, stamp);
+    const struct noted *noted = &flash->stamps.pages[(size_t)block * flash->numbers.pages + page];
+    if (noted->reading == 0 && flash->stamps.newest[noted->sector] == (noted->number << 1 | 1))
+        return read_page(flash, block, page, flash->page, stamp);
+    *stamp = (struct stamp){STAMP_VALUE, noted->number, noted->sector, 1, noted->erases};
+    return noted->reading;
+}
+
 /* Notes the stamps of a block that is read. At an open its erases are those that its newest version tells: the copies in it tell those of
  * other blocks. */
 static uint32_t note_block(struct mintlintel_durable *device, uint32_t block, struct opening *opening)
 {
     struct mintlintel_flash *flash = device->flash;
-    int is_read = flash->state[flash->chip_block[block]] < FAILED_ERASE;
     uint64_t newest = 0;
     for (uint32_t page = 0; page < flash->numbers.pages; page++) {
         struct stamp stamp = {0, 0, 0, 0, 0};
-        int reading = is_read ? read_page(flash, block, page, NULL, &stamp) : 1;
+        int reading = is_read(flash, block) ? read_noted(flash, block, page, &stamp) : 1;
         if (reading == 3)
             return MINTLINTEL_POWER_GONE;
         if (reading == 0 && (stamp.kind > STAMP_TRIM || stamp.count != 1))
@@ -279,8 +368,11 @@ static uint32_t mount_core(struct mintlintel_durable *device, struct opening *op
     }
     mintlintel_core_close(&device->core);
     uint32_t code = mintlintel_core_open_over(&device->core, n->blocks, flash->used, n->pages, n->sectors);
+    if (code == MINTLINTEL_DONE)
+        code = read_stamps(flash);
     for (uint32_t block = 0; code == MINTLINTEL_DONE && block < n->blocks; block++)
         code = note_block(device, block, opening);
+    free_stamps(flash);
     flash->stranded = 0;
     flash->is_stuck = 0;
     if (code == MINTLINTEL_DONE)

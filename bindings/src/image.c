@@ -16,6 +16,9 @@
 #include <time.h>
 #include <unistd.h>
 
+/* How many blocks a mount asks for ahead of the one that it reads. */
+enum { BLOCKS_AHEAD = 16 };
+
 static const uint8_t magic[8] = {0x89, 'M', 'N', 'T', 'L', '\r', '\n', 0x1a};
 
 struct mintlintel_image_file {
@@ -132,6 +135,13 @@ static int is_hole(struct mintlintel_image_file *file, off_t from, off_t to)
     return to <= file->data_to;
 }
 
+/* While mounting: lets the system begin to read the spare bytes of a block that comes later. */
+static void look_ahead(struct mintlintel_image_file *file, uint32_t block, size_t count)
+{
+    if (file->is_mounting && block + BLOCKS_AHEAD < file->numbers.blocks)
+        posix_fadvise(file->fd, spare_at(file, block + BLOCKS_AHEAD, 0), (off_t)count, POSIX_FADV_WILLNEED);
+}
+
 /* The spare bytes of all pages of a block, in `spares`. */
 static int load_spares(struct mintlintel_image_file *file, uint32_t block)
 {
@@ -142,8 +152,11 @@ static int load_spares(struct mintlintel_image_file *file, uint32_t block)
     file->cached = UINT32_MAX;
     if (file->is_mounting && is_hole(file, at, at + (off_t)count))
         memset(file->spares, 0, count);
-    else if (get(file, file->spares, count, at) != 0)
-        return 3;
+    else {
+        look_ahead(file, block, count);
+        if (get(file, file->spares, count, at) != 0)
+            return 3;
+    }
     file->cached = block;
     return 0;
 }
@@ -279,14 +292,18 @@ static void read_boot(uint8_t *boot)
     }
 }
 
-/* Says on the disk who uses the image. */
+/* Says on the disk who uses the image. In mode `never` a record that says it already is left, since a sync would write all pages of earlier sessions. */
 static int write_session(struct mintlintel_image_file *file, enum state state)
 {
-    uint8_t session[AT_SESSION_CHECK + CHECK_BYTES];
+    uint8_t session[AT_SESSION_CHECK + CHECK_BYTES], earlier[sizeof session];
     put32(session + AT_STATE, state);
     put32(session + AT_MODE, file->mode);
     read_boot(session + AT_BOOT);
     put32(session + AT_SESSION_CHECK, mtl_crc(0, session, AT_SESSION_CHECK));
+    if (get(file, earlier, sizeof earlier, PART_BYTES) != 0)
+        return 1;
+    if (file->mode == MINTLINTEL_NEVER && memcmp(earlier, session, sizeof session) == 0)
+        return 0;
     return set(file, session, sizeof session, PART_BYTES) != 0 || sync_file(file) != 0;
 }
 

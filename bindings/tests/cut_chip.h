@@ -9,13 +9,14 @@
 enum { CHIP_BLOCKS = 8, CHIP_PAGES = 4, CHIP_PAGE_BYTES = 40 };
 enum contents { ERASED, TORN, VERSION };
 
-struct chip_page { enum contents contents; uint8_t main[CHIP_PAGE_BYTES], stamp[MINTLINTEL_STAMP_BYTES]; };
+struct chip_page { enum contents contents; int has_stamp; uint8_t main[CHIP_PAGE_BYTES], stamp[MINTLINTEL_STAMP_BYTES]; };
 
 struct cut_chip {
     struct chip_page pages[CHIP_BLOCKS][CHIP_PAGES];
     uint8_t bad[CHIP_BLOCKS], failed[CHIP_BLOCKS]; /* marked; failed since the open */
     uint64_t state;
     uint32_t one_cut_in, one_fail_in; /* 0: none */
+    int hides_torn; /* a torn page may have its whole stamp, and the chip doesn't tell */
     long fail_at; /* the command that fails, counted from 1; 0: none */
     int is_off;
     long commands, cuts, fails, syncs;
@@ -47,7 +48,7 @@ static inline int chip_read(void *at, uint32_t block, uint32_t page, void *main,
         return 3;
     CHECK(!chip->bad[block]);
     const struct chip_page *p = &chip->pages[block][page];
-    if (p->contents != VERSION)
+    if (p->contents == ERASED || (p->contents == TORN && !p->has_stamp))
         return p->contents == ERASED ? 1 : 2;
     if (main)
         memcpy(main, p->main, CHIP_PAGE_BYTES);
@@ -64,6 +65,14 @@ static inline int fails(struct cut_chip *chip, uint32_t block)
     return is_failing;
 }
 
+/* Tears a page that has its bytes. Where the chip hides that, its stamp may be whole. */
+static inline void tear(struct cut_chip *chip, struct chip_page *p)
+{
+    p->has_stamp = chip->hides_torn && (p->contents == VERSION || (p->contents == TORN && p->has_stamp)) && drawn(&chip->state) % 4 > 0;
+    p->main[drawn(&chip->state) % CHIP_PAGE_BYTES] ^= (uint8_t)(1 + drawn(&chip->state) % 255);
+    p->contents = TORN;
+}
+
 /* Sets a page to new contents, or leaves it as it was or torn if the power goes or the command fails. */
 static inline int set_page(struct cut_chip *chip, uint32_t block, uint32_t page, const void *main, const void *stamp)
 {
@@ -77,13 +86,14 @@ static inline int set_page(struct cut_chip *chip, uint32_t block, uint32_t page,
     chip->commands++;
     int is_cut = goes_off(chip, chip->one_cut_in), is_failing = !is_cut && fails(chip, block);
     int left = is_cut || is_failing ? (int)(drawn(&chip->state) % 3) : 2;
-    if (left == 1)
-        p->contents = TORN;
-    if (left == 2) {
+    if (left > 0) {
         p->contents = VERSION;
+        p->has_stamp = 0;
         memcpy(p->main, main, CHIP_PAGE_BYTES);
         memcpy(p->stamp, stamp, MINTLINTEL_STAMP_BYTES);
     }
+    if (left == 1)
+        tear(chip, p);
     chip->programs += !is_cut && !is_failing;
     return is_cut ? 3 : is_failing;
 }
@@ -116,8 +126,10 @@ static inline int chip_erase(void *at, uint32_t block)
     for (uint32_t page = 0; page < CHIP_PAGES; page++) {
         struct chip_page *p = &chip->pages[block][page];
         uint32_t left = is_cut || is_failing ? drawn(&chip->state) % 3 : 0;
-        if (left < 2)
-            p->contents = left == 0 ? ERASED : TORN;
+        if (left == 0)
+            p->contents = ERASED;
+        if (left == 1)
+            tear(chip, p);
     }
     chip->erases[block] += !is_cut && !is_failing;
     return is_cut ? 3 : is_failing;
@@ -138,7 +150,7 @@ static inline int chip_mark_bad(void *at, uint32_t block)
     chip->bad[block] |= !is_cut || drawn(&chip->state) % 2;
     for (uint32_t page = 0; page < CHIP_PAGES; page++)
         if (drawn(&chip->state) % 2)
-            chip->pages[block][page].contents = TORN;
+            tear(chip, &chip->pages[block][page]);
     return is_cut ? 3 : 0;
 }
 

@@ -198,6 +198,7 @@ static void begin(void)
     sectors = 1 + drawn(&state) % ((CHIP_BLOCKS - bad - 1) * CHIP_PAGES - 1);
     chip.one_cut_in = cuts[drawn(&state) % 4];
     chip.one_fail_in = fails[drawn(&state) % 4];
+    chip.hides_torn = drawn(&state) % 2;
     reserve = sectors < (CHIP_BLOCKS - bad - 2) * CHIP_PAGES && bad == 0;
     nand = (struct mintlintel_nand){&chip, chip_read, chip_program, chip_copyback, chip_erase, chip_is_bad, chip_mark_bad, chip_sync};
     uint32_t left_out = drawn(&state);
@@ -370,7 +371,7 @@ static void run(long steps)
 
 int main(int argc, char **argv)
 {
-    long rounds = argc > 1 ? atol(argv[1]) : 300, cuts = 0, fails;
+    long rounds = argc > 1 && atol(argv[1]) > 0 ? atol(argv[1]) : 300, cuts = 0, fails;
     check_closed();
     fails = fail_each();
     fail_often();

@@ -8,7 +8,7 @@
 #include <sys/stat.h>
 #include <unistd.h>
 
-enum { LUNS = 1, BLOCKS = 8, PAGES = 4, PAGE_BYTES = 512, SECTORS = 20, HEAD_BYTES = 8192, SESSION_AT = 4096, BLOCK_BYTES = 4096 + 4096 };
+enum { LUNS = 1, BLOCKS = 8, PAGES = 4, PAGE_BYTES = 512, SECTORS = 20, HEAD_BYTES = 8192, SESSION_AT = 4096, BLOCK_BYTES = 4096 + 4096, SPARE_BYTES = 32 };
 #define NUMBERS LUNS, BLOCKS, PAGES, PAGE_BYTES, SECTORS
 
 static char path[4096], other[4096];
@@ -164,6 +164,38 @@ static void flipped_pages(void)
     }
 }
 
+static void swap_bytes(off_t first, off_t second, size_t count)
+{
+    uint8_t one[BLOCK_BYTES], two[BLOCK_BYTES];
+    int fd = open(path, O_RDWR);
+    CHECK(fd >= 0 && pread(fd, one, count, first) == (ssize_t)count && pread(fd, two, count, second) == (ssize_t)count);
+    CHECK(pwrite(fd, two, count, first) == (ssize_t)count && pwrite(fd, one, count, second) == (ssize_t)count);
+    close(fd);
+}
+
+/* Blocks that have changed places hold what they held. If two pages change places without their stamps, or the stamps do, at most their two sectors can't be
+ * read; and where the stamps do, the image may be refused. */
+static void swapped(void)
+{
+    struct mintlintel_image image = {0};
+    for (int round = 0; round < 600; round++) {
+        off_t first = drawn(&state) % BLOCKS, second = (first + 1 + drawn(&state) % (BLOCKS - 1)) % BLOCKS, page = drawn(&state) % PAGES;
+        off_t one = HEAD_BYTES + first * BLOCK_BYTES, two = HEAD_BYTES + second * BLOCK_BYTES;
+        begin(&image, MINTLINTEL_NEVER);
+        mintlintel_image_close(&image);
+        if (round % 3 == 0)
+            swap_bytes(one, two, BLOCK_BYTES);
+        else if (round % 3 == 1)
+            swap_bytes(one + page * SPARE_BYTES, two + drawn(&state) % PAGES * SPARE_BYTES, SPARE_BYTES);
+        else
+            swap_bytes(one + 4096 + page * PAGE_BYTES, two + 4096 + drawn(&state) % PAGES * PAGE_BYTES, PAGE_BYTES);
+        uint32_t code = mintlintel_image_open(&image, path, MINTLINTEL_NEVER, NUMBERS);
+        CHECK(code == MINTLINTEL_DONE || round % 3 == 1);
+        CHECK(code != MINTLINTEL_DONE || unreadable(&image) <= (round % 3 ? 2 : 0));
+        mintlintel_image_close(&image);
+    }
+}
+
 /* A copy has what the image had, and goes its own way. */
 static void copies(void)
 {
@@ -242,10 +274,11 @@ int main(int argc, char **argv)
     refusals();
     flipped_heads();
     flipped_pages();
+    swapped();
     copies();
     collections();
     full_disk();
     unlink(path);
-    printf("image: sessions, refusals, flipped bytes, copies and a full disk agree with what was acknowledged\n");
+    printf("image: sessions, refusals, flipped and swapped bytes, copies and a full disk agree with what was acknowledged\n");
     return 0;
 }

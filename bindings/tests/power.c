@@ -11,8 +11,8 @@ enum { LUNS = 1, BLOCKS = 5, PAGES = 40, PAGE_BYTES = 256, SECTORS = 120, BLOCK_
        LENGTH = HEAD_BYTES + BLOCKS * BLOCK_BYTES };
 enum { SECTOR_BYTES = 512, PART_BYTES = 4096, MOST = 4096, CALLS = 3000 };
 enum { NOTHING, SOME, ALL };
-/* Where the state of the last session stands, and what it is. */
-enum { AT_SESSION = 4096, IN_USE = 1, CLOSED = 2 };
+/* Where the state of the last session and its mode stand, and what the state is. */
+enum { AT_SESSION = 4096, AT_MODE = 4100, IN_USE = 1, CLOSED = 2 };
 
 struct write { size_t at, count; uint8_t *bytes; };
 struct update { uint32_t sector, value; };
@@ -26,7 +26,7 @@ static long left; /* writes and syncs up to the power cut */
 static int is_off;
 static uint64_t state = 88172645463325252u;
 static char path[4096];
-static long cuts, calls;
+static long cuts, calls, kills, syncs;
 
 ssize_t __real_pwrite64(int fd, const void *bytes, size_t count, off_t at);
 ssize_t __wrap_pwrite64(int fd, const void *bytes, size_t count, off_t at);
@@ -77,6 +77,7 @@ static void forget_writes(void)
 int __wrap_fdatasync(int fd)
 {
     (void)fd;
+    syncs++;
     if (goes_off()) {
         errno = EIO;
         return -1;
@@ -192,6 +193,25 @@ static uint32_t one_call(struct mintlintel_image *image, enum mintlintel_image_m
     return code;
 }
 
+/* Leaves the image as a process that is killed: nothing of its file is written any more. */
+static void leave(struct mintlintel_image *image)
+{
+    is_off = 1;
+    mintlintel_image_close(image);
+    is_off = 0;
+    kills++;
+}
+
+/* Leaves the image: the next process finds every call, and they are on the disk from then on. */
+static void leave_and_open(struct mintlintel_image *image, enum mintlintel_image_mode mode)
+{
+    uint32_t all = begun;
+    long earlier = cuts;
+    leave(image);
+    open_image(image, mode);
+    CHECK(cuts > earlier || begun == all);
+}
+
 /* Closes the image, which may be cut too, and opens it. An image that was closed in order has every call. */
 static void close_and_open(struct mintlintel_image *image, enum mintlintel_image_mode mode)
 {
@@ -220,10 +240,31 @@ static void run(enum mintlintel_image_mode mode)
         CHECK(code <= MINTLINTEL_WRITTEN || (code == MINTLINTEL_FILE_FAILED && is_off));
         if (is_off || drawn(&state) % 100 == 0)
             close_and_open(&image, mode);
+        if (drawn(&state) % 100 == 0)
+            leave_and_open(&image, mode);
     }
     left = 1000;
     mintlintel_image_close(&image);
     forget_writes();
+}
+
+/* An open in mode `never` says on the disk that the image is in use, and the next one has nothing more to say. One in another mode writes everything. */
+static void never(void)
+{
+    struct mintlintel_image image = {0};
+    left = 1000;
+    for (int turn = 0; turn < 2; turn++) {
+        long earlier = syncs;
+        CHECK(mintlintel_image_open(&image, path, MINTLINTEL_NEVER, LUNS, BLOCKS, PAGES, PAGE_BYTES, SECTORS) == MINTLINTEL_DONE);
+        CHECK(disk[AT_SESSION] == IN_USE && disk[AT_MODE] == MINTLINTEL_NEVER);
+        CHECK(syncs - earlier == !turn);
+        for (int i = 0; i < 20; i++)
+            one_call(&image, MINTLINTEL_NEVER);
+        CHECK(mintlintel_image_close(&image) == MINTLINTEL_DONE && writes > 0);
+    }
+    CHECK(mintlintel_image_open(&image, path, MINTLINTEL_FLUSH, LUNS, BLOCKS, PAGES, PAGE_BYTES, SECTORS) == MINTLINTEL_DONE);
+    CHECK(disk[AT_SESSION] == IN_USE && disk[AT_MODE] == MINTLINTEL_FLUSH && writes == 0);
+    CHECK(mintlintel_image_close(&image) == MINTLINTEL_DONE);
 }
 
 int main(int argc, char **argv)
@@ -232,7 +273,8 @@ int main(int argc, char **argv)
     snprintf(path, sizeof path, "%s/power.image", argc > 1 ? argv[1] : "out");
     for (int round = 0; round < rounds; round++)
         run(round % 2 ? MINTLINTEL_FLUSH : MINTLINTEL_ALWAYS);
+    never();
     unlink(path);
-    printf("power: %ld calls with %ld power cuts of the machine keep the promises of `always` and `flush`\n", calls, cuts);
+    printf("power: %ld calls with %ld power cuts of the machine and %ld kills keep the promises of `always` and `flush`\n", calls, cuts, kills);
     return 0;
 }

@@ -13,6 +13,7 @@
 enum { MOST_BLOCKS = 4096, MOST_PAGE = 65536, MANY = 100 };
 
 static struct flash flash;
+static int is_alone; /* a stamp may be read without its page */
 static uint8_t bad[MOST_BLOCKS], main_bytes[MOST_PAGE], stamp[MINTLINTEL_STAMP_BYTES], read_bytes[MOST_PAGE], read_stamp[MINTLINTEL_STAMP_BYTES];
 
 static uint32_t good_block(uint32_t nth)
@@ -53,7 +54,8 @@ static void make_page(uint32_t sector, uint32_t version)
     mintlintel_durable_close(&device);
 }
 
-/* Reads a page whole, and its stamp alone: both have this answer, and what is read is what make_page made last. */
+/* Reads a page whole, and its stamp alone: both have this answer, and what is read is what make_page made last. Of a page that can't be read the stamp may
+ * be read, where it stands alone. */
 static void expect(uint32_t block, uint32_t page, int answer, const char *what)
 {
     static const char *const names[] = {"read", "erased", "unreadable", "power gone"};
@@ -61,11 +63,11 @@ static void expect(uint32_t block, uint32_t page, int answer, const char *what)
         memset(read_bytes, 0, flash.page_bytes);
         memset(read_stamp, 0, sizeof read_stamp);
         int told = flash.nand.read(flash.nand.chip, block, page, whole ? read_bytes : NULL, read_stamp);
-        if (told != answer)
+        if (told != answer && !(is_alone && !whole && answer == 2 && told == 0))
             wrong("%s is told as %s, and is %s%s", what, names[told & 3], names[answer], whole ? "" : ", where its stamp alone is read");
         if (answer == 0 && whole && memcmp(read_bytes, main_bytes, flash.page_bytes) != 0)
             wrong("%s: other bytes are read", what);
-        if (answer == 0 && memcmp(read_stamp, stamp, sizeof stamp) != 0)
+        if (told == 0 && memcmp(read_stamp, stamp, sizeof stamp) != 0)
             wrong("%s: another stamp is read", what);
     }
 }
@@ -207,6 +209,7 @@ int main(int count, char **words)
     if (count == 4 && strcmp(words[2], "lacks") == 0)
         return refused(words[1], words[3]);
     enum flash_place place = strcmp(words[2], "spare") == 0 || strcmp(words[2], "fails") == 0 ? FLASH_SPARE : FLASH_HEAD;
+    is_alone = place == FLASH_SPARE;
     const char *fault = flash_open(&flash, words[1], place);
     if (fault || hurt_open(&flash, words[1], place) != 0)
         wrong("%s: %s", words[1], fault ? fault : "no second handle");

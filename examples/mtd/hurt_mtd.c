@@ -9,14 +9,14 @@
 #include <sys/ioctl.h>
 #include <unistd.h>
 
-enum { MOST_RAW = 16384, MOST_SPARE = 1024 };
+enum { MOST_RAW = 16384, MOST_SPARE = 1024, CHECK_BYTES = 4 };
 
 /* A page of the chip as its parts: `main` and `stamp` point into one of them. */
-struct image { uint8_t data[MOST_RAW], free[MINTLINTEL_STAMP_BYTES], *main, *stamp; uint32_t main_bytes; };
+struct image { uint8_t data[MOST_RAW], free[MINTLINTEL_STAMP_BYTES + CHECK_BYTES], *main, *stamp; uint32_t main_bytes; };
 
 static int fd, mended;
 static enum flash_place place;
-static uint32_t pages, raw_bytes, spare_bytes;
+static uint32_t pages, raw_bytes, spare_bytes, free_bytes; /* the last: of a stamp, with the driver's check behind it if there is room */
 static struct nand_ecclayout_user layout;
 
 static uint64_t at(uint32_t block, uint32_t page)
@@ -47,7 +47,9 @@ int hurt_open(const struct flash *flash, const char *path, enum flash_place its_
     raw_bytes = flash->page_bytes + (place == FLASH_HEAD ? MINTLINTEL_STAMP_BYTES : 0);
     spare_bytes = info.oobsize;
     mended = spare_bytes > 0 ? ecc_strength(path) : 0;
-    return spare_bytes > 0 ? ioctl(fd, ECCGETLAYOUT, &layout) : 0;
+    int answer = spare_bytes > 0 ? ioctl(fd, ECCGETLAYOUT, &layout) : 0;
+    free_bytes = MINTLINTEL_STAMP_BYTES + (layout.oobavail < MINTLINTEL_STAMP_BYTES + CHECK_BYTES ? 0 : CHECK_BYTES);
+    return answer;
 }
 
 static struct image *image_of(const void *main, const void *stamp)
@@ -59,6 +61,9 @@ static struct image *image_of(const void *main, const void *stamp)
     image.main_bytes = raw_bytes - (place == FLASH_HEAD ? MINTLINTEL_STAMP_BYTES : 0);
     memcpy(image.main, main, image.main_bytes);
     memcpy(image.stamp, stamp, MINTLINTEL_STAMP_BYTES);
+    uint32_t check = mintlintel_crc32c(0, stamp, MINTLINTEL_STAMP_BYTES);
+    for (int i = 0; place == FLASH_SPARE && i < CHECK_BYTES; i++)
+        image.free[MINTLINTEL_STAMP_BYTES + i] = (uint8_t)(check >> 8 * i);
     return &image;
 }
 
@@ -71,7 +76,7 @@ static void put(uint32_t block, uint32_t page, struct image *image)
         return;
     }
     struct mtd_write_req request = {.start = at(block, page), .len = raw_bytes, .usr_data = (uintptr_t)image->data, .mode = MTD_OPS_AUTO_OOB,
-                                    .ooblen = place == FLASH_SPARE ? MINTLINTEL_STAMP_BYTES : 0, .usr_oob = (uintptr_t)image->free};
+                                    .ooblen = place == FLASH_SPARE ? free_bytes : 0, .usr_oob = (uintptr_t)image->free};
     ioctl(fd, MEMWRITE, &request);
 }
 
@@ -96,7 +101,7 @@ static void put_bare(uint32_t block, uint32_t page, struct image *image)
 {
     uint8_t spare[MOST_SPARE];
     memset(spare, 0xff, sizeof spare);
-    for (uint32_t i = 0, region = 0, k = 0; i < MINTLINTEL_STAMP_BYTES && region < MTD_MAX_OOBFREE_ENTRIES; k++) {
+    for (uint32_t i = 0, region = 0, k = 0; i < free_bytes && region < MTD_MAX_OOBFREE_ENTRIES; k++) {
         if (k >= layout.oobfree[region].length)
             region++, k = (uint32_t)-1;
         else

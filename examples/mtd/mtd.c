@@ -1,6 +1,7 @@
 /* mtd.c: a driver over /dev/mtdN. It is written to be copied: all it takes from elsewhere is the two headers.
  *
- * A page is read whole even where its stamp alone is wanted: only the check in the stamp, which covers both, tells a torn page. */
+ * In the spare bytes a stamp has a check of this driver behind it, if there is room, so that it can be read without its page. Otherwise a page is read whole
+ * even where its stamp alone is wanted. */
 #include "flash.h"
 #include <errno.h>
 #include <fcntl.h>
@@ -17,11 +18,13 @@ enum { DONE = 0, ERASED = 1, FAILED = 1, UNREADABLE = 2, GONE = 3 };
 enum { TRIES = 4 };
 /* The pages of a device that has none, as NOR flash. */
 enum { PAGE_OF_BYTES = 2048, SMALLEST_PAGE = 256 };
+enum { CHECK_BYTES = 4, MOST_SPARE = MINTLINTEL_STAMP_BYTES + CHECK_BYTES };
 
 struct chip {
     int fd;
     enum flash_place place;
     uint32_t pages, raw_bytes; /* pages of a block, bytes of a page of the chip */
+    uint32_t spare_bytes;      /* of a stamp, with its check if there is room */
     uint8_t *page;             /* with room for a stamp behind it */
 };
 
@@ -47,6 +50,33 @@ static int read_spare(struct chip *chip, uint64_t at)
     return errno == EBADMSG || errno == EIO ? UNREADABLE : GONE;
 }
 
+static void put_check(uint8_t *spare)
+{
+    uint32_t check = mintlintel_crc32c(0, spare, MINTLINTEL_STAMP_BYTES);
+    for (int i = 0; i < CHECK_BYTES; i++)
+        spare[MINTLINTEL_STAMP_BYTES + i] = (uint8_t)(check >> 8 * i);
+}
+
+/* Reads a stamp without its page. The library knows which pages may be torn beside a whole stamp, and reads those whole. */
+static int read_stamp(struct chip *chip, uint64_t at, void *stamp)
+{
+    uint8_t spare[MOST_SPARE], wanted[MOST_SPARE];
+    struct mtd_read_req request = {.start = at, .ooblen = MOST_SPARE, .mode = MTD_OPS_AUTO_OOB, .usr_oob = (uintptr_t)spare};
+    for (int i = 0; i < TRIES; i++) {
+        if (ioctl(chip->fd, MEMREAD, &request) != 0 && errno != EUCLEAN && errno != EBADMSG && errno != EIO)
+            return GONE;
+        if (is_erased(spare, MOST_SPARE))
+            return ERASED;
+        memcpy(wanted, spare, MINTLINTEL_STAMP_BYTES);
+        put_check(wanted);
+        if (memcmp(spare, wanted, MOST_SPARE) != 0)
+            continue;
+        memcpy(stamp, spare, MINTLINTEL_STAMP_BYTES);
+        return DONE;
+    }
+    return UNREADABLE;
+}
+
 /* Reads a page that begins with its stamp, and puts the stamp behind it. MTD gives without an error what the ECC couldn't mend: the stamp's check tells. */
 static int read_head(struct chip *chip, uint64_t at)
 {
@@ -65,6 +95,8 @@ static int read_page(void *at, uint32_t block, uint32_t page, void *main, void *
     struct chip *chip = at;
     size_t bytes = chip->raw_bytes - (chip->place == FLASH_HEAD ? MINTLINTEL_STAMP_BYTES : 0);
     const uint8_t *its_stamp = chip->page + bytes;
+    if (!main && chip->spare_bytes == MOST_SPARE)
+        return read_stamp(chip, place_of(chip, block, page), stamp);
     for (int i = 0; i < TRIES; i++) {
         int answer = chip->place == FLASH_HEAD ? read_head(chip, place_of(chip, block, page)) : read_spare(chip, place_of(chip, block, page));
         if (answer == GONE)
@@ -96,8 +128,11 @@ static int program(void *at, uint32_t block, uint32_t page, const void *main, co
         memcpy(chip->page + MINTLINTEL_STAMP_BYTES, main, chip->raw_bytes - MINTLINTEL_STAMP_BYTES);
         return answer_of(pwrite(chip->fd, chip->page, chip->raw_bytes, (off_t)place_of(chip, block, page)) == (ssize_t)chip->raw_bytes);
     }
-    struct mtd_write_req request = {.start = place_of(chip, block, page), .len = chip->raw_bytes, .ooblen = MINTLINTEL_STAMP_BYTES,
-                                    .usr_data = (uintptr_t)main, .usr_oob = (uintptr_t)stamp, .mode = MTD_OPS_AUTO_OOB};
+    uint8_t spare[MOST_SPARE];
+    memcpy(spare, stamp, MINTLINTEL_STAMP_BYTES);
+    put_check(spare);
+    struct mtd_write_req request = {.start = place_of(chip, block, page), .len = chip->raw_bytes, .ooblen = chip->spare_bytes,
+                                    .usr_data = (uintptr_t)main, .usr_oob = (uintptr_t)spare, .mode = MTD_OPS_AUTO_OOB};
     return answer_of(ioctl(chip->fd, MEMWRITE, &request) == 0);
 }
 
@@ -134,6 +169,7 @@ static const char *spare_fault(struct chip *chip)
                  (unsigned)MINTLINTEL_STAMP_BYTES, (unsigned)layout.oobavail);
         return text;
     }
+    chip->spare_bytes = layout.oobavail < MOST_SPARE ? MINTLINTEL_STAMP_BYTES : MOST_SPARE;
     int answer = read_spare(chip, 0);
     return answer == GONE ? "the kernel can't read a page with its spare bytes, which MEMREAD of Linux 6.1 does: put the stamps into the pages" : NULL;
 }

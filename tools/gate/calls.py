@@ -17,9 +17,7 @@ and where it doesn't.
 # A longer clause is left to the source.
 LONGEST = 200
 CLAUSE = re.compile(r"((?:^ *//(?!/).*\n)*)^ *(requires|ensures)(?: (\w+))? \{", re.M)
-# Crates of tests, whose functions promise nothing to anybody.
 Known = namedtuple("Known", "sentence names")
-OF_TESTS = {"acceptance", "shared_acceptance", "run_acceptance", "session_acceptance", "durable_acceptance"}
 
 
 def public(crate):
@@ -90,7 +88,7 @@ def law(function, path, text, known):
 
 def page():
     """The page, and what is wrong with the sources."""
-    used = [name for name in tree.crates() if name not in OF_TESTS]
+    used = [name for name in tree.crates() if name not in laws.CALLERS]
     specs = [(name, path) for name in used if (tree.folder(name) / "specs/Lib.antt").exists() for path, _ in modules(tree.folder(name))]
     told = {(name, path.stem, it): sentence for name, path in specs for it, sentence in sentences(path, tree.DEFINITION, "--") if sentence}
     known = {it: Known(told[it], dict.fromkeys(tree.cited(text, local, alias))) for name in used for it, text, local, alias in laws.defined(name) if it in told}

@@ -3,8 +3,8 @@
 It begins with the checks of the sources and pages. Then `rt ci` proves everything, tries the wrong bodies of each crate that has no entry
 in .ci/refused for its present text, and runs the tests; the twins and the wrong definitions of changed crates follow. Then
 come the program, what the compiler has to refuse, the bench's programs, the tools, the examples, the program on a system that refuses
-memory and streams, the launcher, the bindings, the block device and the drivers for flash of Linux, and, if CI=true, the package on a system
-without the toolchain.
+memory and streams, the launcher, the bindings, the block device, the drivers for flash of Linux, images on machines that lose power, and, if
+CI=true, the package on a system without the toolchain.
 
 What the checks need of Debian is installed if CI=true. Otherwise what is missing is named, and nothing is begun."""
 
@@ -26,7 +26,7 @@ LIBRARY = "make --no-print-directory --silent -C bindings"
 ROWS = (
     (".ci/uncompiled", "bench/run --try", "bench/power_cuts/check", "tools/check", "examples/launcher --quick"),
     ("examples/check", "examples/sessions", "examples/hostile", "examples/short_of_memory", "examples/launcher", "bindings/check",
-     "bench/designs/measure --try", "bindings/nbdkit/check", "examples/mtd/check"),
+     "bench/designs/measure --try", "bindings/nbdkit/check", "examples/mtd/check", "bindings/tests/machines"),
 )
 
 
@@ -34,7 +34,7 @@ def packages(is_ci):
     """The packages of Debian that the checks need. Each script lists its own; cargo may also come from elsewhere."""
     scripts = ["bindings/check", *(["packaging/installed", "packaging/package"] if is_ci else [])]
     lists = [its for script in scripts for its in re.findall(r"\.ci/needs (.*)", (tree.TOP / script).read_text())]
-    for script in ("bindings/nbdkit/check", "examples/mtd/check"):
+    for script in ("bindings/nbdkit/check", "examples/mtd/check", "bindings/tests/machines"):
         lists += re.findall(r"PACKAGES = \(([^)]*)\)", (tree.TOP / script).read_text())
     lists += re.findall(r"(?:PROGRAMS|MODULES) = \{([^}]*)\}", (tree.TOP / "tools/tests/packages.py").read_text())
     words = {word for its in lists for word in re.findall(r'[\w.+-]+(?=["\s]|$)', re.sub(r'"[^"]*":', "", its))}

@@ -1,21 +1,19 @@
-"""needless CRATE.. | --all | --missing: removes the answers in proofs/ that the check of these crates doesn't need. It checks a copy of each
-crate without any answer: a goal that stays open there needs its answer, and every other answer goes, with the lemmas and imports of its
-file that nothing uses then. But the answer stays at a goal that docs/GALLERY.md names first for a wrong body of the function. In .ci/needed
-it records the answers that each crate has after that. `needless --check` fails if a recorded crate has others, which are to be tried, and
-names the crates that were never tried."""
+"""needless CRATE.. | --all | --missing: removes the answers in proofs/ that the check of these crates doesn't need, with the lemmas and
+imports that nothing uses then: those of which no goal stays open in a copy without any answer. But the answer stays at a goal that
+docs/GALLERY.md names first for a wrong body of the function. In .ci/needed it records the answers that each crate has after that.
+`needless --check` fails if a recorded crate has others, and names the crates that were never tried."""
 
 import hashlib
 import re
 import sys
 
-from gate import gallery, tree
-from gate.twins import in_copies
+from gate import gallery, record, tree
 from gate.wrong_definitions import part_of
 
 ANSWER = re.compile(r"^pub (\S+) : goal\.\S+$", re.M)
-# How the check names the goals that it leaves open: a file of answers to write, and each goal of it.
+# How the check names the goals that it leaves open: a file of answers to write, and each goal of it, whose type may stand on the next line.
 FILE = re.compile(r"help: write \./proofs/(\S+)/Answers\.antt with these lines")
-OPEN = re.compile(r"^\s+pub (\S+) : goal\.")
+OPEN = re.compile(r"^\s+pub (\S+) :(?: goal\.|$)")
 
 
 def files(folder):
@@ -23,10 +21,15 @@ def files(folder):
     return {path.parent.relative_to(folder / "proofs").as_posix(): path for path in sorted(folder.glob("proofs/**/Answers.antt"))}
 
 
-def sum_of(name):
-    """The number of a crate's answers, and a sum of their functions and goals."""
-    its = [(function, goal) for function, path in files(tree.folder(name)).items() for goal in ANSWER.findall(path.read_text())]
-    return f"{len(its)} {hashlib.sha256(repr(its).encode()).hexdigest()}"
+class Needed(record.Record):
+    """The record of the answers that were left when those that the check doesn't need were removed."""
+
+    def having(self):
+        return [name for name in self.used if files(tree.folder(name))]
+
+    def sum_of(self, name):
+        its = [(function, goal) for function, path in files(tree.folder(name)).items() for goal in ANSWER.findall(path.read_text())]
+        return hashlib.sha256(repr(its).encode()).hexdigest()
 
 
 def opened(log):
@@ -54,7 +57,7 @@ def of_edits(name):
     goals = gallery.goals_on_page()
     for path in tree.edits(name):
         for place in gallery.places_of(tree.folder(name), path):
-            yield from ((place and place.name, goal) for goal in goals.get((name, gallery.in_words(path)), [])[:1])
+            yield from ((place and place.name, goal) for goal in re.findall(r"`([\w-]+)`", goals.get((name, gallery.in_words(path)), ""))[:1])
 
 
 def cut(name, needed):
@@ -74,35 +77,15 @@ def cut(name, needed):
     return gone
 
 
-def record():
-    return tree.TOP / ".ci" / "needed"
-
-
-def recorded():
-    return dict(line.split(" ", 1) for line in record().read_text().splitlines()) if record().exists() else {}
-
-
-def lacking():
-    """The crates with answers that were not tried."""
-    return [name for name in tree.crates() if recorded().get(name, "0") != sum_of(name) and files(tree.folder(name))]
-
-
 def main(words):
+    book, status = Needed("needed", "proofs"), 0
     if words == ["--check"]:
-        untried = [name for name in lacking() if name not in recorded()]
-        others = [f"answers of {name} were not tried without: .ci/needless {name}" for name in lacking() if name not in untried]
-        return tree.verdict(others, f"each answer is needed, except in crates that were never tried: {', '.join(untried) or 'none'}")
-    names = {("--all",): list(tree.crates()), ("--missing",): lacking()}.get(tuple(words), words)
-    if not words or not set(names) <= set(tree.crates()):
-        print(__doc__, file=sys.stderr)
-        return 2
-    lost = []
-    for name, (needed, trouble) in zip(names, in_copies(names, tried) if names else ()):
-        if trouble:
-            print(trouble[-2000:], file=sys.stderr)
-            lost.append(name)
-            continue
-        count = sum_of(name).split()[0]
-        print(f"needless {name}: {cut(name, needed)} of {count} answers go", flush=True)
-        record().write_text("".join(f"{it} {its}\n" for it, its in sorted({**recorded(), name: sum_of(name)}.items())))
-    return 1 if lost else 0
+        known, lacking = {name for name, *_ in book.entries()}, book.lacking()
+        others = [f"answers of {name} were not tried without: .ci/needless {name}" for name in lacking if name in known]
+        untried = ", ".join(name for name in lacking if name not in known)
+        return tree.verdict(others, f"each answer is needed, except in crates that were never tried: {untried or 'none'}")
+    names = book.asked(words)
+    for name, (needed, trouble) in zip(names, record.in_copies(names, tried)):
+        print(trouble[-2000:] or f"needless {name}: {cut(name, needed)} answers go", file=sys.stderr if trouble else sys.stdout, flush=True)
+        status |= book.note([(name, book.sum_of(name), not trouble)], "the check can't read {}")
+    return status

@@ -1,14 +1,12 @@
 """promises: checks that what the pages name exists in the sources.
 
-- In each table with the columns Call and Clause, the calls exist, and one of them has each clause.
-- In each table with the columns Play and Lemma, the play, what it tells, the lemma and the call belong to one step. No step is missing.
+- In a table with the columns Call and Clause, the calls exist, and one of them has each clause. In one with the columns Play and Lemma, the
+  play, what it tells, the lemma and the call belong to one step, and no step is missing.
 - Each word in code quotes is a word of the sources. Each link leads somewhere, and each named file exists. A file that a page shows
-  whole is the same as on the page, and so are the lines of crates.txt. Each page names its reader in the first line.
-  No page has two headings with the same text, and README has at most 800 words.
-- A page that uses one of the glossary's words for threads and collection links the glossary there or before.
+  whole is the same as on the page, and so are the lines of crates.txt.
+- A page names its reader in the first line, links the glossary where it first uses a word of it, and has no two headings with the same text.
 - No two files of the crates' specs/ define the same name, but those that the glossary's table lists.
-- The pages name the versions of the toolchain for which the record says that the wrong bodies were refused on the present text.
-  The version that this machine has doesn't matter."""
+- The pages name the versions of the toolchain for which the record says that the wrong bodies were refused on the present text."""
 
 import re
 from functools import cache
@@ -17,7 +15,7 @@ from gate import calls, record, tree
 
 MOST_WORDS = {"README.md": 800}
 PAGES = ["README.md", "docs/PROVED.md", "docs/RULE.md", "docs/LIBRARY.md", "docs/LINKING.md", "docs/GLOSSARY.md", "docs/EXTENDING.md"]
-# The files of these suffixes are sources.
+# The suffixes of sources.
 SOURCES = {".rt", ".antt", ".txt", ".h", ".c", ".cpp", ".rs", ".py", ""}
 # These name the toolchain with which all was proved.
 NAMING = ["README.md", "docs/PROVED.md"]
@@ -26,6 +24,11 @@ CODE = re.compile(r"`([^`]+)`")
 # Words of the glossary that a reader meets first; `pass`, `hold` and `stand` as nouns, or of a thread.
 OF_GLOSSARY = re.compile(r"\b(?:brooms?|a pass|passes|pins?|pinned|a hold|holds a page|drain(?:s|ed)?|fold(?:s|ed)?|meets?|stand)\b")
 PLACES_OF_PAGES = ("*.md", "docs/*.md", "bench/*.md")
+
+
+def text_of(*places):
+    """The texts of all files in these places."""
+    return "".join(path.read_text() for place in places for path in tree.TOP.glob(place))
 
 
 def clauses():
@@ -39,8 +42,8 @@ def clauses():
     return found
 
 
-def cells_of(lines, *wanted):
-    """Each row of the tables with these columns: its line's number, and the texts in these columns."""
+def rows(lines, *wanted):
+    """Each row of the tables with these columns: its line's number, and the words of code in these columns."""
     columns = None
     for number, line in enumerate(lines, 1):
         cells = [cell.strip() for cell in re.split(r"(?<!\\)\|", line)[1:-1]]
@@ -49,12 +52,7 @@ def cells_of(lines, *wanted):
         elif set(wanted) <= set(cells):
             columns = [cells.index(name) for name in wanted]
         elif columns and not cells[0].startswith("---"):
-            yield number, [cells[column] for column in columns]
-
-
-def rows(lines, *wanted):
-    """Each row of the tables with these columns: its line's number, and the words of code in these columns."""
-    yield from ((number, [CODE.findall(cell) for cell in cells]) for number, cells in cells_of(lines, *wanted))
+            yield number, [CODE.findall(cells[column]) for column in columns]
 
 
 def wrong_rows(page, lines, known):
@@ -74,12 +72,10 @@ def wrong_rows(page, lines, known):
 
 def wrong_steps(page, lines):
     """What is wrong with the tables of steps of a page."""
-    told = "".join(path.read_text() for path in tree.TOP.glob("crates/flash_rule/src/*.rt"))
-    laws = "".join(path.read_text() for path in tree.TOP.glob("crates/flash_rule/proofs/*.antt"))
-    made = "".join(path.read_text() for path in tree.TOP.glob("crates/flash_table/src/*.rt"))
-    tells = dict(re.findall(r"impl Play<[^>]*> for (\w+) \{\s*ghost then = \{ (\w+) \}", told))
+    laws = text_of("crates/flash_rule/proofs/*.antt")
+    tells = dict(re.findall(r"impl Play<[^>]*> for (\w+) \{\s*ghost then = \{ (\w+) \}", text_of("crates/flash_rule/src/*.rt")))
     makers = {}
-    for body in re.split(r"\n    (?:pub(?:\(crate\))? )?fn ", made)[1:]:
+    for body in re.split(r"\n    (?:pub(?:\(crate\))? )?fn ", text_of("crates/flash_table/src/*.rt"))[1:]:
         for play in re.findall(r"::<(\w+)>\(", body):
             makers.setdefault(play, set()).add(body.split("(")[0])
     seen = set()
@@ -117,10 +113,9 @@ def twice_defined(lines):
 
 
 def wrong_versions(page, text, recorded):
-    """Which versions of the toolchain a page should name and doesn't, or names and shouldn't."""
-    named = set(VERSION.findall(text))
-    yield from (f"{page}: the record has {it}, which the page doesn't name" for it in sorted(recorded - named))
-    yield from (f"{page}: names {it}, for which the record has no entry of the present text" for it in sorted(named - recorded))
+    """The versions of the toolchain that a page should name and doesn't, or names and shouldn't."""
+    for it in sorted(recorded ^ set(VERSION.findall(text))):
+        yield f"{page}: {it} is {'in the record, and not on the page' if it in recorded else 'on the page, and not in the record'}"
 
 
 def leads(page, link):
@@ -175,8 +170,7 @@ def missing_files(page, number, line):
 @cache
 def words_in(place):
     """The words of the crate of this name, or of the modules of this name."""
-    files = tree.sources(place) if tree.folder(place).is_dir() else tree.TOP.glob(f"crates/*/src/**/{place}.rt")
-    return set(re.findall(r"\w+", "".join(path.read_text() for path in files)))
+    return set(re.findall(r"\w+", text_of(f"crates/{place}/src/**/*.rt" if tree.folder(place).is_dir() else f"crates/*/src/**/{place}.rt")))
 
 
 def wrong_paths(page, number, line):
@@ -188,8 +182,7 @@ def wrong_paths(page, number, line):
 
 
 def main(_):
-    versions = record.Record("refused", "must-fail").versions().values()
-    recorded = {word for its in versions for it in its for word in VERSION.findall(it)}
+    recorded = set(VERSION.findall(str(record.Record("refused", "must-fail").versions().values())))
     glossary = (tree.TOP / "docs/GLOSSARY.md").read_text().splitlines()
     known, known_words, wrong = clauses(), words_of_sources(), [*twice_defined(glossary)]
     for path in (path for place in PLACES_OF_PAGES for path in tree.TOP.glob(place)):

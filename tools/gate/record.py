@@ -1,10 +1,15 @@
-"""The records of what was tried on a crate's present text: .ci/refused, .ci/proved-twins and .ci/goals. Each has lines of a crate, a sum
-of the text that the result depends on, and the version of the toolchain that gave it."""
+"""The records of what was tried on a crate's present text: .ci/refused, .ci/proved-twins and .ci/refused-definitions. Each has lines of a crate,
+a sum of the text that the result depends on, and the version of the toolchain that gave it."""
 
 import hashlib
+import os
+import queue
 import re
 import subprocess
 import sys
+import tempfile
+from concurrent.futures import ThreadPoolExecutor
+from pathlib import Path
 
 from gate import tree
 
@@ -67,6 +72,27 @@ def sum_of_files(folders, more=()):
     return total.hexdigest()
 
 
+def in_copies(names, work):
+    """What `work` returns for each of these crates, given a folder with a copy of it: with as many crates at a time as there are pairs
+    of processors, each in a copy of its own, since a check locks the crates below."""
+    at_once = max(1, min(len(names), len(os.sched_getaffinity(0)) // 2))
+    with tempfile.TemporaryDirectory(prefix="gate-") as top, ThreadPoolExecutor(at_once) as pool:
+        rooms = queue.Queue()
+        for room in (Path(top) / str(number) for number in range(at_once)):
+            room.mkdir()
+            tree.copy_to(room, names, tree.crates())
+            rooms.put(room)
+
+        def worked(name):
+            room = rooms.get()
+            try:
+                return work(room, name)
+            finally:
+                rooms.put(room)
+
+        yield from pool.map(worked, names)
+
+
 class Record:
     """A file of .ci/ with the results for one kind of edits."""
 
@@ -95,6 +121,12 @@ class Record:
     def lacking(self):
         """The crates that have edits and no entry for their present text."""
         return [name for name, its in self.versions().items() if not its]
+
+    def tell(self, said, still):
+        """Prints how many edits have an entry, and the crates that lack one."""
+        lacking = self.lacking()
+        print(f"{sum(len(tree.edits(name, self.kind)) for name in self.having() if name not in lacking)} {said} on the present text")
+        print(f"still to {still} {', '.join(lacking)}\n" if lacking else "", end="")
 
     def asked(self, words):
         """The crates that words ask for: those named, all that have edits of this kind, or those without an entry."""

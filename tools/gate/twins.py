@@ -1,17 +1,9 @@
 """twins CRATE.. | --all | --missing: shows that this machine's toolchain proves the twins of the wrong bodies of these crates, of
-all crates, or of those without an entry. The twin of an edit is in crates/NAME/twins under the edit's name: it changes the same
-place in the same shape, and keeps the meaning of the code. So if the prover refuses the edit, it refuses its meaning. The twins of a
-crate that change different places are put into one copy of the crate, which has to be proved without further changes; those that
-change the same place are put into further copies. For each crate whose copies are all proved it records in .ci/proved-twins a sum of
-the text, and the version of the toolchain. The gate proves what is missing there. `twins --check` fails if a twin has no edit. It
-names the edits without a twin, and the crates whose twins have no entry for the present text."""
+all crates, or of those without an entry. The twins of a crate that change different places are put into one copy of it, which has to be proved
+as it is; those that change the same place are put into further copies. For each crate whose copies are all proved .ci/proved-twins gets an
+entry. `twins --check` fails if a twin has no edit, and names the edits without a twin and the crates without an entry."""
 
-import os
-import queue
 import re
-import tempfile
-from concurrent.futures import ThreadPoolExecutor
-from pathlib import Path
 
 from gate import record, tree
 
@@ -61,27 +53,6 @@ def are_proved(room, name):
     return True
 
 
-def in_copies(names, work):
-    """What `work` returns for each of these crates, given a folder with a copy of it: with as many crates at a time as there are pairs
-    of processors, each in a copy of its own, since a check locks the crates below."""
-    at_once = max(1, min(len(names), len(os.sched_getaffinity(0)) // 2))
-    with tempfile.TemporaryDirectory(prefix="gate-") as top, ThreadPoolExecutor(at_once) as pool:
-        rooms = queue.Queue()
-        for room in (Path(top) / str(number) for number in range(at_once)):
-            room.mkdir()
-            tree.copy_to(room, names, tree.crates())
-            rooms.put(room)
-
-        def worked(name):
-            room = rooms.get()
-            try:
-                return work(room, name)
-            finally:
-                rooms.put(room)
-
-        yield from pool.map(worked, names)
-
-
 def check():
     """Whether each twin has its edit. Names the edits without a twin, and the crates without an entry, which the gate proves later."""
     book = proved_twins()
@@ -92,10 +63,7 @@ def check():
     for name in book.used:
         for it in sorted(names[name, "must-fail"] - names[name, "twins"]):
             print(f"crates/{name}/must-fail/{it} has no twin")
-    missing = book.lacking()
-    print(f"{sum(len(names[name, 'twins']) for name in book.having() if name not in missing)} wrong bodies have a twin that was proved on the present text")
-    if missing:
-        print(f"still to prove: the twins of {', '.join(missing)}")
+    book.tell("wrong bodies have a twin that was proved", "prove: the twins of")
     return 0
 
 
@@ -105,6 +73,6 @@ def main(words):
     book, status = proved_twins(), 0
     names = book.asked(words)
     texts = [(name, book.sum_of(name)) for name in names]
-    for (name, text), well in zip(texts, in_copies(names, are_proved) if names else ()):
+    for (name, text), well in zip(texts, record.in_copies(names, are_proved)):
         status |= book.note([(name, text, well)], "twins of {} were not proved")
     return status

@@ -1,9 +1,8 @@
-"""wrong-bodies CRATE.. | --all: tries the wrong bodies in the must-fail/ of these crates, or of all, with this machine's
-toolchain: `rt ci` in a copy that has these crates and those below them. For each crate whose wrong bodies are all refused it records
-in .ci/refused a sum of the text that the refusals depend on, without comments, and the version of the toolchain. With --all it then
-proves all twins. The gate begins with `wrong-bodies --aside`: for each crate whose present text has an entry, of any version, it moves
-the wrong bodies out of must-fail/. `wrong-bodies --back` puts them back. With a LOG that `rt ci` wrote, it also records what was tried
-there and had no entry."""
+"""wrong-bodies CRATE.. | --all: tries the wrong bodies of these crates, or of all, with this machine's toolchain: `rt ci` in a copy that
+has these crates and those below them. Each crate whose wrong bodies are all refused gets an entry in .ci/refused, and docs/GALLERY.md gets
+the goals that the refusals name. With --all it then proves all twins. The gate begins with `wrong-bodies --aside`: it moves the wrong
+bodies of the crates with an entry, of any version, out of must-fail/. `wrong-bodies --back` puts them back. With a LOG that `rt ci` wrote,
+it also records what was tried there and had no entry."""
 
 import re
 import shutil
@@ -12,11 +11,14 @@ import sys
 import tempfile
 from pathlib import Path
 
-from gate import record, tree, twins
+from gate import gallery, record, tree, twins
 
 # Each run tries the edits of these crates, to show that it can still refuse.
 ALWAYS = ("uses",)
-REFUSED = re.compile(r"rt: must-fail (\w+)/([\w.-]+): refused, as it must be(?!.*says little of the contract)")
+# An edit that is refused, and the goal that is left open: at an answer, or at code without an answer.
+REFUSED = re.compile(
+    r"rt: must-fail (\w+)/([\w.-]+): refused, as it must be(?!.*says little of the contract)(?:.*?(?:\d: error: `|\(`)([\w-]+)`)?"
+)
 
 
 def refused():
@@ -28,9 +30,10 @@ def aside():
     return tree.TOP / ".git/wrong-bodies"
 
 
-def note(names, those):
-    """Records the crates all of whose edits this version refused. Returns 1 if there are others."""
-    book = refused()
+def note(names, found):
+    """Records the crates all of whose edits this version refused, and the goals that it found. Returns 1 if there are others."""
+    book, those = refused(), {its[:2] for its in found}
+    gallery.put(found)
     tried = [(name, book.sum_of(name), all((name, it.name) in those for it in tree.edits(name))) for name in names]
     return book.note(tried, "wrong bodies of {} were not refused")
 
@@ -72,7 +75,7 @@ def put_aside():
 
 
 def refusals(names):
-    """The edits of these crates that a run refuses, each as its crate and its file."""
+    """The edits of these crates that a run refuses, each as its crate, its file and its goal."""
     with tempfile.TemporaryDirectory(prefix="wrong-bodies-") as room:
         tree.copy_to(Path(room), names, tree.crates())
         with subprocess.Popen(["rt", "ci"], cwd=room, stdout=subprocess.PIPE, text=True, errors="replace") as run:
@@ -87,9 +90,10 @@ def note_from(log):
     if (tree.TOP / ".git").is_dir() and not aside().is_dir():
         print("nothing was put aside, so this log doesn't say which wrong bodies were tried", file=sys.stderr)
         return 2
-    untried, those = put_back(), set(REFUSED.findall(Path(log).read_text(errors="replace")))
+    untried, found = put_back(), set(REFUSED.findall(Path(log).read_text(errors="replace")))
+    those = {its[:2] for its in found}
     tried = {name: its for name, its in refused().versions().items() if name not in untried}
-    return note([name for name, its in tried.items() if not its or any((name, it.name) not in those for it in tree.edits(name))], those)
+    return note([name for name, its in tried.items() if not its or any((name, it.name) not in those for it in tree.edits(name))], found)
 
 
 def main(words):

@@ -1,11 +1,9 @@
 """wrong-definitions CRATE.. | --all | --missing | --check: shows that laws refuse the wrong definitions of these crates, of all, or
-of those without an entry. An edit crates/NAME/wrong-definitions/MISDEED.edit names a clause of a law and a definition of the crate,
-and changes a text of it to one that makes it wrong (`new:`) and to one that doesn't change its meaning (`twin:`). The prover reads the
-law again with a copy of the definition for each, all in one run for each crate of laws, in which the crates below are sources of which
-no body is proved. What stands between a law and a definition is copied too. The clause has to stay open with the wrong definition, and
-the whole law has to be proved with the twin: so what refuses the wrong one is not the text of a proof. For each crate whose wrong
-definitions are all refused it records in .ci/refused-definitions a sum of the text, and the version of the toolchain. --check names
-the crates without an entry, and fails if an edit doesn't fit its definition or names no law."""
+of those without an entry. The prover reads the law that an edit names again with a copy of the definition made wrong, and with one that is only
+written otherwise (its twin), all in one run for each crate of laws, in which the crates below are sources of which no body is proved. What
+stands between a law and a definition is copied too. The clause has to stay open with the wrong definition, and the whole law has to be
+proved with the twin. For each crate whose wrong definitions are all refused .ci/refused-definitions gets an entry. --check names the crates
+without one, and fails if an edit doesn't fit its definition or names no law."""
 
 import importlib.machinery
 import importlib.util
@@ -20,6 +18,9 @@ from gate import laws, record, tree
 
 # How a text names a file of specs/ or proofs/: by its crate, its folder and its name.
 NAMED = re.compile(r"\bRattle\.(\w+)\.(specs|proofs)\.(\w+)")
+# An import, and how one of its items names the module that it is of.
+IMPORT = re.compile(r"^((?:pub |ghost )?use )([^\s{}]+)\.\{([^{}]*)\}(;?)$", re.M)
+WITHIN = re.compile(r"((?:\w+\.)*)(\S.*)")
 # The words of a text, and the names that a paragraph defines: of a definition or a lemma, and of the constructors of a type.
 WORD = re.compile(r"[^\s(){}\[\],;.]+")
 DEFINED = re.compile(r"^(?:(?:abbrev |unfoldable )?(?:pub )?(?:record |data )?|  )([^\s:(){}]+)(?= [:({])", re.M)
@@ -40,10 +41,21 @@ def edits(name):
     return [edit_of(path) for path in tree.edits(name, "wrong-definitions")]
 
 
+def by_module(text):
+    """A text in which each import names one module: `use A.B.{c}` in place of `use A.{B.c}`."""
+    def each(it):
+        head, path, items, end = it.groups()
+        modules = {}
+        for within, name in (WITHIN.fullmatch(item).groups() for item in items.split(", ")):
+            modules.setdefault(f"{path}.{within}", []).append(name)
+        return "\n".join(f"{head}{module}{{{', '.join(names)}}}{end}" for module, names in modules.items())
+    return IMPORT.sub(each, text)
+
+
 def sources(used):
     """The files of specs/ and proofs/ that a text may name, each by its crate, its folder and its name, with its text."""
     folders = [(name, folder) for name in used for folder in ("specs", "proofs")]
-    return {(*it, path.stem): path.read_text() for it in folders for path in tree.TOP.joinpath("crates", *it).glob("*.antt")}
+    return {(*it, path.stem): by_module(path.read_text()) for it in folders for path in tree.TOP.joinpath("crates", *it).glob("*.antt")}
 
 
 def place_of(edit, texts):
@@ -64,7 +76,7 @@ def law_of(edit):
     if law is None or f"    ensures {edit.clause} {{" not in law[0]:
         return None
     answers = tree.TOP.joinpath("crates", edit.home, "proofs", *edit.modules, edit.function, "Answers.antt")
-    return "".join(re.findall(r"^ghost use .*\n", text, re.M)), law[0], answers.read_text() if answers.exists() else ""
+    return "".join(re.findall(r"^ghost use .*\n", by_module(text), re.M)), law[0], by_module(answers.read_text()) if answers.exists() else ""
 
 
 def misfits(all_edits, texts):
@@ -220,15 +232,13 @@ class Refused(record.Record):
 
 
 def main(words):
-    book, used = Refused("refused-definitions", "wrong-definitions"), tree.crates()
-    having, lacking = book.having(), book.lacking()
-    wrong = list(misfits([it for name in having for it in edits(name)], sources(used)))
-    print("\n".join(wrong), file=sys.stderr, end="\n" if wrong else "")
-    if wrong or words == ["--check"]:
-        print(f"{sum(len(edits(it)) for it in having if it not in lacking)} wrong definitions were refused on the present text")
-        print(f"still to try: those of {', '.join(lacking)}\n" if lacking else "", end="")
-        return 1 if wrong else 0
+    book = Refused("refused-definitions", "wrong-definitions")
+    if wrong := list(misfits([it for name in book.having() for it in edits(name)], sources(book.used))):
+        return tree.verdict(wrong, "")
+    if words == ["--check"]:
+        book.tell("wrong definitions were refused", "try: those of")
+        return 0
     names = book.asked(words)
     sums = {name: book.sum_of(name) for name in names}
-    lost = faulty(names, used)
+    lost = faulty(names, book.used)
     return book.note([(name, mine, name not in lost) for name, mine in sums.items()], "wrong definitions of {} were not refused")

@@ -14,9 +14,7 @@ PAIRS = (
 )  # fmt: skip
 KINDS = {tuple(pair.encode().split()): kind for kind, pair in enumerate(PAIRS)}
 OPS = {op for op, _ in KINDS}
-READ_DATA, READ_EMPTY, FIRST_WRITE, NEW_WRITTEN, LAST_WRITE, MEET = (PAIRS.index(pair) for pair in (
-    "read data", "read empty", "write empty", "new written", "new full", "meet met",
-))  # fmt: skip
+READ_DATA, READ_EMPTY, FIRST_WRITE, LAST_WRITE, MEET = (PAIRS.index(pair) for pair in ("read data", "read empty", "write empty", "new full", "meet met"))
 # A `new` of a written sector changes nothing.
 DONE = tuple(PAIRS.index(pair) for pair in ("write empty", "write written", "new empty"))
 REFUSED = tuple(PAIRS.index(pair) for pair in ("write worn", "write full", "new worn", "new full"))

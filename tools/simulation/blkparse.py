@@ -15,8 +15,8 @@ EVENT = re.compile(rb"\s*\d+,\d+\s")
 SUMMARY = re.compile(rb"CPU ?\d+ \(|Total \(")
 OPS = {b"R": READ, b"W": WRITE, b"D": TRIM}
 HEAD_FIELDS = 7
-# The events that can be selected: a request is queued, issued to the driver, or complete, which ends with its error.
-QUEUED, ISSUED, COMPLETE = b"Q", b"D", b"C"
+# A request is queued (Q), issued to the driver (D), or complete: such an event ends with its error.
+COMPLETE = b"C"
 
 
 def requests(lines, action):

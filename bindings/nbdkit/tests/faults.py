@@ -37,7 +37,8 @@ REFUSED = [
     (["high=61", "sectors=2400", "blocks=60"], "high=61: the device has 60 blocks"),
     (["blocks=50", "luns=4"], "50 blocks of 262144 bytes: a device has 3 to 4096, at most 1073741824 bytes, and a multiple of luns=4"),
     (["size=64M", "pages=1"], "blocks of 4096 bytes: a device has 3 to 4096"),
-    (["sectors=2400", "blocks=40", "hosts=4"], "40 blocks have 10485760 bytes; 4 handles and 1 brooms keep 1572864 bytes of them (6 blocks), which leaves 8912896 for the 9830400 bytes"),
+    (["sectors=2400", "blocks=40", "hosts=4"], "40 blocks have 10485760 bytes; 4 handles and 1 brooms keep 1572864 bytes of them "
+     "(6 blocks), which leaves 8912896 for the 9830400 bytes"),
     (["worn=never"], "worn=never: it is enospc, eio or readonly"),
     (["warn=101"], "warn=101: it is 0 to 100"),
     (["age=1001"], "age=1001: it is 0 to 1000"),
@@ -174,6 +175,7 @@ def wrong_plugins(shop, parts):
         found = told and re.search(edit.why, told)
         if not found:
             failed.append(edit.name)
-        print(f"nbdkit:   {edit.name}: {f'refused: {found[0][:160]}' if found else f'NOT REFUSED for {edit.why!r}, but: {told[:1000]}' if told else 'NOT REFUSED'}", flush=True)
+        other = f"NOT REFUSED for {edit.why!r}, but: {told[:1000]}" if told else "NOT REFUSED"
+        print(f"nbdkit:   {edit.name}: {f'refused: {found[0][:160]}' if found else other}", flush=True)
     want(not failed, f"not refused for their reasons: {', '.join(failed)}")
     return f"{len(edits)} wrong plugins refused, each for its reason"

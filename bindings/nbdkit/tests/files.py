@@ -156,7 +156,8 @@ def run_lines(shop, lines, wanted):
             shop.end_all()
         want(wanted in printed, printed)
         want(not flash.exists(), "the page's lines leave something behind")
-    return f"{len(lines)} lines, {'as a user without rights' if user else 'as the user of the check, since not everybody may use /dev/fuse' if os.geteuid() == 0 else 'without root'}"
+    other = "as the user of the check, since not everybody may use /dev/fuse" if os.geteuid() == 0 else "without root"
+    return f"{len(lines)} lines, {'as a user without rights' if user else other}"
 
 
 def as_nobody():

@@ -22,7 +22,8 @@ def build(shop):
     """The plugin, also under the sanitizers, its page, and the clients."""
     shop.run(["make", "-s", "-C", HERE], 120)
     for kind in ("address", "thread"):
-        shop.run(["make", "-s", "-C", HERE, f"OUT=out/{kind}", f"CFLAGS=-O1 -g -fno-omit-frame-pointer -fsanitize={kind}", f"out/{kind}/nbdkit-mintlintel-plugin.so"], 120)
+        flags = f"CFLAGS=-O1 -g -fno-omit-frame-pointer -fsanitize={kind}"
+        shop.run(["make", "-s", "-C", HERE, f"OUT=out/{kind}", flags, f"out/{kind}/nbdkit-mintlintel-plugin.so"], 120)
     clients = HERE / "out/clients"
     clients.mkdir(parents=True, exist_ok=True)
     strict = ["gcc", "-std=gnu11", "-O2", "-Wall", "-Wextra", "-Werror"]
@@ -144,7 +145,8 @@ def by_qemu_io(shop, server):
 @on_aged
 def a_map_of_holes(shop, server):
     """The holes are the sectors that were trimmed, and no others."""
-    shop.run(["qemu-io", "-f", "raw", "-c", "write -P 1 0 48M", "-c", "discard 4M 1M", "-c", "discard 6M 4k", "-c", "write 4200k 4k", "-c", "discard 4400500 5000", "-c", "write -z -u 4500100 50", server.uri])
+    commands = ("write -P 1 0 48M", "discard 4M 1M", "discard 6M 4k", "write 4200k 4k", "discard 4400500 5000", "write -z -u 4500100 50")
+    shop.run(["qemu-io", "-f", "raw", *(word for it in commands for word in ("-c", it)), server.uri])
     holes, others = [], []
     with loaded(shop, server):
         printed = shop.run(["nbdinfo", "--map", server.uri])
@@ -232,7 +234,8 @@ def broken_clients(shop, brooms=1):
 def broken_off(shop, server, seed):
     age(shop, server)
     half = kibibytes(shop, server) // 2
-    own = shop.start(["fio", "--name=own", "--thread", "--ioengine=nbd", f"--uri={server.uri}", "--rw=randwrite", "--bs=4k", "--numjobs=4", f"--size={half // 4}k",
+    own = shop.start(["fio", "--name=own", "--thread", "--ioengine=nbd", f"--uri={server.uri}", "--rw=randwrite", "--bs=4k",
+                      "--numjobs=4", f"--size={half // 4}k",
                       f"--offset_increment={half // 4}k", "--iodepth=16", "--io_size=60m", "--norandommap", "--random_distribution=zipf:0.9",
                       "--serialize_overlap=1", "--verify=crc32c", "--verify_fatal=1"], shop.folder / "own")
     rounds = beside = 0
@@ -256,7 +259,8 @@ def other_pages(shop):
         info = shop.run(["nbdinfo", server.uri])
         want((f"block_size_preferred: {page}" in info) == preferred, info)
         with copying(server, f"pages of {page} bytes"):
-            fio(shop, server, "odd", rw="randwrite", size=size, bsrange="512-6k", bs_unaligned=1, blockalign=512, iodepth=16, serialize_overlap=1, io_size="12m",
+            fio(shop, server, "odd", rw="randwrite", size=size, bsrange="512-6k", bs_unaligned=1, blockalign=512, iodepth=16,
+                serialize_overlap=1, io_size="12m",
                 verify="crc32c", **ZIPF)
         server.stop()
     return "8, 1000 and 512 bytes"
@@ -373,7 +377,8 @@ def worn_out_by_fio(shop, brooms, pattern):
     server = Server(shop, "sectors=2400", "blocks=60", "hosts=4", f"brooms={brooms}", "endurance=10")
     fio(shop, server, "fill", rw="write", bs="4k", size="9600k", iodepth=4, verify="crc32c", do_verify=0)
     printed = shop.run(["fio", "--name=wear", "--thread", "--ioengine=nbd", f"--uri={server.uri}", "--rw=randwrite", "--bs=4k", "--size=9600k", "--iodepth=4",
-                        "--io_size=2g", "--norandommap", f"--random_distribution={pattern}", "--verify=crc32c", "--do_verify=0", "--serialize_overlap=1"], status=1)
+                        "--io_size=2g", "--norandommap", f"--random_distribution={pattern}",
+                         "--verify=crc32c", "--do_verify=0", "--serialize_overlap=1"], status=1)
     want("No space left on device" in printed, printed[-2000:])
     fio(shop, server, "read", rw="read", bs="4k", size="9600k", iodepth=4, verify="crc32c")
     counts = server.stop()
@@ -392,7 +397,8 @@ def sanitized(shop, kind):
     """All kinds of requests on a plugin under a sanitizer, while counts are written."""
     server = Server(shop, "size=8M", "spare=4", "hosts=3", "brooms=2", f"part={images.fast_part(shop)}", kind=kind)
     with copying(server, "fio"):
-        load = shop.start(["fio", "--name=load", "--thread", "--ioengine=nbd", f"--uri={server.uri}", "--rw=randwrite", "--bsrange=512-16k", "--bs_unaligned=1", "--blockalign=512",
+        load = shop.start(["fio", "--name=load", "--thread", "--ioengine=nbd", f"--uri={server.uri}", "--rw=randwrite",
+                           "--bsrange=512-16k", "--bs_unaligned=1", "--blockalign=512",
                            "--size=2m", "--offset_increment=2m", "--numjobs=4", "--iodepth=16", f"--io_size={shop.scaled(12, 100)}m", "--norandommap",
                            "--random_distribution=zipf:0.9", "--serialize_overlap=1", "--verify=crc32c", "--verify_fatal=1"], shop.folder / "load")
         while load.poll() is None:

@@ -234,7 +234,8 @@ class Server:
             time.sleep(0.005)
 
     def settle(self):
-        """Waits until no connection is left, so that all is done that a killed client had sent: each has a thread of its own, beside that of the server, of the counts, of each broom, and of ThreadSanitizer."""
+        """Waits until no connection is left, so that all is done that a killed client had sent: each has a thread of its own, beside that of
+        the server, of the counts, of each broom, and of ThreadSanitizer."""
         others = 2 + self.counts().brooms + (self.kind == "thread")
         self.wait_until(lambda: len(os.listdir(f"/proc/{self.process.pid}/task")) <= others, 60, "end its connections")
 
@@ -280,7 +281,8 @@ def copying(server, what):
 def loaded(shop, server, offset="40m", size="8m"):
     """Random writes to a part of the device, so that brooms collect while a client does nothing."""
     log = shop.folder / "background"
-    load = shop.start(["fio", "--name=load", "--thread", "--ioengine=nbd", f"--uri={server.uri}", "--rw=randwrite", "--bs=4k", f"--offset={offset}", f"--size={size}",
+    load = shop.start(["fio", "--name=load", "--thread", "--ioengine=nbd", f"--uri={server.uri}", "--rw=randwrite", "--bs=4k",
+                       f"--offset={offset}", f"--size={size}",
                        "--iodepth=4", "--time_based", "--runtime=600", "--norandommap"], log)
     copies = server.counts().copies
     server.wait_until(lambda: server.counts().copies > copies, 30, "copy anything under it")

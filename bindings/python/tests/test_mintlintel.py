@@ -73,7 +73,10 @@ class OneThread(unittest.TestCase):
     def test_refuses_numbers_beyond_32_bits(self):
         for name, text in [("luns", "luns"), ("blocks", "blocks"), ("pages", "pages"), ("words", "words"), ("sectors", "sectors"), ("endurance", "endurance")]:
             for number in (2**32 + NUMBERS.get(name, 1), 2**64 + 1, -1, -(2**32) + 1):
-                for opened in (lambda: mintlintel.Device(**{**NUMBERS, name: number}), lambda: mintlintel.SharedDevice(hosts=1, brooms=1, **{**SHARED, name: number})):
+                for opened in (
+                    lambda: mintlintel.Device(**{**NUMBERS, name: number}),
+                    lambda: mintlintel.SharedDevice(hosts=1, brooms=1, **{**SHARED, name: number}),
+                ):
                     with self.assertRaisesRegex(mintlintel.BadNumbers, f"^{text} out of range: "):
                         opened()
         with self.assertRaises(TypeError):
@@ -185,7 +188,8 @@ class OneThread(unittest.TestCase):
 
     def test_reads_and_writes_buffers_in_place(self):
         with mintlintel.Device(**NUMBERS) as device:
-            for sector, written in enumerate([bytes(16), bytearray(range(16)), memoryview(bytes(range(16, 32))), array.array("Q", [5, 6]), memoryview(bytearray(64))[8:24]]):
+            views = [memoryview(bytes(range(16, 32))), array.array("Q", [5, 6]), memoryview(bytearray(64))[8:24]]
+            for sector, written in enumerate([bytes(16), bytearray(range(16)), *views]):
                 device.write(sector, written)
                 for out in [bytearray(16), array.array("Q", [9, 9]), memoryview(bytearray(16))]:
                     self.assertTrue(device.read_into(sector, out))
@@ -304,7 +308,8 @@ class Shared(unittest.TestCase):
             host = device.hosts[0]
             host.write(5, page(5))
             calls = [
-                lambda: host.read(5), lambda: host.look(5), lambda: host.read_into(5, bytearray(16)), lambda: host.write(5, page(5)), lambda: host.write_new(5, page(5)),
+                lambda: host.read(5), lambda: host.look(5), lambda: host.read_into(5, bytearray(16)),
+                lambda: host.write(5, page(5)), lambda: host.write_new(5, page(5)),
                 lambda: host.hold(5) is not None, lambda: host.trim(5),
             ]
             for call in calls:

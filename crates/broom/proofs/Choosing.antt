@@ -1,29 +1,17 @@
 -- A survey as a whole, and the choice by it.
-use Rattle.std.proofs.Common.{◌≡◌, ℕ, ◌<◌, Bool, false, true, All, List, [], ◌∷◌, ◌++◌, length, Option, None, Some}
-use Rattle.std.proofs.Common.{IfSome, MatchOption, refl, sym, ap, ◌∙◌, subst, arith, get_or}
-use Rattle.std.proofs.lemmas.List.{get_or_past, length-map}
-use Rattle.geometry.proofs.GreedyLemmas.{greedy_of-closed}
-use Rattle.std.proofs.lemmas.List.FromFn.{get_or-map-range_with_len}
+use Rattle.std.proofs.Common.{◌≡◌, ℕ, ◌<◌, Bool, false, true, All, List, [], ◌∷◌, ◌++◌, length, Option, None, Some, IfSome, MatchOption, refl, sym, ap, ◌∙◌}
+use Rattle.std.proofs.Common.{subst, arith, get_or}
+use Rattle.std.proofs.lemmas.List.{get_or_past, length-map, FromFn.get_or-map-range_with_len}
+use Rattle.geometry.proofs.{GreedyLemmas.greedy_of-closed, Histories.Begins-refl}
 use mathlib.Core.Logic.{dite}
 use native.Mathlib.Decide.{dec_lt}
-use Rattle.geometry.specs.Geometry.{blocks_of}
-use Rattle.geometry.specs.Greedy.{greedy_of, IsClosed}
-use Rattle.geometry.specs.History.{Call, Begins}
-use Rattle.geometry.specs.Limits.{Numbers}
-use Rattle.geometry.specs.declared.pin_word.PinWord.{PinWord}
-use Rattle.geometry.proofs.Histories.{Begins-refl}
-use Rattle.flash_rule.specs.declared.facts.Name.{Name}
-use Rattle.flash_rule.specs.declared.facts.Source.{Source}
-use Rattle.flash_rule.specs.declared.facts.Work.{Work}
-use Rattle.flash_rule.specs.declared.view.View.{View}
-use Rattle.flash_rule.specs.Views.{AreOfHosts}
-use Rattle.flash_table.specs.declared.flash.Flash.{Flash}
-use Rattle.flash_table.specs.declared.broom_seat.BroomBlocks.{BroomBlocks}
-use Rattle.flash_table.specs.declared.broom_seat.BroomSeat.{BroomSeat}
+use Rattle.geometry.specs.{Geometry.blocks_of, Limits.Numbers, declared.pin_word.PinWord.PinWord}
+use Rattle.geometry.specs.{Greedy.greedy_of, Greedy.IsClosed, History.Call, History.Begins}
+use Rattle.flash_rule.specs.{declared.facts.Name.Name, declared.facts.Work.Work, declared.facts.Source.Source, declared.view.View.View, Views.AreOfHosts}
+use Rattle.flash_table.specs.declared.{flash.Flash.Flash, broom_seat.BroomBlocks.BroomBlocks, broom_seat.BroomSeat.BroomSeat}
 use Rattle.flash_table.specs.Flash.{IsBroomOf, broom_view, own_blocks, geometry_of, device}
-use Rattle.broom.specs.declared.broom.Broom.{Broom}
+use Rattle.broom.specs.{declared.broom.Broom.Broom, Ready.IsInRange, Ready.IsRested, Ready.IsReady, Ready.view_of_broom}
 use Rattle.broom.specs.Survey.{Survey, GainsNothing, live_pages, victim_of, loads_of, looks_of, is_closed, closed_of}
-use Rattle.broom.specs.Ready.{IsInRange, IsRested, IsReady, view_of_broom}
 use Rattle.broom.specs.Told.{Surveyed, GainedNothing, LeftSurvey, GainsNothingNext, IsNext, next_of}
 use Rattle.broom.specs.Surveying.{StatesLoaded, PagesCounted, Chosen, ChoseNone, Chooses}
 

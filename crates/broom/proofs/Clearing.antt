@@ -1,35 +1,20 @@
 -- The steps around a copy: the spare becomes the destination, the map word is moved, and a full destination is closed.
-use Rattle.std.proofs.Common.{◌≡◌, ℕ, ◌+◌, ◌-◌, ◌<◌, ◌≤◌, Bool, true, false, MatchBool, ◌⊎◌, inl, inr, ⊎_elim, List, [], ◌∷◌, ◌++◌}
-use Rattle.std.proofs.Common.{length, append-nil, append_assoc, Option, None, Some, sym, refl, ap, ◌∙◌, subst, arith}
-use Rattle.geometry.specs.Geometry.{pages_of}
-use Rattle.geometry.specs.History.{Begins, Call}
-use Rattle.geometry.specs.Limits.{Numbers}
-use Rattle.geometry.specs.MapWords.{FitsMap, map_word}
-use Rattle.geometry.specs.declared.map_word.MapWord.{MapWord}
+use Rattle.std.proofs.Common.{◌≡◌, ℕ, ◌+◌, ◌-◌, ◌<◌, ◌≤◌, Bool, true, false, MatchBool, ◌⊎◌, inl, inr, ⊎_elim, List, [], ◌∷◌, ◌++◌, length, append-nil}
+use Rattle.std.proofs.Common.{append_assoc, Option, None, Some, sym, refl, ap, ◌∙◌, subst, arith}
+use Rattle.geometry.specs.{Geometry.pages_of, Limits.Numbers}
+use Rattle.geometry.specs.{MapWords.FitsMap, MapWords.map_word, declared.map_word.MapWord.MapWord}
 use Rattle.geometry.proofs.Histories.{Begins-refl}
-use Rattle.flash_rule.specs.declared.facts.Owned.{Owned}
-use Rattle.flash_rule.specs.declared.facts.Source.{Source}
-use Rattle.flash_rule.specs.declared.facts.Work.{Work}
-use Rattle.flash_rule.specs.declared.view.View.{View}
-use Rattle.flash_rule.specs.Views.{AreOfHosts, owned_at}
-use Rattle.flash_rule.specs.Plays.{CanClose, next_page}
-use Rattle.flash_rule.specs.BroomPlays.{Moved}
-use Rattle.flash_rule.proofs.Owning.{some_same, none_some}
-use Rattle.flash_rule.proofs.Points.{eq_self}
-use Rattle.flash_table.specs.declared.flash.Flash.{Flash}
-use Rattle.flash_table.specs.declared.pass.OpenBlock.{OpenBlock}
-use Rattle.flash_table.specs.declared.broom_seat.BroomBlocks.{BroomBlocks}
-use Rattle.flash_table.specs.declared.broom_seat.BroomSeat.{BroomSeat}
-use Rattle.flash_table.specs.declared.broom_seat.ReclaimedBlock.{ReclaimedBlock}
-use Rattle.flash_table.specs.declared.broom_seat.Reclaiming.TheVariants.{Draining}
-use Rattle.flash_table.specs.Owning.{owned_of, closed_as}
+use Rattle.flash_rule.specs.declared.{facts.Owned.Owned, facts.Work.Work, facts.Source.Source, view.View.View}
+use Rattle.flash_rule.specs.{Views.AreOfHosts, Plays.next_page, BroomPlays.Moved}
+use Rattle.flash_rule.proofs.{Owning.some_same, Owning.none_some, Points.eq_self}
+use Rattle.flash_table.specs.{declared.flash.Flash.Flash, declared.pass.OpenBlock.OpenBlock, Owning.owned_of, Owning.closed_as}
+use Rattle.flash_table.specs.declared.broom_seat.{BroomBlocks.BroomBlocks, BroomSeat.BroomSeat, ReclaimedBlock.ReclaimedBlock, Reclaiming.TheVariants.Draining}
 use Rattle.flash_table.specs.Flash.{IsBroomOf, broom_view, own_blocks, geometry_of}
-use Rattle.flash_table.proofs.Blocks.{destination_at}
-use Rattle.broom.specs.Ready.{HasRoom, IsFiled}
+use Rattle.broom.specs.Ready.{HasRoom}
 use Rattle.broom.specs.Relocating.{IsSweeping, Sweeps, Relocated, FoundDead, FoundLive, Opened, Copied, Tidied, Cleared, room_in, room_left}
 use Rattle.broom.specs.Emptying.{Programmed, Emptied, victim_page, page_at, pages_left, pages_to_fill, filled_by, count_if}
 use Rattle.broom.proofs.Emptying.{pages_more, pages_full, filled_then, filled_last, filled_none, programmed_none, programmed_one, emptied_none, emptied_more}
-use Rattle.broom.proofs.Sweeping.{relocated_none, relocated_then, sweeps_on}
+use Rattle.broom.proofs.Sweeping.{relocated_as, relocated_none, relocated_then, sweeps_on}
 
 -- ---- the destination is opened
 some_or_none : (o : Option OpenBlock) → ((p : OpenBlock) × (o ≡ Some p)) ⊎ (o ≡ None)
@@ -135,72 +120,26 @@ module _ (v w : View) (x : Source) (n : ℕ) (moved : Bool) (told : Moved v x n 
     by_outcome false other = told.failed other ∙ (omega arith)
 
   pub moved_went : Relocated v (count_if moved) w
-  moved_went =
-      let e = told.changed in
-      record {
-        changed = e
-            ∙ (λ i. record v {
-              seen = w.seen;
-              named = (sym e i).named;
-              owns = (sym e i).owns;
-              work = (sym e i).work;
-              programs = (sym e i).programs;
-              cleared = (sym e i).cleared;
-              source = (sym e i).source;
-              moves = moves_are i;
-              ceded = (sym e i).ceded;
-            });
-        later = told.later;
-        named = subst (λ (l : List (ℕ × ℕ)). Begins v.named l) (sym (ap (λ (y : View). y.named) e)) (Begins-refl v.named);
-        programmed = subst (λ (l : List MapWord). Begins v.programs l) (sym (ap (λ (y : View). y.programs) e)) (Begins-refl v.programs);
-      }
+  moved_went = relocated_as v (record v { seen = w.seen; source = None; cleared = v.cleared + 1 }) w (count_if moved) w.moves moves_are told.changed
+      told.later (Begins-refl v.named) (Begins-refl v.programs)
 
   pub moved_callers : AreOfHosts w.numbers w.seen
   moved_callers = subst (λ (z : Numbers). AreOfHosts z w.seen) (sym (ap (λ (y : View). y.numbers) told.changed)) told.callers
 
 -- ---- a full destination is closed
 module _ (f : Flash) (s : BroomSeat) (o : OpenBlock) (is : (own_blocks s).destination ≡ Some o) where
-  pub close_can : IsFiled (broom_view s) (own_blocks s) → CanClose (broom_view s) (owned_of o)
-  close_can filed =
-      let here = destination_at (own_blocks s) (broom_view s).owns s.owns in
-      record {
-        own = here o is;
-        opened = refl;
-        settled = λ w e work own.
-            let t = filed w work in
-            let same : owned_of t.0 ≡ e = some_same (owned_of t.0) e (sym (here t.0 t.1) ∙ (ap (λ b. owned_at b (broom_view s).owns) (sym t.2) ∙ own)) in
-            let low = t.3 in
-            let written : t.0.written ≡ e.written = ap (λ (x : Owned). x.written) same in omega arith;
-      }
-
   module _ (t : BroomSeat) (owns : List Owned)
       (told : broom_view t ≡ record (broom_view s) { owns = owns; work = None; ceded = (broom_view s).ceded ++ closed_as o ∷ [] })
       (blocks : own_blocks t ≡ record (own_blocks s) { destination = None }) (full : o.written ≡ pages_of (geometry_of f)) where
     pub closed_tidied : Tidied (pages_of (geometry_of f)) (broom_view s) (own_blocks s) (broom_view t) (own_blocks t)
     closed_tidied =
         let v = broom_view s in
-        let none : v.moves ≡ v.moves + 0 = omega arith in
         let e = told in
         let used : room_in (pages_of (geometry_of f)) (own_blocks s).destination ≡ pages_of (geometry_of f) - o.written =
         ap (room_in (pages_of (geometry_of f))) is in
         record {
-          went = record {
-            changed = e
-                ∙ (λ i. record v {
-                  seen = (sym e i).seen;
-                  named = (sym e i).named;
-                  owns = (sym e i).owns;
-                  work = (sym e i).work;
-                  programs = (sym e i).programs;
-                  cleared = (sym e i).cleared;
-                  source = (sym e i).source;
-                  moves = none i;
-                  ceded = (sym e i).ceded;
-                });
-            later = subst (λ (l : List Call). Begins v.seen l) (sym (ap (λ (x : View). x.seen) e)) (Begins-refl v.seen);
-            named = subst (λ (l : List (ℕ × ℕ)). Begins v.named l) (sym (ap (λ (x : View). x.named) e)) (Begins-refl v.named);
-            programmed = subst (λ (l : List MapWord). Begins v.programs l) (sym (ap (λ (x : View). x.programs) e)) (Begins-refl v.programs);
-          };
+          went = relocated_as v (record v { owns = owns; work = None; ceded = v.ceded ++ closed_as o ∷ [] }) (broom_view t) 0 v.moves (omega arith) e
+              (Begins-refl v.seen) (Begins-refl v.named) (Begins-refl v.programs);
           cleared = ap (λ (x : View). x.cleared) e;
           source = ap (λ (x : View). x.source) e;
           room = ap (room_left (pages_of (geometry_of f))) blocks ∙ (omega arith);

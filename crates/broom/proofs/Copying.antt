@@ -1,35 +1,21 @@
 -- A page is copied: its words are put in order into the next page of the destination, with the stamp behind them, and the page is counted.
-use Rattle.std.proofs.Common.{◌≡◌, ◌≢◌, ℕ, ◌+◌, ◌-◌, ◌<◌, ◌≤◌, eq-eqb, ne_eqb, List, [], ◌∷◌, ◌++◌, length, Option}
-use Rattle.std.proofs.Common.{None, Some, sym, refl, ap, ◌∙◌, subst, arith, length-append}
-use Rattle.std.proofs.Math.ListN.{get_or, get_or-append}
-use Rattle.std.proofs.lemmas.List.{get_or-append_right}
+use Rattle.broom.proofs.Sweeping.{relocated_as}
+use Rattle.std.proofs.Common.{◌≡◌, ◌≢◌, ℕ, ◌+◌, ◌-◌, ◌<◌, ◌≤◌, eq-eqb, ne_eqb, List, [], ◌∷◌, ◌++◌, length, Option, None, Some, sym, refl, ap, ◌∙◌, subst}
+use Rattle.std.proofs.Common.{arith, length-append}
+use Rattle.std.proofs.{Math.ListN.get_or, Math.ListN.get_or-append, lemmas.List.get_or-append_right}
 use mathlib.Core.Logic.{dite}
 use native.Mathlib.Decide.{ℕ_discrete}
-use Rattle.geometry.specs.Geometry.{pages_of, words_of}
-use Rattle.geometry.specs.History.{Begins, Call}
-use Rattle.geometry.specs.Limits.{Numbers}
-use Rattle.geometry.specs.declared.map_word.MapWord.{MapWord}
+use Rattle.geometry.specs.{Geometry.pages_of, Geometry.words_of, declared.map_word.MapWord.MapWord, Limits.Numbers}
 use Rattle.geometry.proofs.Histories.{Begins-refl, Begins-push}
-use Rattle.flash_rule.specs.declared.facts.Owned.{Owned}
-use Rattle.flash_rule.specs.declared.facts.Source.{Source}
-use Rattle.flash_rule.specs.declared.facts.Work.{Work}
-use Rattle.flash_rule.specs.declared.view.View.{View}
-use Rattle.flash_rule.specs.Views.{AreOfHosts, owned_at, with_owned}
-use Rattle.flash_rule.specs.World.{data_word}
-use Rattle.flash_rule.specs.Rule.{IsValue}
+use Rattle.flash_rule.specs.declared.{facts.Owned.Owned, facts.Work.Work, facts.Source.Source, view.View.View}
+use Rattle.flash_rule.specs.{Views.AreOfHosts, Views.owned_at, Views.with_owned, World.data_word, Rule.IsValue}
 use Rattle.flash_rule.specs.Plays.{CanPut, CanCount, words_in, next_page}
-use Rattle.flash_rule.proofs.Owning.{some_same, with_here}
-use Rattle.flash_rule.proofs.Points.{eq_self}
-use Rattle.flash_table.specs.declared.flash.Flash.{Flash}
-use Rattle.flash_table.specs.declared.pass.OpenBlock.{OpenBlock}
-use Rattle.flash_table.specs.declared.broom_seat.BroomBlocks.{BroomBlocks}
-use Rattle.flash_table.specs.declared.broom_seat.BroomSeat.{BroomSeat}
-use Rattle.flash_table.specs.declared.broom_seat.ReclaimedBlock.{ReclaimedBlock}
-use Rattle.flash_table.specs.Owning.{owned_of}
+use Rattle.flash_rule.proofs.{Owning.some_same, Owning.with_here, Points.eq_self}
+use Rattle.flash_table.specs.{declared.flash.Flash.Flash, declared.pass.OpenBlock.OpenBlock, Owning.owned_of}
+use Rattle.flash_table.specs.declared.broom_seat.{BroomBlocks.BroomBlocks, BroomSeat.BroomSeat, ReclaimedBlock.ReclaimedBlock}
 use Rattle.flash_table.specs.Flash.{IsBroomOf, broom_view, own_blocks, geometry_of, device}
 use Rattle.flash_table.proofs.Blocks.{destination_at}
-use Rattle.broom.specs.Ready.{HasRoom, IsFiled}
-use Rattle.broom.specs.Relocating.{IsSweeping, Sweeps, Relocated, Copied}
+use Rattle.broom.specs.{Ready.HasRoom, Ready.IsFiled, Relocating.IsSweeping, Relocating.Sweeps, Relocating.Relocated, Relocating.Copied}
 
 -- ---- the words of a page
 words_none : (d : Option Work) (o : Owned) → ((x : Work) → d ≡ Some x → x.page.block ≡ o.block → x.page.page < o.written) → words_in d o ≡ []
@@ -93,7 +79,7 @@ filling_can f v y o value k s h room low =
     let words : (broom_view s).numbers.words ≡ (device f).words = ap (λ (z : Numbers). z.words) h.seat.numbers in
     let long = h.long in
     record {
-      own = destination_at (own_blocks s) (broom_view s).owns s.owns o (ap (λ (x : BroomBlocks). x.destination) h.kept ∙ h.opened);
+      own = destination_at (own_blocks s) s.owns (ap (λ (x : BroomBlocks). x.destination) h.kept ∙ h.opened);
       opened = refl;
       room = omega arith;
       short = omega arith;
@@ -145,7 +131,7 @@ module _ (f : Flash) (v : View) (y : BroomBlocks) (o : OpenBlock) (value : List 
       let theirs : (broom_view t).numbers.words ≡ v.numbers.words = ap (λ (w : View). w.numbers.words) told ∙ ap (λ (w : View). w.numbers.words) h.changed in
       let long = h.long in
       record {
-        own = destination_at (own_blocks t) (broom_view t).owns t.owns o (ap (λ (x : BroomBlocks). x.destination) (blocks ∙ h.kept) ∙ h.opened);
+        own = destination_at (own_blocks t) t.owns (ap (λ (x : BroomBlocks). x.destination) (blocks ∙ h.kept) ∙ h.opened);
         opened = refl;
         is = ap (λ (w : View). w.work) told;
         page = refl;
@@ -173,27 +159,10 @@ module _ (f : Flash) (v : View) (y : BroomBlocks) (o : OpenBlock) (value : List 
 
     went : Relocated v 0 (broom_view r)
     went =
-        let w = broom_view r in
-        let e = all in
-        let none : v.moves ≡ v.moves + 0 = omega arith in
-        record {
-          changed = e
-              ∙ (λ i. record v {
-                seen = (sym e i).seen;
-                named = (sym e i).named;
-                owns = (sym e i).owns;
-                work = (sym e i).work;
-                programs = (sym e i).programs;
-                cleared = (sym e i).cleared;
-                source = (sym e i).source;
-                moves = none i;
-                ceded = (sym e i).ceded;
-              });
-          later = subst (λ (l : List Call). Begins v.seen l) (sym (ap (λ (x : View). x.seen) e)) (Begins-refl v.seen);
-          named = subst (λ (l : List (ℕ × ℕ)). Begins v.named l) (sym (ap (λ (x : View). x.named) e)) (Begins-refl v.named);
-          programmed = subst (λ (l : List MapWord). Begins v.programs l) (sym (ap (λ (x : View). x.programs) e))
-              (Begins-push v.programs (next_page (owned_of o)));
-        }
+        let page = next_page (owned_of o) in
+        let owned : Owned = owned_of (record o { written = o.written + 1 }) in
+        let x : View = record v { work = Some work; programs = v.programs ++ page ∷ []; owns = with_owned owned v.owns } in
+        relocated_as v x (broom_view r) 0 v.moves (omega arith) all (Begins-refl v.seen) (Begins-refl v.named) (Begins-push v.programs page)
 
     pub copied : (x : Source) → v.source ≡ Some x → x.value ≡ Some value → x.stamp ≡ stamp → IsValue v.numbers value
         → Copied v o x (next_page (owned_of o)) (broom_view r)

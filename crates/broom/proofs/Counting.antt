@@ -1,32 +1,20 @@
 -- The second part of a survey: the sectors are looked at, one after the other, and the live pages of each block are counted.
-use Rattle.std.proofs.Common.{◌≡◌, ◌≢◌, ℕ, zero, suc, ◌+◌, ◌<◌, ◌≤◌, eq-eqb, ne_eqb, false, true, cond, All, List, [], ◌∷◌, ◌++◌}
-use Rattle.std.proofs.Common.{length, map, Option, None, Some, IfSome, sym, refl, ap, ◌∙◌, subst, arith, append_assoc, append-nil}
-use Rattle.std.proofs.Common.{length-append, set, get_or, replicate, get_or-set_same, get_or-set_other}
+use Rattle.std.proofs.Common.{◌≡◌, ◌≢◌, ℕ, zero, suc, ◌+◌, ◌<◌, ◌≤◌, eq-eqb, ne_eqb, false, true, cond, All, List, [], ◌∷◌, ◌++◌, length, map, Option, None}
+use Rattle.std.proofs.Common.{Some, IfSome, sym, refl, ap, ◌∙◌, subst, arith, append_assoc, append-nil, length-append, set, get_or, replicate, get_or-set_same}
+use Rattle.std.proofs.Common.{get_or-set_other}
 use Rattle.std.specs.List.{enumerate_from, count_by}
-use Rattle.std.proofs.lemmas.List.{map-append, length-map, get_or-map, get_or_past}
-use Rattle.std.proofs.lemmas.List.Elements.{All-nil, All-push}
-use Rattle.std.proofs.lemmas.List.FromFn.{fill_by_all}
-use Rattle.std.proofs.lemmas.List.Sums.{sum_by_push, count_by-le-length}
+use Rattle.std.proofs.lemmas.List.{map-append, length-map, get_or-map, get_or_past, Sums.sum_by_push, Sums.count_by-le-length}
+use Rattle.std.proofs.lemmas.List.{Elements.All-nil, Elements.All-push, FromFn.fill_by_all}
 use mathlib.Core.Logic.{dite}
 use native.Mathlib.Decide.{ℕ_discrete}
-use Rattle.geometry.specs.History.{Begins}
-use Rattle.geometry.specs.Limits.{Numbers}
-use Rattle.geometry.specs.MapWords.{FitsMap, map_word}
-use Rattle.geometry.specs.declared.map_word.MapWord.{MapWord}
-use Rattle.geometry.specs.declared.pin_word.PinWord.{PinWord}
-use Rattle.geometry.proofs.Histories.{Begins-refl, Begins-trans}
-use Rattle.geometry.proofs.PinBits.{map_same}
-use Rattle.flash_rule.specs.declared.view.View.{View}
-use Rattle.flash_rule.specs.Views.{AreOfHosts}
-use Rattle.flash_rule.specs.World.{sector_word}
-use Rattle.flash_rule.specs.BroomPlays.{Named}
+use Rattle.geometry.specs.{History.Begins, Limits.Numbers, MapWords.FitsMap, MapWords.map_word}
+use Rattle.geometry.specs.declared.{map_word.MapWord.MapWord, pin_word.PinWord.PinWord}
+use Rattle.geometry.proofs.{Histories.Begins-refl, Histories.Begins-trans, PinBits.map_same}
+use Rattle.flash_rule.specs.{declared.view.View.View, World.sector_word, Views.AreOfHosts, BroomPlays.Named}
 use Rattle.flash_rule.proofs.Owning.{none_some}
-use Rattle.flash_table.specs.declared.flash.Flash.{Flash}
-use Rattle.flash_table.specs.declared.broom_seat.BroomBlocks.{BroomBlocks}
-use Rattle.flash_table.specs.declared.broom_seat.BroomSeat.{BroomSeat}
+use Rattle.flash_table.specs.declared.{flash.Flash.Flash, broom_seat.BroomBlocks.BroomBlocks, broom_seat.BroomSeat.BroomSeat}
 use Rattle.flash_table.specs.Flash.{IsBroomOf, broom_view, own_blocks}
-use Rattle.broom.specs.Survey.{looks_of, lies_in, generation_in, live_pages, counts_of, Survey}
-use Rattle.broom.specs.Surveying.{PagesCounted}
+use Rattle.broom.specs.{Survey.looks_of, Survey.lies_in, Survey.generation_in, Survey.live_pages, Survey.counts_of, Survey.Survey, Surveying.PagesCounted}
 use Rattle.broom.proofs.Loading.{enumerate_more}
 
 -- ---- counts

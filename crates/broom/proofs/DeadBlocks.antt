@@ -5,27 +5,16 @@ use mathlib.Core.Logic.{dite}
 use native.Mathlib.Decide.{ℕ_discrete}
 use Rattle.flash_rule.proofs.Points.{phase_or_not}
 use Rattle.geometry.specs.PinWords.{FitsPin, pin_word}
-use Rattle.geometry.specs.declared.pin_word.PinWord.{PinWord}
-use Rattle.geometry.specs.declared.pin_word.Phase.TheVariants.{Closed, Drained, Victim}
-use Rattle.flash_rule.specs.declared.view.View.{View}
-use Rattle.flash_rule.specs.Views.{AreOfHosts, without, with_owned}
-use Rattle.flash_rule.specs.declared.facts.Owned.{Owned}
+use Rattle.geometry.specs.declared.pin_word.{PinWord.PinWord, Phase.TheVariants.Closed, Phase.TheVariants.Drained, Phase.TheVariants.Victim}
+use Rattle.flash_rule.specs.{declared.view.View.View, declared.facts.Owned.Owned, Views.AreOfHosts, Views.without, Views.with_owned}
 use Rattle.flash_rule.specs.BroomPlays.{inspected_in, owned_as, Loaded}
-use Rattle.flash_table.specs.declared.flash.Flash.{Flash}
-use Rattle.flash_table.specs.declared.broom_seat.BroomBlocks.{BroomBlocks}
-use Rattle.flash_table.specs.declared.broom_seat.BroomSeat.{BroomSeat}
-use Rattle.flash_table.specs.declared.broom_seat.ReclaimedBlock.{ReclaimedBlock}
-use Rattle.flash_table.specs.declared.broom_seat.Reclaiming.TheVariants.{Nothing, Draining}
-use Rattle.flash_table.specs.GivingUp.{left_drained}
-use Rattle.flash_table.specs.Flash.{IsBroomOf, broom_view, own_blocks}
-use Rattle.broom.specs.declared.broom.Broom.{Broom}
-use Rattle.broom.specs.declared.answer.Drain.{Drain}
-use Rattle.broom.specs.declared.answer.Drain.TheVariants as drain
-use Rattle.broom.specs.Ready.{IsRested}
-use Rattle.broom.specs.Told.{Unmarks, counts_kept}
+use Rattle.flash_table.specs.declared.{flash.Flash.Flash, broom_seat.Reclaiming.TheVariants.Nothing, broom_seat.Reclaiming.TheVariants.Draining}
+use Rattle.flash_table.specs.declared.broom_seat.{BroomBlocks.BroomBlocks, BroomSeat.BroomSeat, ReclaimedBlock.ReclaimedBlock}
+use Rattle.flash_table.specs.{GivingUp.left_drained, Flash.IsBroomOf, Flash.broom_view, Flash.own_blocks}
+use Rattle.broom.specs.{declared.broom.Broom.Broom, declared.answer.Drain.Drain, Ready.IsRested, Told.Unmarks, Told.counts_kept}
 use Rattle.broom.specs.Dead.{ChoseVictim, DeadTold, DidDrainDead, PassedAll, InspectedTold, loaded_closed}
-use Rattle.broom.proofs.Choosing.{rest_of, rested_again}
-use Rattle.broom.proofs.Renewing.{loaded_stale}
+use Rattle.broom.proofs.{Choosing.rest_of, Choosing.rested_again, Renewing.loaded_stale}
+use Rattle.broom.specs.declared.answer.Drain.TheVariants as drain
 
 -- The sectors below this one were passed, and only the inspection has changed
 pub record InspectedTo (f : Flash) (v : View) (x : BroomBlocks) (b generation s : ℕ) (t : BroomSeat) : Type 0 where
@@ -95,8 +84,7 @@ drained_dead v l m c w b p fits closed load passed claimed drained =
 -- a victim that was claimed and drained is none of the broom's blocks
 pub blocks_back : (x y z : BroomBlocks) (o : ReclaimedBlock) → x.reclaiming ≡ Nothing → y ≡ record x { reclaiming = Draining o }
     → z ≡ record y { reclaiming = Nothing } → z ≡ x
-blocks_back x y z o rest claimed drained =
-    drained ∙ ((λ i. record (claimed i) { reclaiming = Nothing }) ∙ (λ i. record x { reclaiming = sym rest i }))
+blocks_back x y z o rest claimed drained = drained ∙ ((λ i. record (claimed i) { reclaiming = Nothing }) ∙ (λ i. record x { reclaiming = sym rest i }))
 
 -- and the broom rests again
 pub rested_drained : (f : Flash) (s c t : BroomSeat) (o : ReclaimedBlock) (owns : List Owned) → IsRested f s → IsBroomOf f t → own_blocks t ≡ own_blocks s

@@ -1,44 +1,25 @@
 -- A drain as a whole: the survey, the claim, the relocation and the last step.
-use Rattle.std.proofs.Common.{◌≡◌, ℕ, ◌+◌, ◌<◌, ◌≤◌, true, false, List, [], ◌∷◌, ◌++◌, length, Option, None, Some, is_some}
-use Rattle.std.proofs.Common.{sym, refl, ap, ◌∙◌, subst, arith, append-nil, append_assoc, get_or, set}
+use Rattle.std.proofs.Common.{◌≡◌, ℕ, ◌+◌, ◌<◌, ◌≤◌, true, false, List, [], ◌∷◌, ◌++◌, length, Option, None, Some, is_some, sym, refl, ap, ◌∙◌, subst, arith}
+use Rattle.std.proofs.Common.{append-nil, append_assoc, get_or, set}
 use Rattle.std.proofs.lemmas.List.{get_or-map}
-use Rattle.geometry.specs.Geometry.{blocks_of, pages_of}
-use Rattle.geometry.specs.Greedy.{IsClosed}
-use Rattle.geometry.specs.History.{Begins, Call}
-use Rattle.geometry.specs.Limits.{Numbers}
-use Rattle.geometry.specs.PinWords.{FitsPin, pin_word}
-use Rattle.geometry.specs.declared.pin_word.Phase.TheVariants.{Closed, Drained}
-use Rattle.geometry.specs.declared.pin_word.PinWord.{PinWord}
+use Rattle.geometry.specs.{Geometry.blocks_of, Geometry.pages_of, PinWords.FitsPin, PinWords.pin_word}
+use Rattle.geometry.specs.{Greedy.IsClosed, Limits.Numbers, History.Begins, History.Call}
+use Rattle.geometry.specs.declared.pin_word.{Phase.TheVariants.Closed, Phase.TheVariants.Drained, PinWord.PinWord}
 use Rattle.geometry.proofs.Histories.{Begins-trans}
-use Rattle.flash_rule.specs.declared.facts.Cycle.{Cycle}
-use Rattle.flash_rule.specs.declared.facts.Owned.{Owned}
-use Rattle.flash_rule.specs.declared.view.View.{View}
-use Rattle.flash_rule.specs.Views.{AreOfHosts}
-use Rattle.flash_rule.specs.BroomPlays.{IsLastLoaded}
-use Rattle.flash_table.specs.declared.flash.Flash.{Flash}
-use Rattle.flash_table.specs.declared.pass.OpenBlock.{OpenBlock}
-use Rattle.flash_table.specs.declared.broom_seat.BroomBlocks.{BroomBlocks}
-use Rattle.flash_table.specs.declared.broom_seat.BroomSeat.{BroomSeat}
-use Rattle.flash_table.specs.declared.broom_seat.ReclaimedBlock.{ReclaimedBlock}
+use Rattle.flash_rule.specs.{declared.facts.Cycle.Cycle, declared.facts.Owned.Owned, declared.view.View.View, Views.AreOfHosts, BroomPlays.IsLastLoaded}
+use Rattle.flash_table.specs.{declared.flash.Flash.Flash, declared.pass.OpenBlock.OpenBlock, Owning.reclaimed_as}
+use Rattle.flash_table.specs.declared.broom_seat.{BroomBlocks.BroomBlocks, BroomSeat.BroomSeat, ReclaimedBlock.ReclaimedBlock}
 use Rattle.flash_table.specs.declared.broom_seat.Reclaiming.TheVariants.{Nothing, Draining}
-use Rattle.flash_table.specs.Owning.{reclaimed_as}
 use Rattle.flash_table.specs.Flash.{IsBroomOf, broom_view, own_blocks, geometry_of, device}
-use Rattle.broom.specs.declared.broom.Broom.{Broom}
-use Rattle.broom.specs.declared.ranking.Ranking.{Ranking}
-use Rattle.broom.specs.Handing.{HandsNothing, place_of, aside_of}
-use Rattle.broom.specs.Survey.{generation_in, written_in, looks_of}
+use Rattle.broom.specs.declared.{broom.Broom.Broom, answer.Drain.Drain, ranking.Ranking.Ranking}
+use Rattle.broom.specs.{Handing.HandsNothing, Handing.place_of, Handing.aside_of, Surveying.Chosen, Survey.generation_in, Survey.written_in, Survey.looks_of}
 use Rattle.broom.specs.Emptying.{Emptied, HasEmptied, filled_by, given_up, looks_in}
 use Rattle.broom.specs.Ready.{IsRested, IsReady, IsMarked, view_of_broom, blocks_of_broom, marks_of}
-use Rattle.broom.specs.declared.answer.Drain.{Drain}
-use Rattle.broom.specs.declared.answer.Drain.TheVariants as drain
-use Rattle.broom.specs.Told.{Surveyed, DidDrain, DrainTold, LostClaim, DidDrainAgain, LostAgain, IsNext, MarkedTold, NextTold, Unmarks}
-use Rattle.broom.specs.Told.{SurveyLeft, HasOnlyRanked, GainsNothingNext, states_kept, counts_kept, victim_in, block_in}
-use Rattle.broom.specs.Surveying.{Chosen}
+use Rattle.broom.specs.Told.{Surveyed, DidDrain, DrainTold, LostClaim, DidDrainAgain, LostAgain, IsNext, MarkedTold, NextTold, Unmarks, SurveyLeft}
+use Rattle.broom.specs.Told.{HasOnlyRanked, GainsNothingNext, states_kept, counts_kept, victim_in, block_in}
 use Rattle.broom.specs.Relocating.{Sweeps, Relocated, room_in, room_left}
-use Rattle.broom.proofs.Marking.{last_of-loaded}
-use Rattle.broom.proofs.Choosing.{closed_low}
-use Rattle.broom.proofs.Counting.{generation_at}
-use Rattle.broom.proofs.Emptying.{emptied_same}
+use Rattle.broom.proofs.{Marking.last_of-loaded, Counting.generation_at, Choosing.closed_low, Emptying.emptied_same}
+use Rattle.broom.specs.declared.answer.Drain.TheVariants as drain
 
 module _ (f : Flash) (r : Broom) (b : ℕ) (ready : IsReady f r) (marked : IsClosed r.closed.items b) where
   -- ---- the claim

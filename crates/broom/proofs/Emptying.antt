@@ -1,19 +1,15 @@
 -- The pages that a broom fills with copies, one after another, and what is left of them.
-use Rattle.std.proofs.Common.{◌≡◌, ℕ, suc, ◌+◌, ◌-◌, ◌<◌, ◌≤◌, ◌==◌, List, [], ◌∷◌, ◌++◌, length, Option, None, Some, sym, refl}
-use Rattle.std.proofs.Common.{ap, ◌∙◌, arith, eq-eqb, ne_eqb, append_assoc, append-nil, length-append, map}
+use Rattle.std.proofs.Common.{◌≡◌, ℕ, suc, ◌+◌, ◌-◌, ◌<◌, ◌≤◌, ◌==◌, List, [], ◌∷◌, ◌++◌, length, Option, None, Some, sym, refl, ap, ◌∙◌, arith, eq-eqb, ne_eqb}
+use Rattle.std.proofs.Common.{append_assoc, append-nil, length-append, map}
 use Rattle.std.specs.List.{range_with_len}
 use mathlib.Core.Logic.{dite}
 use native.Mathlib.Decide.{dec_le}
 use Rattle.geometry.specs.declared.map_word.MapWord.{MapWord}
-use Rattle.flash_rule.specs.declared.facts.Owned.{Owned}
-use Rattle.flash_rule.specs.declared.facts.Work.{Work}
-use Rattle.flash_rule.specs.declared.view.View.{View}
-use Rattle.flash_table.specs.declared.pass.OpenBlock.{OpenBlock}
-use Rattle.flash_table.specs.declared.broom_seat.BroomBlocks.{BroomBlocks}
-use Rattle.flash_table.specs.declared.broom_seat.ReclaimedBlock.{ReclaimedBlock}
+use Rattle.flash_rule.specs.declared.{facts.Owned.Owned, facts.Work.Work, view.View.View}
+use Rattle.flash_table.specs.declared.{pass.OpenBlock.OpenBlock, broom_seat.BroomBlocks.BroomBlocks, broom_seat.ReclaimedBlock.ReclaimedBlock}
 use Rattle.flash_table.specs.Owning.{closed_as}
-use Rattle.broom.specs.Emptying.{Programmed, Emptied, victim_page, page_at, pages_left, pages_to_fill}
-use Rattle.broom.specs.Emptying.{closed_if, filled_by, looks_in, is_live, live_from, count_if}
+use Rattle.broom.specs.Emptying.{Programmed, Emptied, victim_page, page_at, pages_left, pages_to_fill, closed_if, filled_by, looks_in, is_live, live_from}
+use Rattle.broom.specs.Emptying.{count_if}
 
 -- ---- the victim's pages
 pub looks_push : (finds : List (Option (ℕ × ℕ))) (find : Option (ℕ × ℕ)) → looks_in (finds ++ find ∷ []) ≡ looks_in finds ++ looks_in (find ∷ [])

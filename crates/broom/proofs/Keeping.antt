@@ -1,11 +1,8 @@
 -- What a broom keeps at its queue while it hands nothing on.
 use Rattle.std.proofs.Common.{◌<◌, ℕ, Option, IfSome, sym, subst}
-use Rattle.erase_queue.specs.declared.queue.EraseQueue.{EraseQueue}
-use Rattle.erase_queue.specs.Queue.{limit_of, IsPassOf}
+use Rattle.erase_queue.specs.{declared.queue.EraseQueue.EraseQueue, Queue.limit_of, Queue.IsPassOf}
 use Rattle.flash_table.specs.declared.flash.Flash.{Flash}
-use Rattle.broom.specs.declared.broom.Broom.{Broom}
-use Rattle.broom.specs.Handing.{IsElse, IsQueued, HandsNothing}
-use Rattle.broom.specs.Ready.{IsReady}
+use Rattle.broom.specs.{declared.broom.Broom.Broom, Ready.IsReady, Handing.IsElse, Handing.IsQueued, Handing.HandsNothing}
 
 -- its place is one of the queue, and what is set aside is one of its numbers, as before
 pub still_queued : (q : EraseQueue) (before after : Broom) → HandsNothing before after → IsQueued q before → IsQueued q after

@@ -1,18 +1,10 @@
 -- A broom that gives its open blocks up.
 use Rattle.std.proofs.Common.{◌≡◌, ◌<◌, ◌++◌, true, false, List, Option, None, Some, is_some, sym, refl, ap, ◌∙◌, subst}
 use Rattle.std.proofs.lemmas.List.{append-nil}
-use Rattle.flash_rule.specs.declared.facts.Owned.{Owned}
-use Rattle.flash_rule.specs.declared.facts.Work.{Work}
-use Rattle.flash_rule.specs.declared.view.View.{View}
-use Rattle.flash_rule.specs.Plays.{IsSettled, CanClose}
-use Rattle.flash_rule.specs.Views.{owned_at}
+use Rattle.flash_rule.specs.{declared.facts.Owned.Owned, declared.facts.Work.Work, declared.view.View.View, Plays.IsSettled, Plays.CanClose, Views.owned_at}
 use Rattle.flash_rule.proofs.Owning.{some_same, none_some}
-use Rattle.flash_table.specs.declared.broom_seat.BroomBlocks.{BroomBlocks}
-use Rattle.flash_table.specs.declared.broom_seat.BroomSeat.{BroomSeat}
-use Rattle.flash_table.specs.declared.pass.OpenBlock.{OpenBlock}
-use Rattle.flash_table.specs.GivingUp.{left_closed}
-use Rattle.flash_table.specs.Owning.{owned_of, closed_list}
-use Rattle.flash_table.specs.Flash.{broom_view, own_blocks}
+use Rattle.flash_table.specs.declared.{broom_seat.BroomBlocks.BroomBlocks, broom_seat.BroomSeat.BroomSeat, pass.OpenBlock.OpenBlock}
+use Rattle.flash_table.specs.{GivingUp.left_closed, Flash.broom_view, Flash.own_blocks, Owning.owned_of, Owning.closed_list}
 use Rattle.flash_table.proofs.Blocks.{destination_at}
 use Rattle.broom.specs.Ready.{IsFiled}
 
@@ -21,14 +13,14 @@ settled : (s : BroomSeat) → IsFiled (broom_view s) (own_blocks s) → IsSettle
 settled s filed w e work at =
     let owns = (broom_view s).owns in
     let d = filed w work in
-    let here : owned_at d.0.block owns ≡ Some (owned_of d.0) = destination_at (own_blocks s) owns s.owns d.0 d.1 in
+    let here : owned_at d.0.block owns ≡ Some (owned_of d.0) = destination_at (own_blocks s) s.owns d.1 in
     let same : owned_of d.0 ≡ e = some_same (owned_of d.0) e (sym here ∙ (ap (λ b. owned_at b owns) (sym d.2) ∙ at)) in
     subst (λ (y : Owned). w.page.page < y.written) same d.3
 
 -- so the destination can be closed
 pub can_close : (s : BroomSeat) → IsFiled (broom_view s) (own_blocks s) → (o : OpenBlock) → (own_blocks s).destination ≡ Some o
     → CanClose (broom_view s) (owned_of o)
-can_close s filed o is = record { own = destination_at (own_blocks s) (broom_view s).owns s.owns o is; opened = refl; settled = settled s filed }
+can_close s filed o is = record { own = destination_at (own_blocks s) s.owns is; opened = refl; settled = settled s filed }
 
 nothing : (x : Option Work) → ((w : Work) → ¬ (x ≡ Some w)) → x ≡ None
 nothing None never = refl

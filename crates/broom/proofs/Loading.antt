@@ -1,24 +1,16 @@
 -- The first part of a survey: the states of the blocks are loaded, one after the other.
-use Rattle.std.proofs.Common.{◌≡◌, ℕ, zero, suc, ◌⊎◌, ⊎_elim, inl, inr, ◌+◌, ◌<◌, ◌≤◌, All, List, [], ◌∷◌, ◌++◌, Bool, length, map, Option, None}
-use Rattle.std.proofs.Common.{Some, slice_get, sym, refl, ap, ◌∙◌, subst, arith, append_assoc, append-nil, take, set, get_or}
+use Rattle.std.proofs.Common.{◌≡◌, ℕ, zero, suc, ◌⊎◌, ⊎_elim, inl, inr, ◌+◌, ◌<◌, ◌≤◌, All, List, [], ◌∷◌, ◌++◌, Bool, length, map, Option, None, Some}
+use Rattle.std.proofs.Common.{slice_get, sym, refl, ap, ◌∙◌, subst, arith, append_assoc, append-nil, take, set, get_or}
 use Rattle.std.specs.List.{enumerate_from}
-use Rattle.std.proofs.lemmas.List.{map-append, take_all, take_more_set, length-take-le, length-map}
-use Rattle.std.proofs.lemmas.List.Elements.{All-nil, All-push}
+use Rattle.std.proofs.lemmas.List.{map-append, take_all, take_more_set, length-take-le, length-map, Elements.All-nil, Elements.All-push}
 use mathlib.Core.Logic.{dite}
 use native.Mathlib.Decide.{ℕ_discrete}
-use Rattle.geometry.specs.PinWords.{pin_word}
-use Rattle.geometry.specs.declared.pin_word.Phase.{Phase}
+use Rattle.geometry.specs.{PinWords.pin_word, declared.pin_word.Phase.Phase, declared.pin_word.PinWord.PinWord}
 use Rattle.geometry.specs.declared.pin_word.Phase.TheVariants.{Free, Open, Closed, Victim, Drained, Erasing, Retired}
-use Rattle.geometry.specs.declared.pin_word.PinWord.{PinWord}
-use Rattle.flash_rule.specs.declared.view.View.{View}
-use Rattle.flash_rule.specs.BroomPlays.{Loaded}
-use Rattle.flash_table.specs.declared.flash.Flash.{Flash}
-use Rattle.flash_table.specs.declared.broom_seat.BroomBlocks.{BroomBlocks}
-use Rattle.flash_table.specs.declared.broom_seat.BroomSeat.{BroomSeat}
+use Rattle.flash_rule.specs.{declared.view.View.View, BroomPlays.Loaded}
+use Rattle.flash_table.specs.declared.{flash.Flash.Flash, broom_seat.BroomBlocks.BroomBlocks, broom_seat.BroomSeat.BroomSeat}
 use Rattle.flash_table.specs.Flash.{IsBroomOf, broom_view, own_blocks, device}
-use Rattle.broom.specs.Survey.{loads_of, is_closed, closed_of}
-use Rattle.broom.specs.Ready.{IsInRange}
-use Rattle.broom.specs.Surveying.{StatesLoaded}
+use Rattle.broom.specs.{Survey.loads_of, Survey.is_closed, Survey.closed_of, Ready.IsInRange, Surveying.StatesLoaded}
 
 -- ---- numbered lists
 pub enumerate_more : {X : Type 0} (k n : ℕ) (xs : List X) (x : X) → length xs ≡ n → enumerate_from k (xs ++ x ∷ []) ≡ enumerate_from k xs ++ (k + n, x) ∷ []

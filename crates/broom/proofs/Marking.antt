@@ -1,24 +1,17 @@
 -- The marks of a broom: what it loaded last of each block, and which steps leave the marks true.
-use Rattle.std.proofs.Common.{◌≡◌, ℕ, zero, suc, ◌<◌, ◌==◌, Bool, true, false, List, [], ◌∷◌, ◌++◌, length, map, Option, None, Some}
-use Rattle.std.proofs.Common.{slice_get, sym, refl, ap, ◌∙◌, subst, arith, append_assoc, set, get_or, replicate}
+use Rattle.std.proofs.Common.{◌≡◌, ℕ, zero, suc, ◌<◌, ◌==◌, Bool, true, false, List, [], ◌∷◌, ◌++◌, length, map, Option, None, Some, slice_get, sym, refl, ap}
+use Rattle.std.proofs.Common.{◌∙◌, subst, arith, append_assoc, set, get_or, replicate}
 use Rattle.std.proofs.lemmas.Option.{get_or_from_slice_get, slice_get-get_or, slice_get_read}
 use Rattle.std.proofs.lemmas.List.{get_or-map, length-map, get_or-set_same, get_or-set_other, get_or-replicate, length-replicate}
 use mathlib.Core.Logic.{dite}
 use native.Mathlib.Decide.{ℕ_discrete}
-use Rattle.geometry.specs.Greedy.{IsClosed}
-use Rattle.geometry.specs.Limits.{Numbers}
-use Rattle.geometry.specs.PinWords.{FitsPin, pin_word}
+use Rattle.geometry.specs.{Greedy.IsClosed, Limits.Numbers, PinWords.FitsPin, PinWords.pin_word}
 use Rattle.geometry.proofs.PinBits.{pin_same}
-use Rattle.geometry.specs.declared.pin_word.Phase.{Phase}
+use Rattle.geometry.specs.declared.pin_word.{Phase.Phase, PinWord.PinWord}
 use Rattle.geometry.specs.declared.pin_word.Phase.TheVariants.{Free, Open, Closed, Victim, Drained, Erasing, Retired}
-use Rattle.geometry.specs.declared.pin_word.PinWord.{PinWord}
-use Rattle.flash_rule.specs.declared.view.View.{View}
-use Rattle.flash_rule.specs.BroomPlays.{IsLastLoaded}
-use Rattle.broom.specs.Survey.{is_closed, closed_of, loads_of}
-use Rattle.broom.specs.Ready.{last_of, unless_later, AreMarked}
-use Rattle.broom.specs.Surveying.{StatesLoaded}
-use Rattle.broom.proofs.Loading.{StandsOnce, enumerate_once}
-use Rattle.broom.proofs.Choosing.{closed_low}
+use Rattle.flash_rule.specs.{declared.view.View.View, BroomPlays.IsLastLoaded}
+use Rattle.broom.specs.{Survey.is_closed, Survey.closed_of, Survey.loads_of, Ready.last_of, Ready.unless_later, Ready.AreMarked, Surveying.StatesLoaded}
+use Rattle.broom.proofs.{Loading.StandsOnce, Loading.enumerate_once, Choosing.closed_low}
 
 -- ---- the word loaded last
 unless_other : (word : ℕ) (o : Option ℕ) → unless_later false word o ≡ o

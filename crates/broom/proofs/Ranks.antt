@@ -1,18 +1,13 @@
 -- The order in which the blocks of a survey are drained: how it is made, and that its first marked block is the greedy one.
 use Rattle.std.proofs.Common.{◌≡◌, ℕ, ◌+◌, ◌%◌, ◌<◌, ◌≤◌, Bool, false, All, List, [], ◌∷◌, ◌++◌, length, None, Some, get_or, sym, ap, ◌∙◌, subst, arith}
-use Rattle.std.specs.List.{Contains}
-use Rattle.std.specs.Vec.{vec_capacity}
-use Rattle.std.specs.List.Sorted.{IsPermutation, IsNonDecreasing}
-use Rattle.std.proofs.lemmas.Bool.{false≢true}
-use Rattle.std.proofs.lemmas.List.{get_or_default, get_or_past, length_push}
-use Rattle.std.proofs.lemmas.List.Elements.{All-nil, All-push, Contains-push, Contains-append_left}
-use Rattle.std.proofs.lemmas.List.Sorted.{All-permutation, Contains-permutation}
+use Rattle.std.specs.{List.Contains, List.Sorted.IsPermutation, List.Sorted.IsNonDecreasing, Vec.vec_capacity}
+use Rattle.std.proofs.lemmas.{Bool.false≢true, List.Elements.All-nil, List.Elements.All-push, List.Elements.Contains-push, List.Elements.Contains-append_left}
+use Rattle.std.proofs.lemmas.List.{get_or_default, get_or_past, length_push, Sorted.All-permutation, Sorted.Contains-permutation}
 use mathlib.Core.Logic.{dite}
 use native.Mathlib.Decide.{dec_lt, ℕ_discrete}
 use Rattle.geometry.specs.Greedy.{greedy_of, IsClosed, IsGreedy}
 use Rattle.geometry.proofs.GreedyLemmas.{greedy_of-best, greedy_of-none}
-use Rattle.broom.specs.declared.ranking.Ranking.{Ranking}
-use Rattle.broom.specs.declared.ranking.TheConstants.{ONE_PAGE}
+use Rattle.broom.specs.declared.ranking.{Ranking.Ranking, TheConstants.ONE_PAGE}
 use Rattle.broom.specs.Ranking.{key_of, IsKey, IsRanked, Ranks}
 
 -- a marked place is within the list of marks

@@ -1,39 +1,25 @@
 -- A block that was condemned and wiped, and what the broom owns and tells once its generation is over.
-use Rattle.std.proofs.Common.{◌≡◌, ℕ, ◌+◌, ◌<◌, eq-eqb, ne_eqb, Bool, true, false, MatchBool, List, [], ◌∷◌, ◌++◌}
-use Rattle.std.proofs.Common.{None, Some, sym, refl, ap, ◌∙◌, subst, append-nil, arith}
+use Rattle.std.proofs.Common.{◌≡◌, ℕ, ◌+◌, ◌<◌, eq-eqb, ne_eqb, Bool, true, false, MatchBool, List, [], ◌∷◌, ◌++◌, None, Some, sym, refl, ap, ◌∙◌, subst}
+use Rattle.std.proofs.Common.{append-nil, arith}
 use Rattle.std.proofs.lemmas.List.{append-nil}
 use mathlib.Core.Logic.{dite}
 use native.Mathlib.Decide.{ℕ_discrete}
-use Rattle.geometry.specs.Geometry.{endurance_of}
-use Rattle.geometry.specs.Limits.{Numbers}
-use Rattle.geometry.specs.PinWords.{FitsPin, pin_word}
-use Rattle.geometry.specs.declared.pin_word.Phase.TheVariants.{Drained, Erasing, Retired}
-use Rattle.geometry.specs.declared.pin_word.PinWord.{PinWord}
+use Rattle.geometry.specs.{Geometry.endurance_of, Limits.Numbers, PinWords.FitsPin, PinWords.pin_word}
+use Rattle.geometry.specs.declared.pin_word.{Phase.TheVariants.Drained, Phase.TheVariants.Erasing, Phase.TheVariants.Retired, PinWord.PinWord}
 use Rattle.geometry.proofs.PinBits.{pin_same}
-use Rattle.flash_rule.specs.declared.facts.Owned.{Owned}
-use Rattle.flash_rule.specs.declared.view.View.{View}
-use Rattle.flash_rule.specs.Views.{owned_at, without, with_owned, AreOfHosts}
-use Rattle.flash_rule.specs.Ceded.{freed_as}
-use Rattle.flash_rule.specs.BroomPlays.{Loaded, owned_as, cycle_of}
+use Rattle.flash_rule.specs.{declared.facts.Owned.Owned, declared.view.View.View, Ceded.freed_as}
+use Rattle.flash_rule.specs.{Views.owned_at, Views.without, Views.with_owned, Views.AreOfHosts, BroomPlays.Loaded, BroomPlays.owned_as, BroomPlays.cycle_of}
 use Rattle.flash_rule.proofs.Owning.{none_some, some_same}
-use Rattle.flash_table.specs.declared.flash.Flash.{Flash}
-use Rattle.flash_table.specs.declared.broom_seat.BroomBlocks.{BroomBlocks}
-use Rattle.flash_table.specs.declared.broom_seat.BroomSeat.{BroomSeat}
-use Rattle.flash_table.specs.declared.broom_seat.ReclaimedBlock.{ReclaimedBlock}
-use Rattle.flash_table.specs.declared.broom_seat.Reclaiming.{Reclaiming}
-use Rattle.flash_table.specs.declared.broom_seat.Reclaiming.TheVariants as reclaiming
-use Rattle.flash_table.specs.declared.pass.OpenBlock.{OpenBlock}
+use Rattle.flash_table.specs.{declared.flash.Flash.Flash, declared.pass.OpenBlock.OpenBlock, Erasing.NowErases, Erasing.words_in_block, GivingUp.left_retired}
+use Rattle.flash_table.specs.declared.broom_seat.{BroomBlocks.BroomBlocks, ReclaimedBlock.ReclaimedBlock, BroomSeat.BroomSeat, Reclaiming.Reclaiming}
 use Rattle.flash_table.specs.Flash.{IsBroomOf, broom_view, own_blocks, geometry_of, device}
-use Rattle.flash_table.specs.Erasing.{NowErases, words_in_block}
-use Rattle.flash_table.specs.GivingUp.{left_retired}
 use Rattle.flash_table.specs.Owning.{AreApart, blocks_list, owned_of, owned_list, reclaimed_list, reclaimed_as}
 use Rattle.flash_table.proofs.Rows.{at_first, past_first, just_at}
-use Rattle.broom.specs.declared.broom.Broom.{Broom}
-use Rattle.broom.specs.declared.answer.Erase.TheVariants as erase
-use Rattle.broom.specs.Ready.{IsRested, HasRoom, view_of_broom, blocks_of_broom}
+use Rattle.broom.specs.{declared.broom.Broom.Broom, Renewing.Kept, Renewing.Freed, Ready.IsRested, Ready.HasRoom, Ready.view_of_broom, Ready.blocks_of_broom}
 use Rattle.broom.specs.Erasing.{DidErase, DidKeep, DidFree, DidRetire, EraseTold, renewed}
-use Rattle.broom.specs.Renewing.{Kept, Freed}
 use Rattle.broom.proofs.Choosing.{rest_of, rested_again}
+use Rattle.flash_table.specs.declared.broom_seat.Reclaiming.TheVariants as reclaiming
+use Rattle.broom.specs.declared.answer.Erase.TheVariants as erase
 
 -- ---- what the broom owns
 -- the last block of a row isn't among the others

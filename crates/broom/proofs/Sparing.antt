@@ -2,19 +2,12 @@
 use Rattle.std.proofs.Common.{◌≡◌, ℕ, zero, suc, ◌+◌, ◌<◌, List, [], ◌∷◌, ◌++◌, None, Some, sym, refl, ap, ◌∙◌, subst, arith, append_assoc, append-nil}
 use Rattle.std.specs.List.{range_with_len}
 use Rattle.geometry.specs.Limits.{Numbers}
-use Rattle.flash_rule.specs.declared.facts.Owned.{Owned}
-use Rattle.flash_rule.specs.declared.view.View.{View}
-use Rattle.flash_rule.specs.Views.{AreOfHosts}
+use Rattle.flash_rule.specs.{declared.facts.Owned.Owned, declared.view.View.View, Views.AreOfHosts}
 use Rattle.flash_rule.proofs.Owning.{some_same}
-use Rattle.flash_table.specs.declared.flash.Flash.{Flash}
-use Rattle.flash_table.specs.declared.broom_seat.BroomBlocks.{BroomBlocks}
-use Rattle.flash_table.specs.declared.broom_seat.BroomSeat.{BroomSeat}
-use Rattle.flash_table.specs.declared.pass.OpenBlock.{OpenBlock}
-use Rattle.flash_table.specs.Owning.{owned_of}
-use Rattle.flash_table.specs.Spares.{fresh_block, GotSpare, GotNoSpare}
+use Rattle.flash_table.specs.declared.{flash.Flash.Flash, pass.OpenBlock.OpenBlock, broom_seat.BroomBlocks.BroomBlocks, broom_seat.BroomSeat.BroomSeat}
+use Rattle.flash_table.specs.{Owning.owned_of, Spares.fresh_block, Spares.GotSpare, Spares.GotNoSpare}
 use Rattle.flash_table.specs.Flash.{IsBroomOf, broom_view, own_blocks, geometry_of}
-use Rattle.broom.specs.Ready.{HasRoom, IsRested}
-use Rattle.broom.specs.Restocking.{DidRestock, FoundNoSpare}
+use Rattle.broom.specs.{Ready.HasRoom, Ready.IsRested, Restocking.DidRestock, Restocking.FoundNoSpare}
 
 -- ---- a row of numbers, and a list of blocks
 row_more : (n : ℕ) → range_with_len 0 (n + 1) ≡ range_with_len 0 n ++ n ∷ []

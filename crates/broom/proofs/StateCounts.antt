@@ -1,32 +1,21 @@
 -- The states of the blocks are loaded and counted, one after the other, and the broom keeps its survey.
 use Rattle.std.proofs.Common.{◌≡◌, ℕ, zero, suc, ◌⊎◌, inl, inr, ◌+◌, ◌<◌, ◌≤◌, ◌==◌, if◌then◌else◌, All, List, [], ◌∷◌, ◌++◌, Bool, true, false, length, map}
-use Rattle.std.proofs.Common.{Some, slice_get, sym, refl, ap, ◌∙◌, subst, arith, append_assoc, append-nil, count_by, get_or, sum_by}
+use Rattle.std.proofs.Common.{Some, slice_get, sym, refl, ap, ◌∙◌, subst, arith, append_assoc, append-nil, get_or, sum_by}
 use Rattle.std.specs.List.{enumerate_from}
-use Rattle.std.proofs.lemmas.List.{map-append, length-map, length-append, get_or-set_other}
-use Rattle.std.proofs.lemmas.List.Elements.{All-nil, All-push}
+use Rattle.std.proofs.lemmas.List.{map-append, length-map, length-append, get_or-set_other, Elements.All-nil, Elements.All-push}
 use Rattle.std.proofs.Math.Nat.{mul-le-mul_right}
-use Rattle.std.proofs.lemmas.List.Sums.{count_by-le-length, sum_by-append, sum_by-le}
-use Rattle.std.proofs.lemmas.Option.{slice_get_within}
-use Rattle.geometry.specs.Geometry.{blocks_of}
-use Rattle.geometry.specs.Greedy.{IsClosed}
-use Rattle.geometry.specs.Limits.{Numbers}
-use Rattle.geometry.specs.PinWords.{phase_bits, pin_word}
-use Rattle.geometry.specs.declared.pin_word.Phase.{Phase}
-use Rattle.geometry.specs.declared.pin_word.Phase.TheVariants as phase
-use Rattle.geometry.specs.declared.pin_word.PinWord.{PinWord}
+use Rattle.std.proofs.lemmas.{List.Sums.count_by-le-length, List.Sums.sum_by-append, List.Sums.sum_by-le, Option.slice_get_within}
+use Rattle.geometry.specs.{Geometry.blocks_of, Greedy.IsClosed, Limits.Numbers, PinWords.phase_bits, PinWords.pin_word}
+use Rattle.geometry.specs.declared.pin_word.{Phase.Phase, PinWord.PinWord}
 use Rattle.flash_rule.specs.declared.view.View.{View}
-use Rattle.flash_table.specs.declared.flash.Flash.{Flash}
-use Rattle.flash_table.specs.Flash.{geometry_of, device}
-use Rattle.broom.specs.declared.block_counts.BlockCounts.{BlockCounts}
-use Rattle.broom.specs.declared.broom.Broom.{Broom}
-use Rattle.broom.specs.Counting.{FitsOneMore, counted_one, one_in}
-use Rattle.broom.specs.Handing.{HandsNothing}
+use Rattle.flash_table.specs.{declared.flash.Flash.Flash, Flash.geometry_of, Flash.device}
+use Rattle.broom.specs.declared.{block_counts.BlockCounts.BlockCounts, broom.Broom.Broom}
+use Rattle.broom.specs.{Counting.FitsOneMore, Counting.counted_one, Counting.one_in, Handing.HandsNothing, Survey.loads_of}
 use Rattle.broom.specs.Loading.{AllLoaded, HasState, KeepsMarks, StateLoaded, counts_in, erases_in, in_phase}
 use Rattle.broom.specs.Ready.{IsInRange, IsReady, view_of_broom, blocks_of_broom, marks_of}
-use Rattle.broom.specs.Survey.{loads_of}
-use Rattle.broom.specs.Told.{KeepsSurvey, Unmarks, counts_kept, states_kept}
-use Rattle.broom.proofs.Loading.{enumerate_more, loaded_changes}
-use Rattle.broom.proofs.Marking.{still_marked}
+use Rattle.broom.specs.Told.{counts_kept, states_kept}
+use Rattle.broom.proofs.{Loading.enumerate_more, Loading.loaded_changes, Marking.still_marked}
+use Rattle.geometry.specs.declared.pin_word.Phase.TheVariants as phase
 
 -- ---- counts
 sum_more : {X : Type 0} (f : X → ℕ) (xs : List X) (x : X) → sum_by f (xs ++ x ∷ []) ≡ sum_by f xs + f x

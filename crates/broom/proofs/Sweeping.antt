@@ -1,35 +1,17 @@
 -- The steps of a broom that drains its victim, put together.
 use Rattle.std.proofs.Common.{◌≡◌, ℕ, ◌+◌, ◌<◌, ◌≤◌, List, ◌++◌, ◌∷◌, [], Option, None, Some, IfSome, ne_eqb, append-nil, sym, refl, ap, ◌∙◌, subst, arith}
-use Rattle.geometry.specs.History.{Begins, Call}
-use Rattle.geometry.specs.Limits.{Numbers}
-use Rattle.geometry.specs.MapWords.{FitsMap, map_word}
-use Rattle.geometry.specs.declared.map_word.MapWord.{MapWord}
-use Rattle.geometry.specs.declared.pin_word.Phase.TheVariants.{Victim}
-use Rattle.geometry.proofs.Histories.{Begins-refl, Begins-push, Begins-trans}
-use Rattle.geometry.proofs.PinBits.{map_same}
-use Rattle.flash_rule.specs.declared.facts.Source.{Source}
-use Rattle.flash_rule.specs.declared.view.View.{View}
-use Rattle.flash_rule.specs.Views.{AreOfHosts}
-use Rattle.flash_rule.specs.World.{sector_word}
-use Rattle.flash_rule.specs.Rule.{IsValue}
-use Rattle.flash_rule.specs.BroomPlays.{GotStamp, Named}
-use Rattle.flash_table.specs.declared.flash.Flash.{Flash}
-use Rattle.flash_table.specs.declared.broom_seat.BroomBlocks.{BroomBlocks}
-use Rattle.flash_table.specs.declared.broom_seat.BroomSeat.{BroomSeat}
-use Rattle.flash_table.specs.declared.broom_seat.ReclaimedBlock.{ReclaimedBlock}
-use Rattle.flash_table.specs.Owning.{reclaimed_as}
-use Rattle.flash_table.specs.Flash.{IsBroomOf, broom_view, own_blocks, geometry_of}
-use Rattle.broom.specs.Emptying.{victim_page, looks_in}
-use Rattle.broom.specs.Relocating.{IsSweeping, Relocated, FoundDead, FoundLive}
+use Rattle.geometry.specs.{History.Begins, History.Call, Limits.Numbers, MapWords.FitsMap, MapWords.map_word}
+use Rattle.geometry.specs.declared.{map_word.MapWord.MapWord, pin_word.Phase.TheVariants.Victim}
+use Rattle.geometry.proofs.{Histories.Begins-refl, Histories.Begins-push, Histories.Begins-trans, PinBits.map_same}
+use Rattle.flash_rule.specs.declared.{facts.Source.Source, view.View.View}
+use Rattle.flash_rule.specs.{Views.AreOfHosts, Rule.IsValue, World.sector_word, BroomPlays.GotStamp, BroomPlays.Named}
+use Rattle.flash_table.specs.{declared.flash.Flash.Flash, Owning.reclaimed_as, Flash.IsBroomOf, Flash.broom_view, Flash.own_blocks, Flash.geometry_of}
+use Rattle.flash_table.specs.declared.broom_seat.{BroomBlocks.BroomBlocks, BroomSeat.BroomSeat, ReclaimedBlock.ReclaimedBlock}
+use Rattle.broom.specs.{Emptying.victim_page, Emptying.looks_in, Relocating.IsSweeping, Relocating.Relocated, Relocating.FoundDead, Relocating.FoundLive}
 
 -- ---- one part after another
-pub relocated_none : (v : View) → Relocated v 0 v
-relocated_none v =
-    let e : v.moves ≡ v.moves + 0 = omega arith in
-    record { changed = λ i. record v { moves = e i }; later = Begins-refl v.seen; named = Begins-refl v.named; programmed = Begins-refl v.programs }
-
--- a view whose fields were set, by its own fields
-settled : (v w : View) (moves : ℕ) (x : View)
+-- a part that leaves these fields, and sees, looks and programs what it did before and more
+pub relocated_as : (v x w : View) (n moves : ℕ) → moves ≡ v.moves + n
     → w ≡ record v {
       seen = x.seen;
       named = x.named;
@@ -41,30 +23,28 @@ settled : (v w : View) (moves : ℕ) (x : View)
       moves = moves;
       ceded = x.ceded;
     }
-    → w ≡ record v {
-      seen = w.seen;
-      named = w.named;
-      owns = w.owns;
-      work = w.work;
-      programs = w.programs;
-      cleared = w.cleared;
-      source = w.source;
-      moves = moves;
-      ceded = w.ceded;
+    → Begins v.seen x.seen → Begins v.named x.named → Begins v.programs x.programs → Relocated v n w
+relocated_as v x w n moves sum e later named programmed =
+    record {
+      changed = e
+          ∙ (λ i. record v {
+            seen = (sym e i).seen;
+            named = (sym e i).named;
+            owns = (sym e i).owns;
+            work = (sym e i).work;
+            programs = (sym e i).programs;
+            cleared = (sym e i).cleared;
+            source = (sym e i).source;
+            moves = sum i;
+            ceded = (sym e i).ceded;
+          });
+      later = subst (λ (l : List Call). Begins v.seen l) (sym (ap (λ (y : View). y.seen) e)) later;
+      named = subst (λ (l : List (ℕ × ℕ)). Begins v.named l) (sym (ap (λ (y : View). y.named) e)) named;
+      programmed = subst (λ (l : List MapWord). Begins v.programs l) (sym (ap (λ (y : View). y.programs) e)) programmed;
     }
-settled v w moves x e =
-    e
-    ∙ (λ i. record v {
-      seen = (sym e i).seen;
-      named = (sym e i).named;
-      owns = (sym e i).owns;
-      work = (sym e i).work;
-      programs = (sym e i).programs;
-      cleared = (sym e i).cleared;
-      source = (sym e i).source;
-      moves = moves;
-      ceded = (sym e i).ceded;
-    })
+
+pub relocated_none : (v : View) → Relocated v 0 v
+relocated_none v = relocated_as v v v 0 v.moves (omega arith) refl (Begins-refl v.seen) (Begins-refl v.named) (Begins-refl v.programs)
 
 pub relocated_then : (u v w : View) (a b n : ℕ) → a + b ≡ n → Relocated u a v → Relocated v b w → Relocated u n w
 relocated_then u v w a b n sum first second =
@@ -89,15 +69,8 @@ relocated_then u v w a b n sum first second =
 
 -- a part that sets only the source, and how many pages are cleared
 pub relocated_source : (v w : View) (source : Option Source) (cleared : ℕ) → w ≡ record v { source = source; cleared = cleared } → Relocated v 0 w
-relocated_source v w source cleared e =
-    let none : v.moves ≡ v.moves + 0 = omega arith in
-    record {
-      changed = settled v w (v.moves + 0) (record v { source = source; cleared = cleared })
-          (e ∙ (λ i. record v { source = source; cleared = cleared; moves = none i }));
-      later = subst (λ (l : List Call). Begins v.seen l) (sym (ap (λ (x : View). x.seen) e)) (Begins-refl v.seen);
-      named = subst (λ (l : List (ℕ × ℕ)). Begins v.named l) (sym (ap (λ (x : View). x.named) e)) (Begins-refl v.named);
-      programmed = subst (λ (l : List MapWord). Begins v.programs l) (sym (ap (λ (x : View). x.programs) e)) (Begins-refl v.programs);
-    }
+relocated_source v w source cleared e = relocated_as v (record v { source = source; cleared = cleared }) w 0 v.moves (omega arith) e (Begins-refl v.seen)
+    (Begins-refl v.named) (Begins-refl v.programs)
 
 -- the broom still sweeps where its blocks and its work are the same
 pub sweeps_on : (f : Flash) (most : ℕ) (s t : BroomSeat) (x : ReclaimedBlock) → IsSweeping f most s x → IsBroomOf f t → own_blocks t ≡ own_blocks s
@@ -158,15 +131,8 @@ callers_same v w source cleared e callers = subst (λ (y : View). AreOfHosts y.n
 module _ (v w : View) (s : ℕ) (named : Option MapWord) (told : Named v s (sector_word named) w) where
   pub look_went : Relocated v 0 w
   look_went =
-      let none : v.moves ≡ v.moves + 0 = omega arith in
-      let e = told.changed in
-      record {
-        changed = settled v w (v.moves + 0) (record v { seen = w.seen; named = v.named ++ (s, sector_word named) ∷ []; source = w.source; cleared = w.cleared })
-            (e ∙ (λ i. record v { seen = w.seen; named = v.named ++ (s, sector_word named) ∷ []; source = w.source; cleared = w.cleared; moves = none i }));
-        later = told.later;
-        named = subst (λ (l : List (ℕ × ℕ)). Begins v.named l) (sym (ap (λ (y : View). y.named) e)) (Begins-push v.named (s, sector_word named));
-        programmed = subst (λ (l : List MapWord). Begins v.programs l) (sym (ap (λ (y : View). y.programs) e)) (Begins-refl v.programs);
-      }
+      let x : View = record v { seen = w.seen; named = v.named ++ (s, sector_word named) ∷ []; source = w.source; cleared = w.cleared } in
+      relocated_as v x w 0 v.moves (omega arith) told.changed told.later (Begins-push v.named (s, sector_word named)) (Begins-refl v.programs)
 
   pub look_callers : AreOfHosts w.numbers w.seen
   look_callers = subst (λ (z : Numbers). AreOfHosts z w.seen) (sym (ap (λ (y : View). y.numbers) told.changed)) told.callers

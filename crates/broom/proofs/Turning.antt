@@ -1,13 +1,9 @@
 -- The parts of a turn, put together.
 use Rattle.std.proofs.Common.{◌≡◌, ℕ, refl, subst}
-use Rattle.broom.specs.declared.broom.Broom.{Broom}
-use Rattle.broom.specs.declared.answer.Drain.{Drain}
-use Rattle.broom.specs.declared.answer.Drain.TheVariants as drain
-use Rattle.broom.specs.declared.answer.Erase.{Erase}
-use Rattle.broom.specs.declared.answer.Erase.TheVariants as erase
-use Rattle.broom.specs.Told.{Unmarks}
-use Rattle.broom.specs.Erasing.{EraseTold}
+use Rattle.broom.specs.{declared.broom.Broom.Broom, declared.answer.Drain.Drain, declared.answer.Erase.Erase, Told.Unmarks, Erasing.EraseTold}
 use Rattle.broom.specs.Handing.{HandsNothing, HandedOn, Relieved, Fetched, FetchedAndHandedOn, DrainedAndHandedOn, TurnTold, EraseOneTold}
+use Rattle.broom.specs.declared.answer.Drain.TheVariants as drain
+use Rattle.broom.specs.declared.answer.Erase.TheVariants as erase
 
 -- no block was drained
 module _ (Told : Broom → Drain → Broom → Type 0) (never : (b x : Broom) → Told b drain.QueueFull x → ⊥) where

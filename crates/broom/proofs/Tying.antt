@@ -1,28 +1,14 @@
 -- A broom that meets another one, or stands by a page: what goes along with the notes, and what each knows in the end.
 use Rattle.std.proofs.Common.{◌≡◌, ℕ, true, List, [], ◌∷◌, ◌++◌, Option, Some, None, sym, refl, ap, ◌∙◌, subst, arith}
-use Rattle.geometry.specs.History.{held, Begins}
-use Rattle.geometry.specs.Limits.{Numbers}
-use Rattle.geometry.specs.MapWords.{map_word}
-use Rattle.geometry.specs.declared.map_word.MapWord.{MapWord}
-use Rattle.flash_rule.specs.declared.carried.Carried.{Carried}
-use Rattle.flash_rule.specs.declared.facts.Name.{Name}
-use Rattle.flash_rule.specs.declared.facts.Name.TheVariants.{Broom as ABroom}
-use Rattle.flash_rule.specs.declared.facts.Role.{Role}
-use Rattle.flash_rule.specs.declared.facts.Role.TheVariants.{Player}
-use Rattle.flash_rule.specs.declared.view.View.{View}
-use Rattle.flash_rule.specs.Views.{AreOfHosts, is_pass}
-use Rattle.flash_rule.specs.World.{sector_word}
+use Rattle.geometry.specs.{History.held, History.Begins, Limits.Numbers, MapWords.map_word, declared.map_word.MapWord.MapWord}
+use Rattle.flash_rule.specs.declared.{carried.Carried.Carried, view.View.View}
+use Rattle.flash_rule.specs.declared.facts.{Name.Name, Name.TheVariants.Broom as ABroom, Role.Role, Role.TheVariants.Player}
+use Rattle.flash_rule.specs.{Views.AreOfHosts, Views.is_pass, Plays.Met, Plays.Spared, World.sector_word, BroomPlays.Named}
 use Rattle.flash_rule.specs.Seats.{name_of, carried, lender, lent_note, host_of, giver, given_note, home}
-use Rattle.flash_rule.specs.Plays.{Met, Spared}
-use Rattle.flash_rule.specs.BroomPlays.{Named}
-use Rattle.flash_rule.proofs.Owning.{none_some}
-use Rattle.flash_rule.proofs.Still.{pass_of}
-use Rattle.flash_table.specs.declared.flash.Flash.{Flash}
-use Rattle.flash_table.specs.declared.broom_seat.BroomBlocks.{BroomBlocks}
-use Rattle.flash_table.specs.declared.broom_seat.BroomSeat.{BroomSeat}
+use Rattle.flash_rule.proofs.{Owning.none_some, Still.pass_of}
+use Rattle.flash_table.specs.declared.{flash.Flash.Flash, broom_seat.BroomBlocks.BroomBlocks, broom_seat.BroomSeat.BroomSeat}
 use Rattle.flash_table.specs.Flash.{IsBroomOf, broom_view, own_blocks}
-use Rattle.broom.specs.Ready.{IsRested}
-use Rattle.broom.specs.Meeting.{HasHeard, BroomsMet, StoodTold}
+use Rattle.broom.specs.{Ready.IsRested, Meeting.HasHeard, Meeting.BroomsMet, Meeting.StoodTold}
 
 -- ---- names
 -- a broom's role is that of its name, and a pass's too

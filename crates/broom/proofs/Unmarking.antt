@@ -1,15 +1,10 @@
 -- A broom that unmarks a block, loads its state and rests again is ready as before.
 use Rattle.std.proofs.Common.{◌≡◌, ℕ, ◌<◌, Bool, false, List, [], ◌∷◌, ◌++◌, length, set, sym, ap, ◌∙◌, subst, arith, length-set}
-use Rattle.geometry.specs.Geometry.{blocks_of}
-use Rattle.geometry.specs.declared.pin_word.PinWord.{PinWord}
-use Rattle.flash_table.specs.declared.flash.Flash.{Flash}
-use Rattle.flash_table.specs.Flash.{geometry_of, device}
-use Rattle.broom.specs.declared.broom.Broom.{Broom}
-use Rattle.broom.specs.declared.ranking.Ranking.{Ranking}
+use Rattle.geometry.specs.{Geometry.blocks_of, declared.pin_word.PinWord.PinWord}
+use Rattle.flash_table.specs.{declared.flash.Flash.Flash, Flash.geometry_of, Flash.device}
+use Rattle.broom.specs.{declared.broom.Broom.Broom, declared.ranking.Ranking.Ranking, Ranking.Ranks}
 use Rattle.broom.specs.Ready.{AreMarked, IsReady, IsRested, view_of_broom}
-use Rattle.broom.specs.Ranking.{Ranks}
-use Rattle.broom.proofs.Marking.{marks_after, still_marked}
-use Rattle.broom.proofs.Ranks.{ranks_fewer}
+use Rattle.broom.proofs.{Marking.marks_after, Marking.still_marked, Ranks.ranks_fewer}
 
 pub ready_unmarked : (f : Flash) (r after : Broom) (b n : ℕ) → IsReady f r → b < blocks_of (geometry_of f) → IsRested f after.seat
     → after ≡ record r { seat = after.seat; closed = after.closed } → after.closed.items ≡ set r.closed.items b false

@@ -1,12 +1,8 @@
 -- All words of a block are wiped, one after the other.
 use Rattle.std.proofs.Common.{◌≡◌, ℕ, ◌+◌, refl, ap, ◌∙◌}
 use Rattle.flash_rule.specs.declared.view.View.{View}
-use Rattle.flash_table.specs.declared.flash.Flash.{Flash}
-use Rattle.flash_table.specs.declared.broom_seat.BroomBlocks.{BroomBlocks}
-use Rattle.flash_table.specs.declared.broom_seat.BroomSeat.{BroomSeat}
-use Rattle.flash_table.specs.declared.broom_seat.ReclaimedBlock.{ReclaimedBlock}
-use Rattle.flash_table.specs.Flash.{IsBroomOf, broom_view, own_blocks}
-use Rattle.flash_table.specs.Erasing.{IsErasing}
+use Rattle.flash_table.specs.{declared.flash.Flash.Flash, Erasing.IsErasing, Flash.IsBroomOf, Flash.broom_view, Flash.own_blocks}
+use Rattle.flash_table.specs.declared.broom_seat.{BroomBlocks.BroomBlocks, BroomSeat.BroomSeat, ReclaimedBlock.ReclaimedBlock}
 
 -- The first words of the block are wiped, so many of them, and nothing else has changed
 pub record WipedTo (f : Flash) (v : View) (x : BroomBlocks) (i : ℕ) (s : BroomSeat) : Type 0 where

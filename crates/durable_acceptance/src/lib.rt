@@ -5,6 +5,8 @@
 #[cfg(test)]
 mod bench;
 #[cfg(test)]
+mod failures;
+#[cfg(test)]
 mod random;
 #[cfg(test)]
 mod rows;

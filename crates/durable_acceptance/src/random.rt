@@ -7,11 +7,11 @@ use std::test::Fail;
 
 // A linear congruential generator: a run is the same each time.
 #[derive(Drop)]
-struct Random(u64);
+pub(crate) struct Random(u64);
 
 impl Random {
     // At most the bound.
-    fn below(&mut self, bound: u64) -> u64
+    pub(crate) fn below(&mut self, bound: u64) -> u64
         ensures { result ≤ bound }
     {
         self.0 = self
@@ -34,7 +34,7 @@ impl Random {
         }
     }
 
-    fn cut(&mut self) -> Cut {
+    pub(crate) fn cut(&mut self) -> Cut {
         match self.below(4) {
             0 => Cut::Nothing,
             1 => Cut::Whole,
@@ -45,11 +45,11 @@ impl Random {
 
 // A layer whose chip loses its power, and the array that it has to hold.
 #[derive(Drop)]
-struct Run {
+pub(crate) struct Run {
     sectors: u32,
     shadow: [Option<u8>; SECTORS],
-    random: Random,
-    calls: u64,
+    pub(crate) random: Random,
+    pub(crate) calls: u64,
     cuts: u64,
 }
 
@@ -65,7 +65,12 @@ impl Run {
     }
 
     // Each sector has to hold what was acknowledged; the one of a call that was cut short may hold its value already.
-    fn check(&mut self, rt: &impl Abort, layer: &mut Durable<Chip>, cut_short: Option<Call>) {
+    pub(crate) fn check(
+        &mut self,
+        rt: &impl Abort,
+        layer: &mut Durable<Chip>,
+        cut_short: Option<Call>,
+    ) {
         for sector in 0..self.sectors {
             let found = read(rt, layer, sector);
             let held = self.held(sector);
@@ -81,23 +86,36 @@ impl Run {
 
     // Makes calls until the power goes, or until there were so many.
     fn until_cut(&mut self, rt: &impl Abort, layer: &mut Durable<Chip>, most: u64) -> Option<Call> {
+        match self.until_failure(layer, rt, most) {
+            Some((call, failure)) => {
+                expect(rt, failure == Failure::PowerGone, &(self.calls, failure));
+                Some(call)
+            }
+            None => None,
+        }
+    }
+
+    /// Makes calls until one fails, or until there were so many.
+    pub(crate) fn until_failure(
+        &mut self,
+        layer: &mut Durable<Chip>,
+        rt: &impl Abort,
+        most: u64,
+    ) -> Option<(Call, Failure)> {
         for _ in 0..most {
             let call = self.random.call(self.sectors);
             let held = self.held(call.sector());
             self.calls = self.calls.wrapping_add(1);
             match make(rt, layer, call, held) {
                 Ok(()) => self.note(call.sector(), call.value(held)),
-                Err(failure) => {
-                    expect(rt, failure == Failure::PowerGone, &(self.calls, failure));
-                    return Some(call);
-                }
+                Err(failure) => return Some((call, failure)),
             }
         }
         None
     }
 }
 
-fn start(sectors: u32, seed: u64) -> Run {
+pub(crate) fn start(sectors: u32, seed: u64) -> Run {
     Run {
         sectors,
         shadow: [None; SECTORS],

@@ -3,14 +3,10 @@
 use Rattle.flash_rule.proofs.Words.{◌≡◌, ℕ, ◌+◌, ◌*◌, ◌<◌, ◌≤◌, ◌==◌, eq-eqb, ne_eqb, true, Some, set, sym, refl, ap, ◌∙◌, subst, arith, get_or, none, dite}
 use Rattle.flash_rule.proofs.Words.{ℕ_discrete, either, step, keeps, stepped, Allows, set_again, Numbers, map_word, page_index, MapWord, Owned, Source, View}
 use Rattle.flash_rule.proofs.Words.{is_player, owned_at, World, Fits, sector_word, blank_word, Lawful, Ruled, Sitter, Named, CanGetStamp, GotStamp, CanMove}
-use Rattle.flash_rule.proofs.Words.{Moved, wiper}
-use Rattle.flash_rule.proofs.Words.{CanInspect, PinWord, Inspected, is_broom, pin_word, inspect_told}
-use Rattle.flash_rule.proofs.Inspecting.{same_end, inspects}
+use Rattle.flash_rule.proofs.Words.{Moved, wiper, CanInspect, PinWord, Inspected, is_broom, pin_word, inspect_told}
+use Rattle.flash_rule.proofs.{Inspecting.same_end, Inspecting.inspects, Points.player_of, Owning.some_same}
 use Rattle.geometry.proofs.PinBits.{pin_same}
-use Rattle.flash_rule.proofs.Points.{player_of}
-use Rattle.flash_rule.proofs.Owning.{some_same}
-use Rattle.flash_rule.proofs.Places.{fits_page, page_within, page_same}
-use Rattle.flash_rule.proofs.Ruling.{Does, does, ruled_kept, ruled_map}
+use Rattle.flash_rule.proofs.{Places.fits_page, Places.page_within, Places.page_same, Ruling.Does, Ruling.does, Ruling.ruled_kept, Ruling.ruled_map}
 use Rattle.flash_rule.proofs.BroomSteps.{looks, stamp_low, gets_stamp, gets_source, source_low, names_source, mover, stays, moves_page, move_told_here}
 use Rattle.flash_rule.proofs.Wiping.{row_of, wiped_index, wipe_world, wipes_word, erased_low}
 use Rattle.flash_rule.specs.BroomPlays.{CanWipe, broom_look_told, stamp_told, source_told, move_told, wipe_told}

@@ -5,14 +5,10 @@ use Rattle.flash_rule.proofs.Words.{map_same, MapWord, Victim, Name, Pass, Playe
 use Rattle.flash_rule.proofs.Words.{AreOfHosts, calls_of, World, is_reclaimed, sector_word, data_word, IsValue, IsCurrent, ReclaimsOne, LawfulOwned}
 use Rattle.flash_rule.proofs.Words.{LawfulSource, Lawful, Met, Named, CanGetStamp, GotStamp, Phase, Open, put, LawfulSector, LawfulView, Onward, CanMove, Moved}
 use Rattle.flash_rule.proofs.Owning.{some_same, none_some, holding_with, kind_with, owned_with, knowledge_with, work_with}
-use Rattle.flash_rule.proofs.Still.{still, met_now, map_fits, onward_called}
-use Rattle.flash_rule.proofs.MapSteps.{word_empty, word_named, filled}
-use Rattle.flash_rule.proofs.Values.{value_same}
-use Rattle.flash_rule.proofs.Points.{put_here, put_else, put_all}
+use Rattle.flash_rule.proofs.{Still.still, Still.met_now, Still.map_fits, Still.onward_called, MapSteps.word_empty, MapSteps.word_named, MapSteps.filled}
+use Rattle.flash_rule.proofs.{Values.value_same, Ceding.ceded_still, Points.put_here, Points.put_else, Points.put_all}
 use Rattle.flash_rule.proofs.Frames.{counted, knowledge_kept, assembled, block_kept, sector_kept}
-use Rattle.flash_rule.proofs.Ceding.{ceded_still}
-use Rattle.flash_rule.specs.World.{HoldsValue}
-use Rattle.flash_rule.specs.BroomPlays.{victim_page}
+use Rattle.flash_rule.specs.{World.HoldsValue, BroomPlays.victim_page}
 
 some_or_none : {X : Type 0} (x : Option X) → (x ≡ None) ⊎ ((y : X) × (x ≡ Some y))
 some_or_none None = inl refl

@@ -1,10 +1,9 @@
 -- The blocks given up, over each kind of change: none given up and the blocks onward, one given up by the seat that steps, a seat split, and a note joined.
 use Rattle.flash_rule.proofs.Words.{◌≡◌, ◌≢◌, ℕ, zero, suc, ◌<◌, ◌≤◌, ◌⊎◌, inl, inr, ⊎_elim, Bool, true, false, List, [], ◌∷◌, ◌++◌, Some, length, set}
-use Rattle.flash_rule.proofs.Words.{slice_get, sym, refl, ap, ◌∙◌, subst, arith, if◌then◌else◌, some, some-injective, dite, ℕ_discrete, get_elem?}
-use Rattle.flash_rule.proofs.Words.{at_set, set_else, at_longer, Numbers, PinWord, Owned, Cycle, View, may_own, put, is_owned, rank, entry_of, IsReached}
-use Rattle.flash_rule.proofs.Words.{IsUnused, IsCededBy, IsCeded, drained_of, LawfulCeded}
-use Rattle.flash_rule.proofs.Points.{put_here, put_all, seat_set}
-use Rattle.flash_rule.proofs.Owning.{nothing, get_last}
+use Rattle.flash_rule.proofs.Words.{slice_get, sym, refl, ap, ◌∙◌, subst, arith, if◌then◌else◌, some, some-injective, dite, ℕ_discrete, get_elem?, at_set}
+use Rattle.flash_rule.proofs.Words.{set_else, at_longer, Numbers, PinWord, Owned, Cycle, View, may_own, put, is_owned, rank, entry_of, IsReached, IsUnused}
+use Rattle.flash_rule.proofs.Words.{IsCededBy, IsCeded, drained_of, LawfulCeded}
+use Rattle.flash_rule.proofs.{Points.put_here, Points.put_all, Points.seat_set, Owning.nothing, Owning.get_last}
 use Rattle.atomic_table.proofs.Lists.{at_snoc}
 use Rattle.flash_rule.specs.Ceded.{IsSameTurn, is_drained}
 

@@ -3,10 +3,8 @@ use Rattle.flash_rule.proofs.Words.{◌≡◌, ℕ, zero, suc, ◌+◌, ◌<◌,
 use Rattle.flash_rule.proofs.Words.{arith, length-set, dite, ℕ_discrete, get_elem?, Splits, at_longer, Numbers, Name, Pass, Broom, Dealer, View, is_pass, Open}
 use Rattle.flash_rule.proofs.Words.{is_player, is_live_role, weight, owned_at, without, some, World, put, is_owned, LawfulOwned, LawfulView, IsDealt, IsFilling}
 use Rattle.flash_rule.proofs.Words.{Onward, Ruled, spare, spares, List, Lawful, Player}
-use Rattle.flash_rule.proofs.Points.{put_here, put_else, eq_self}
+use Rattle.flash_rule.proofs.{Points.put_here, Points.put_else, Points.eq_self, Ceding.ceded_split, Frames.counted, Frames.knowledge_kept, Frames.owner_kept}
 use Rattle.flash_rule.proofs.Owning.{none_some, with_here, without_else, each_with, each_without, owned_else, one_without, kind_with, knowledge_as}
-use Rattle.flash_rule.proofs.Ceding.{ceded_split}
-use Rattle.flash_rule.proofs.Frames.{counted, knowledge_kept, owner_kept}
 use Rattle.flash_rule.proofs.Splitting.{Owner, split_with, current_kept, dealt_world, dealt_onward, dealer_holding, kind_fresh, knowledge_fresh, new_holding}
 use Rattle.atomic_table.proofs.Lists.{at_last}
 use Rattle.flash_rule.specs.Seats.{next_spare, new_broom, dealt_broom}

@@ -3,22 +3,17 @@ use Rattle.flash_rule.proofs.Words.{◌≡◌, ◌≢◌, ℕ, zero, suc, ◌<�
 use Rattle.flash_rule.proofs.Words.{get_or, get_or-set_same, some, get_elem?, Allows, at_set, set_else, Numbers, pin_word, pin_index, PinWord, Owned, Pin, View}
 use Rattle.flash_rule.proofs.Words.{one_if, pin_is_on, pins_on, owned_at, World, is_owned, rank, entry_of, IsReached, IsUnused, IsCededBy, IsCeded, Lawful}
 use Rattle.flash_rule.proofs.Words.{Ruled, Sitter, Forces, ◌+◌, ◌^◌, ◌-◌, [], ◌∷◌, ◌++◌, Some, subst, none, dite, ℕ_discrete, step, freed_added, kept_added}
-use Rattle.flash_rule.proofs.Words.{MapWord, Free, Open, READER, PAGE_WRITTEN, NEXT_PHASE, TAKEN, is_broom, is_player, with_owned, Intact, LawfulKind}
-use Rattle.flash_rule.proofs.Words.{Took, Tested, test_told}
-use Rattle.flash_rule.proofs.Words.{Pinned, take_told, pin_told, unpin_told, count_told, close_told, claim_told, drain_told, condemn_told, freed_told}
-use Rattle.flash_rule.proofs.Words.{kept_told, retired_told}
+use Rattle.flash_rule.proofs.Words.{MapWord, Free, Open, READER, PAGE_WRITTEN, NEXT_PHASE, TAKEN, is_broom, is_player, with_owned, Intact, LawfulKind, Took}
+use Rattle.flash_rule.proofs.Words.{Tested, test_told, Pinned, take_told, pin_told, unpin_told, count_told, close_told, claim_told, drain_told, condemn_told}
+use Rattle.flash_rule.proofs.Words.{freed_told, kept_told, retired_told}
 use Rattle.flash_rule.proofs.Points.{phase_of, of_rank, total_set, player_live, broom_live, phase_or_not, seat_set}
-use Rattle.flash_rule.proofs.Places.{pin_within}
-use Rattle.flash_rule.proofs.OwnSteps.{worker}
-use Rattle.flash_rule.proofs.Ruling.{owner_numbers}
-use Rattle.flash_rule.proofs.Still.{pass_numbers}
+use Rattle.flash_rule.proofs.{Places.pin_within, OwnSteps.worker, Ruling.owner_numbers, Still.pass_numbers}
 use Rattle.flash_rule.proofs.Steps.{test_allowed, take_allowed, count_allowed, close_allowed}
 use Rattle.flash_rule.proofs.ReaderSteps.{intact_or_not, pin_allowed, unpin_allowed}
 use Rattle.flash_rule.proofs.ReclaimAllowed.{claim_allowed, condemn_allowed, drain_allowed, freed_allowed, kept_allowed, retired_allowed}
 use Rattle.std.proofs.Common.{bit_or}
-use Rattle.flash_rule.specs.Forced.{plus, to_next_phase, TestLeaves, TakeSets, PinAdds, UnpinTakesOff, CountAdds, CloseAdds, ClaimExchanges}
-use Rattle.flash_rule.specs.Forced.{DrainAdds, CondemnExchanges}
-use Rattle.flash_rule.specs.Forced.{FreeAdds, KeepAdds, RetireAdds}
+use Rattle.flash_rule.specs.Forced.{plus, to_next_phase, TestLeaves, TakeSets, PinAdds, UnpinTakesOff, CountAdds, CloseAdds, ClaimExchanges, DrainAdds}
+use Rattle.flash_rule.specs.Forced.{CondemnExchanges, FreeAdds, KeepAdds, RetireAdds}
 use Rattle.geometry.proofs.PinBits as bits
 
 -- Two views of one seat own and gave up the same blocks, and have the same pinned

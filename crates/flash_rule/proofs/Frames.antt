@@ -5,10 +5,9 @@ use Rattle.flash_rule.proofs.Words.{Clear, Candidate, Accepted, Stray, Work, Sou
 use Rattle.flash_rule.proofs.Words.{IsProgrammed, Programs, Erases, IsCandidate, LawfulPin, LawfulCopy, Grown, LawfulKnowledge, LawfulOwned, LawfulWork}
 use Rattle.flash_rule.proofs.Words.{LawfulSource, LawfulHolding, LawfulView, Lawful, PinOnward, Untouched, ListsOnward, Onward, ◌≢◌, ◌-◌, Bool, false, set}
 use Rattle.flash_rule.proofs.Words.{at_set, set_else, held, FitsPin, Broom, Dealer, Player, Note, Gone, is_pass, weight, role_weight, owned_at, AreOfHosts}
-use Rattle.flash_rule.proofs.Words.{calls_of, is_nameable, is_still, LawfulCeded, IsCurrent, LawfulSector, LawfulBlock, LawfulKind}
-use Rattle.flash_rule.proofs.Words.{LawfulLoads, LawfulInspection, Inspection, WasShut, is_shut, Open}
-use Rattle.flash_rule.proofs.Points.{eq_self, total_set, seat_set}
-use Rattle.flash_rule.proofs.Owning.{owned_with, source_with, work_with}
+use Rattle.flash_rule.proofs.Words.{calls_of, is_nameable, is_still, LawfulCeded, IsCurrent, LawfulSector, LawfulBlock, LawfulKind, LawfulLoads}
+use Rattle.flash_rule.proofs.Words.{LawfulInspection, Inspection, WasShut, is_shut, Open}
+use Rattle.flash_rule.proofs.{Points.eq_self, Points.total_set, Points.seat_set, Owning.owned_with, Owning.source_with, Owning.work_with}
 use Rattle.std.proofs.lemmas.List.{append-nil}
 use Rattle.geometry.proofs.Histories.{Begins-trans}
 use Rattle.flash_rule.specs.Rule.{IsAccepted}

@@ -3,8 +3,7 @@ use Rattle.flash_rule.proofs.Words.{◌≡◌, ℕ, ◌<◌, eq-eqb, ne_eqb, Lis
 use Rattle.flash_rule.proofs.Words.{ℕ_discrete, Call, Begins, caller, calls_of}
 use Rattle.std.proofs.Common.{append-nil}
 use Rattle.std.specs.Prelude.{All}
-use Rattle.std.proofs.lemmas.List.{append_cancel_left, nil_from_length}
-use Rattle.std.proofs.lemmas.List.Elements.{All-head, All-tail, All-cons}
+use Rattle.std.proofs.lemmas.List.{append_cancel_left, nil_from_length, Elements.All-head, Elements.All-tail, Elements.All-cons}
 
 -- a pass's calls in two parts of a history
 pub calls_of-append : (t : ℕ) (h k : List Call) → calls_of t (h ++ k) ≡ calls_of t h ++ calls_of t k

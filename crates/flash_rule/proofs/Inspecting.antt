@@ -1,12 +1,10 @@
 -- An inspection: the map words of all sectors are looked at in order, and none of them names a page of a closed block.
-use Rattle.flash_rule.proofs.Words.{◌≡◌, ℕ, ◌+◌, ◌<◌, ◌==◌, eq-eqb, ne_eqb, Bool, false, true, List, [], ◌∷◌, ◌++◌, Option, None, Some, suc, length}
-use Rattle.flash_rule.proofs.Words.{slice_get, set, sym, refl, ap, ◌∙◌, subst, arith, some, dite, ℕ_discrete, get_elem?, Numbers, FitsMap, MapWord}
-use Rattle.flash_rule.proofs.Words.{PinWord, View, World, is_broom, sector_word, Lawful, LawfulInspection, WasShut, Inspection, CanInspect, Inspected}
-use Rattle.flash_rule.proofs.Words.{is_page_of, inspected_in}
+use Rattle.flash_rule.proofs.Words.{◌≡◌, ℕ, ◌+◌, ◌<◌, ◌==◌, eq-eqb, ne_eqb, Bool, false, true, List, [], ◌∷◌, ◌++◌, Option, None, Some, suc, length, slice_get}
+use Rattle.flash_rule.proofs.Words.{set, sym, refl, ap, ◌∙◌, subst, arith, some, dite, ℕ_discrete, get_elem?, Numbers, FitsMap, MapWord, PinWord, View, World}
+use Rattle.flash_rule.proofs.Words.{is_broom, sector_word, Lawful, LawfulInspection, WasShut, Inspection, CanInspect, Inspected, is_page_of, inspected_in}
 use Rattle.flash_rule.proofs.Words.{pin_word, if◌then◌else◌}
-use Rattle.flash_rule.proofs.Points.{broom_live, eq_self}
+use Rattle.flash_rule.proofs.{Points.broom_live, Points.eq_self, Still.still, Still.map_fits}
 use Rattle.flash_rule.proofs.Owning.{some_same, holding_with, kind_as, knowledge_as, knowledge_noting}
-use Rattle.flash_rule.proofs.Still.{still, map_fits}
 use Rattle.std.specs.Prelude.{◌&&◌}
 
 -- the sectors that were passed have no page in the block

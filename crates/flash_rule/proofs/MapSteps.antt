@@ -3,10 +3,8 @@ use Rattle.flash_rule.proofs.Words.{◌≡◌, ◌≢◌, ℕ, ◌<◌, ◌⊎�
 use Rattle.flash_rule.proofs.Words.{arith, some, dite, ℕ_discrete, get_elem?, Call, held, Begins-refl, Numbers, MapWord, Open, Victim, Pass, Dealer, Player}
 use Rattle.flash_rule.proofs.Words.{View, is_pass, AreOfHosts, calls_of, caller, World, put, sector_word, LawfulSector, LawfulView, Lawful, Onward, Placed, ◌≤◌}
 use Rattle.flash_rule.proofs.Words.{inr, get_or, Write, WriteNew, Trim, Name, Owned, is_live_role, owned_at, is_nameable, IsCurrent, IsValue, CanPlace}
-use Rattle.flash_rule.proofs.Points.{put_else, put_all, put_here}
+use Rattle.flash_rule.proofs.{Points.put_else, Points.put_all, Points.put_here, Ceding.ceded_still, Still.pass_numbers, Still.onward_called}
 use Rattle.flash_rule.proofs.Frames.{counted, knowledge_kept, assembled, block_kept, sector_kept}
-use Rattle.flash_rule.proofs.Ceding.{ceded_still}
-use Rattle.flash_rule.proofs.Still.{pass_numbers, onward_called}
 use Rattle.flash_rule.proofs.Owning.{kind_as, owned_with, work_with, knowledge_with, some_same, none_some}
 use Rattle.std.proofs.lemmas.List.Elements.{All-push}
 use Rattle.geometry.proofs.Histories.{Begins-push, held_written, held_trimmed, held_new, after_refused, held_by_write, held_by_new, held_by_trim}

@@ -6,9 +6,8 @@ use Rattle.flash_rule.proofs.Words.{pin_is_on, pins_on, weight, role_weight, own
 use Rattle.flash_rule.proofs.Words.{Grown, LawfulKnowledge, LawfulView, Lawful, IsDealt, Onward, Ruled, gone}
 use Rattle.flash_rule.proofs.Points.{player_same, total_set, name_here, name_else, name_all}
 use Rattle.flash_rule.proofs.Owning.{nothing, some_same, none_some, knowledge_as, owned_as, source_with, work_with}
-use Rattle.flash_rule.proofs.Ceding.{ceded_split, ceded_gone}
+use Rattle.flash_rule.proofs.{Ceding.ceded_split, Ceding.ceded_gone, Still.onward_called}
 use Rattle.flash_rule.proofs.Frames.{begins_same, counted, others, knowledge_kept, copy_kept, owner_kept}
-use Rattle.flash_rule.proofs.Still.{onward_called}
 use Rattle.flash_rule.proofs.Splitting.{split, current_kept, kind_fresh, knowledge_fresh, holding_unnamed}
 use Rattle.atomic_table.specs.Table.{Joins}
 use Rattle.flash_rule.specs.Seats.{newcomer, name_of, carried, lender, lent_note, host_of, giver, given_note, home}

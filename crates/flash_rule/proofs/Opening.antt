@@ -4,17 +4,14 @@ use Rattle.flash_rule.proofs.Words.{replicate, slice_get, sym, refl, ap, ◌∙�
 use Rattle.flash_rule.proofs.Words.{some, some-injective, some-ne-none, dite, ℕ_discrete, dec_lt, get_elem?, Numbers, pin_index, page_index, PinWord, Free}
 use Rattle.flash_rule.proofs.Words.{Open, Owned, View, owned_at, caller, World, Fits, is_owned, blank_word, IsCededBy, drained_of, LawfulCeded, LawfulBlock}
 use Rattle.flash_rule.proofs.Words.{LawfulOwned, LawfulView, Lawful, Ruled, spare, spares, Dealer}
-use Rattle.flash_rule.proofs.Owning.{none_some, some_same, nothing}
-use Rattle.flash_rule.proofs.Places.{row_within}
+use Rattle.flash_rule.proofs.{Owning.none_some, Owning.some_same, Owning.nothing, Places.row_within}
 use Rattle.flash_rule.proofs.Splitting.{kind_fresh, knowledge_fresh, holding_unnamed}
 use Rattle.std.specs.Prelude.{nat_lt}
 use Rattle.atomic_table.specs.Table.{opening}
 use Rattle.geometry.proofs.Histories.{held_at_first}
-use Rattle.geometry.specs.Limits.{IsWithinLimits}
-use Rattle.geometry.specs.PinWords.{phase_bits}
+use Rattle.geometry.specs.{Limits.IsWithinLimits, PinWords.phase_bits}
 use Rattle.flash_rule.specs.Seats.{dealer, opening_words}
-use Rattle.std.proofs.lemmas.Bool.Decides.{nat_tests}
-use Rattle.std.proofs.lemmas.List.{get_or_append_left, get_or-append-add, get_or-replicate}
+use Rattle.std.proofs.lemmas.{Bool.Decides.nat_tests, List.get_or_append_left, List.get_or-append-add, List.get_or-replicate}
 
 front : (xs ys : List ℕ) (k : ℕ) → k < length xs → get_or (xs ++ ys) k 0 ≡ get_or xs k 0
 front xs ys k low = get_or_append_left xs ys 0 k low

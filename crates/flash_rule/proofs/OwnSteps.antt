@@ -1,20 +1,18 @@
 -- Steps that change one pin word: what all have in common; take; and the owner's steps on an open block, count and close.
-use Rattle.flash_rule.proofs.Words.{is_shut}
-use Rattle.flash_rule.proofs.Words.{◌≡◌, ◌≢◌, ℕ, ◌+◌, ◌*◌, ◌<◌, ◌≤◌, inl, inr, true, false, List, [], ◌∷◌, ◌++◌, Option, Some, set, sym, refl, ap}
-use Rattle.flash_rule.proofs.Words.{◌∙◌, subst, arith, some, dite, ℕ_discrete, get_elem?, Numbers, Begins-refl, MapWord, PinWord, Phase, Free}
-use Rattle.flash_rule.proofs.Words.{Open, Victim, Erasing, Owned, Cycle, Name, Work, View, is_player, pins_on, weight, owned_at, with_owned, World, put, Erases}
-use Rattle.flash_rule.proofs.Words.{is_owned, is_intact, is_nameable, is_still, half_cycle, age_of, IsBlank, blank_word, rank, LawfulCeded, IsCurrent, is_pass}
-use Rattle.flash_rule.proofs.Words.{IsProgrammed, IsFilling, LawfulBlock, LawfulOwned, LawfulView, Lawful, IsDealt, PinOnward, ListsOnward, Onward}
-use Rattle.flash_rule.proofs.Words.{⊎_elim, None, length, slice_get, Begins, Closed, Player, may_own, without, put_name, Programs, LawfulKind, LawfulWork}
-use Rattle.flash_rule.proofs.Words.{next_page, Source, LawfulSource, ReclaimsOne}
+use Rattle.flash_rule.proofs.Words.{is_shut, ◌≡◌, ◌≢◌, ℕ, ◌+◌, ◌*◌, ◌<◌, ◌≤◌, inl, inr, true, false, List, [], ◌∷◌, ◌++◌, Option, Some, set, sym, refl, ap, ◌∙◌}
+use Rattle.flash_rule.proofs.Words.{subst, arith, some, dite, ℕ_discrete, get_elem?, Numbers, Begins-refl, MapWord, PinWord, Phase, Free, Open, Victim, Erasing}
+use Rattle.flash_rule.proofs.Words.{Owned, Cycle, Name, Work, View, is_player, pins_on, weight, owned_at, with_owned, World, put, Erases, is_owned, is_intact}
+use Rattle.flash_rule.proofs.Words.{is_nameable, is_still, half_cycle, age_of, IsBlank, blank_word, rank, LawfulCeded, IsCurrent, is_pass, IsProgrammed}
+use Rattle.flash_rule.proofs.Words.{IsFilling, LawfulBlock, LawfulOwned, LawfulView, Lawful, IsDealt, PinOnward, ListsOnward, Onward, ⊎_elim, None, length}
+use Rattle.flash_rule.proofs.Words.{slice_get, Begins, Closed, Player, may_own, without, put_name, Programs, LawfulKind, LawfulWork, next_page, Source}
+use Rattle.flash_rule.proofs.Words.{LawfulSource, ReclaimsOne}
 use Rattle.flash_rule.proofs.Points.{player_may_own, put_here, put_else, put_all, total_set, player_same, idle_or_player, may_own_else, name_here, name_else}
 use Rattle.flash_rule.proofs.Points.{name_all, seat_set}
 use Rattle.flash_rule.proofs.Owning.{with_here, with_else, owned_else, one_with_open, holding_with, kind_as, kind_with, knowledge_as, source_with, work_with}
 use Rattle.flash_rule.proofs.Owning.{owns_none_else, some_same, none_some, without_else, one_without, get_last, put3, put3_here, put3_else, blocks_apart}
 use Rattle.flash_rule.proofs.Owning.{open_victim, knowledge_with, owned_with, entry_gone, entry_set}
 use Rattle.flash_rule.proofs.Frames.{counted, knowledge_kept, lists_stay, assembled, block_kept, named_kept}
-use Rattle.flash_rule.proofs.Ceding.{ceded_owned, ceded_last}
-use Rattle.flash_rule.proofs.Still.{stays_onward, pin_stays, still}
+use Rattle.flash_rule.proofs.{Ceding.ceded_owned, Ceding.ceded_last, Still.stays_onward, Still.pin_stays, Still.still}
 use Rattle.std.proofs.lemmas.List.{append-nil}
 use Rattle.flash_rule.specs.Plays.{IsSettled}
 pub use Rattle.flash_rule.proofs.Points.{player_of}

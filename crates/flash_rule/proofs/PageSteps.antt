@@ -1,15 +1,13 @@
 -- Steps on page words: put and get.
-use Rattle.flash_rule.proofs.Words.{◌≡◌, ◌≢◌, ℕ, ◌*◌, ◌<◌, ◌≤◌, inl, inr, ⊎_elim, eq-eqb, ne_eqb, true, false, List, [], ◌∷◌, ◌++◌, Option, None}
-use Rattle.flash_rule.proofs.Words.{Some, length, set, sym, refl, ap, ◌∙◌, subst, arith, length-append, get_or, some, dite, ℕ_discrete, get_elem?, Numbers}
-use Rattle.flash_rule.proofs.Words.{MapWord, Open, Erasing, Pin, Owned, Pass, Broom, Role, Dealer, Player, Note, Gone, Clear, Accepted, Work, Carried, View}
-use Rattle.flash_rule.proofs.Words.{is_pass, is_player, owned_at, World, put_word, is_still, age_of, data_word, IsFilling, LawfulOwned, LawfulWork, LawfulView}
-use Rattle.flash_rule.proofs.Words.{Lawful, LawfulPin, Onward, next_page, words_in, ◌+◌, Begins-refl}
-use Rattle.flash_rule.proofs.Points.{eq_self}
+use Rattle.flash_rule.proofs.Words.{◌≡◌, ◌≢◌, ℕ, ◌*◌, ◌<◌, ◌≤◌, inl, inr, ⊎_elim, eq-eqb, ne_eqb, true, false, List, [], ◌∷◌, ◌++◌, Option, None, Some, length}
+use Rattle.flash_rule.proofs.Words.{set, sym, refl, ap, ◌∙◌, subst, arith, length-append, get_or, some, dite, ℕ_discrete, get_elem?, Numbers, MapWord, Open}
+use Rattle.flash_rule.proofs.Words.{Erasing, Pin, Owned, Pass, Broom, Role, Dealer, Player, Note, Gone, Clear, Accepted, Work, Carried, View, is_pass}
+use Rattle.flash_rule.proofs.Words.{is_player, owned_at, World, put_word, is_still, age_of, data_word, IsFilling, LawfulOwned, LawfulWork, LawfulView, Lawful}
+use Rattle.flash_rule.proofs.Words.{LawfulPin, Onward, next_page, words_in, ◌+◌, Begins-refl}
+use Rattle.flash_rule.proofs.{Points.eq_self, Ceding.ceded_still, Still.pass_of, Still.intact_age, Still.met, Still.programs_once, Still.onward_called}
 use Rattle.flash_rule.proofs.Owning.{some_same, blocks_apart, open_victim, holding_with, kind_with, knowledge_as, owned_with, source_with, put3, put3_here}
 use Rattle.flash_rule.proofs.Owning.{put3_else}
 use Rattle.flash_rule.proofs.Frames.{counted, knowledge_kept, assembled, block_kept, sector_kept}
-use Rattle.flash_rule.proofs.Ceding.{ceded_still}
-use Rattle.flash_rule.proofs.Still.{pass_of, intact_age, met, programs_once, onward_called}
 use Rattle.flash_rule.specs.Plays.{SettledBut, Spared}
 use Rattle.std.proofs.lemmas.List.{get_or_append_left, get_or_push}
 

@@ -5,11 +5,9 @@ use Rattle.flash_rule.proofs.Words.{get_elem?, step, keeps, Allows, Numbers, pin
 use Rattle.flash_rule.proofs.Words.{Drained, Erasing, Retired, Owned, Pin, Clear, Candidate, Accepted, Stray, View, one_if, is_pass, pin_is_on, pins_on, sum_of}
 use Rattle.flash_rule.proofs.Words.{World, put, is_intact, half_cycle, age_of, Intact, IsCandidate, LawfulPin, LawfulOwned, LawfulView, Lawful, Onward, Ruled}
 use Rattle.flash_rule.proofs.Words.{Sitter, Pinned, IsOn, pin_told, unpin_told, ◌==◌}
-use Rattle.flash_rule.proofs.Points.{put_here, put_all, eq_self}
+use Rattle.flash_rule.proofs.{Points.put_here, Points.put_all, Points.eq_self, Ceding.ceded_read, Ruling.ruled_as, Ruling.ruled_plus}
 use Rattle.flash_rule.proofs.Frames.{counted, knowledge_kept, owner_kept, state_fits}
-use Rattle.flash_rule.proofs.Ceding.{ceded_read}
 use Rattle.flash_rule.proofs.OwnSteps.{deeds, moved, pin_moves, block_turned, pin_turned_nameable}
-use Rattle.flash_rule.proofs.Ruling.{ruled_as, ruled_plus}
 use Rattle.flash_rule.proofs.Still.{stays_onward, sum_set, ages_bounded, pass_numbers}
 use Rattle.flash_rule.proofs.Owning.{owned_with, kind_reading, holding_with, source_with, work_with, knowledge_with}
 use Rattle.geometry.proofs.PinBits.{takes_off, reads}

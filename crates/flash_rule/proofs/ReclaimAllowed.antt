@@ -4,12 +4,9 @@ use Rattle.flash_rule.proofs.Words.{subst, arith, get_or, either, some, none, di
 use Rattle.flash_rule.proofs.Words.{pin_word, FitsPin, freed_added, kept_added, pin_index, PinWord, Open, Closed, Victim, Drained, Erasing, Retired, NEXT_PHASE}
 use Rattle.flash_rule.proofs.Words.{Owned, View, is_broom, without, with_owned, World, Fits, is_owned, freed_as, Lawful, Ruled, Sitter, CanClaim, Claimed}
 use Rattle.flash_rule.proofs.Words.{CanCondemn, Condemned, CanDrain, CanRenew, CanRetire, owned_as, cycle_of, claim_told, condemn_told, drain_told, freed_told}
-use Rattle.flash_rule.proofs.Words.{kept_told, retired_told}
-use Rattle.flash_rule.proofs.Words.{LawfulLoads, WasShut, is_shut, inr, slice_get, length, Some}
-use Rattle.flash_rule.proofs.Owning.{get_last}
+use Rattle.flash_rule.proofs.Words.{kept_told, retired_told, LawfulLoads, WasShut, is_shut, inr, slice_get, length, Some}
+use Rattle.flash_rule.proofs.{Owning.get_last, Frames.state_fits, OwnSteps.Deeds, OwnSteps.deeds, OwnSteps.turned}
 use Rattle.flash_rule.proofs.Points.{player_of, broom_player, broom_live, phase_or_not}
-use Rattle.flash_rule.proofs.Frames.{state_fits}
-use Rattle.flash_rule.proofs.OwnSteps.{Deeds, deeds, turned}
 use Rattle.flash_rule.proofs.Ruling.{Does, does, ruled_as, ruled_still, same_block, owner_adds}
 use Rattle.flash_rule.proofs.Reclaiming.{unowned, notes, claims, claimed_state, claimer, condemns, condemned_state, condemner, condemn_deeds, drains_block}
 use Rattle.flash_rule.proofs.Reclaiming.{drained_state, retires, retired_state, frees, freed_state, keeps_block, kept_state, erasing_low, erasing_written}

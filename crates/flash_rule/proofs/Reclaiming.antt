@@ -3,19 +3,15 @@ use Rattle.flash_rule.proofs.Words.{◌≡◌, ◌≢◌, ℕ, ◌*◌, ◌<◌,
 use Rattle.flash_rule.proofs.Words.{get_elem?, Begins, Numbers, Begins-refl, PinWord, Free, Open, Name, Player, Owned, Source, Cycle, View, is_pass, may_own}
 use Rattle.flash_rule.proofs.Words.{owned_at, without, with_owned, World, put, is_owned, is_nameable, is_still, age_of, IsBlank, Erases, LawfulOwned}
 use Rattle.flash_rule.proofs.Words.{LawfulSource, Lawful, PinOnward, ◌+◌, inr, ⊎_elim, ◌∷◌, ◌++◌, length, slice_get, Closed, Victim, Drained, Erasing, is_broom}
-use Rattle.flash_rule.proofs.Words.{put_name, is_intact, half_cycle, rank, owned_as, cycle_of, CanDrain, Retired, freed_as, IsErasing, CanRenew}
-use Rattle.flash_rule.proofs.Words.{LawfulLoads, Numbers}
-use Rattle.flash_rule.proofs.Inspecting.{inspected_dead}
+use Rattle.flash_rule.proofs.Words.{put_name, is_intact, half_cycle, rank, owned_as, cycle_of, CanDrain, Retired, freed_as, IsErasing, CanRenew, LawfulLoads}
+use Rattle.flash_rule.proofs.Words.{Numbers}
+use Rattle.flash_rule.proofs.{Inspecting.inspected_dead, Still.still, Places.row_within, Ceding.ceded_owned, Ceding.ceded_last}
 use Rattle.flash_rule.proofs.Points.{owner_live, player_same, broom_player, broom_no_pass, broom_may_own, may_own_else, put_here, name_here, name_else}
 use Rattle.flash_rule.proofs.Points.{name_all}
 use Rattle.flash_rule.proofs.Owning.{owns_none_else, some_same, none_some, with_here, without_else, with_else, holding_with, kind_as, knowledge_noting}
-use Rattle.flash_rule.proofs.Owning.{one_at_rest, get_last}
-use Rattle.flash_rule.proofs.Owning.{put2, put2_here, put2_else, one_with_open, blocks_apart}
-use Rattle.flash_rule.proofs.Still.{still}
+use Rattle.flash_rule.proofs.Owning.{one_at_rest, get_last, put2, put2_here, put2_else, one_with_open, blocks_apart}
 use Rattle.flash_rule.proofs.OwnSteps.{IsState, phase_onward, Deeds, deeds, turned, block_owned, IsListed, turns, IsOwning, given_up, got, moved, none_listed}
 use Rattle.flash_rule.proofs.OwnSteps.{work_else, IsTurn}
-use Rattle.flash_rule.proofs.Ceding.{ceded_owned, ceded_last}
-use Rattle.flash_rule.proofs.Places.{row_within}
 use Rattle.flash_rule.specs.BroomPlays.{IsAtRest}
 use Rattle.std.proofs.lemmas.List.{append-nil}
 

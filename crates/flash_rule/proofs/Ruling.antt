@@ -2,11 +2,8 @@
 use Rattle.flash_rule.proofs.Words.{◌≡◌, ℕ, ◌+◌, ◌%◌, ◌^◌, ◌<◌, List, Option, Some, set, sym, refl, ap, ◌∙◌, subst, arith, get_or, get_elem?, some, State, Act}
 use Rattle.flash_rule.proofs.Words.{Valid, keeps, stepped, carried_after, Allows, Call, Numbers, pin_word, FitsPin, pin_index, MapWord, PinWord, Owned, View}
 use Rattle.flash_rule.proofs.Words.{owned_at, World, Fits, sector_word, put, LawfulKind, Lawful, Ruled, Sitter, adds}
-use Rattle.flash_rule.proofs.Points.{owner_live, put_here}
-use Rattle.flash_rule.proofs.Places.{fits_load, fits_map, fits_pin, pin_within}
-use Rattle.flash_rule.proofs.Owning.{some_same, owns_none_else}
-use Rattle.flash_rule.proofs.Frames.{state_fits}
-use Rattle.flash_rule.proofs.OwnSteps.{Deeds, deeds, turned}
+use Rattle.flash_rule.proofs.{Points.owner_live, Points.put_here, Frames.state_fits, Places.fits_load, Places.fits_map, Places.fits_pin, Places.pin_within}
+use Rattle.flash_rule.proofs.{Owning.some_same, Owning.owns_none_else, OwnSteps.Deeds, OwnSteps.deeds, OwnSteps.turned}
 use Rattle.geometry.specs.Limits.{table_words_of}
 
 module _ (z : Numbers) (id : ℕ) (me : Sitter) (t : State (Unit {0}) View) where

@@ -6,11 +6,9 @@ use Rattle.flash_rule.proofs.Words.{Clear, View, one_if, total, is_player, is_li
 use Rattle.flash_rule.proofs.Words.{calls_of, World, put_name, is_owned, is_still, is_nameable, LawfulCeded, held, Free, LawfulSector, LawfulBlock, LawfulView}
 use Rattle.flash_rule.proofs.Words.{Lawful, IsDealt, Onward, Ruled, LawfulHolding, LawfulKnowledge, LawfulOwned, age_of, Carried, is_pass, Open, may_own, false}
 use Rattle.flash_rule.proofs.Words.{LawfulKind}
-use Rattle.flash_rule.proofs.Points.{player_same, total_set, name_here, name_else, name_all}
+use Rattle.flash_rule.proofs.{Points.player_same, Points.total_set, Points.name_here, Points.name_else, Points.name_all, Ceding.ceded_split, Still.pin_stays}
 use Rattle.flash_rule.proofs.Owning.{none_some, not_reclaimed, nothing, kind_as, knowledge_as, owned_as}
-use Rattle.flash_rule.proofs.Ceding.{ceded_split}
 use Rattle.flash_rule.proofs.Frames.{counted, others, knowledge_kept, lists_stay, owner_kept, sector_kept}
-use Rattle.flash_rule.proofs.Still.{pin_stays}
 use Rattle.flash_rule.specs.Seats.{newcomer, new_pass, dealt_pass}
 
 at_end : {X : Type 0} (xs : List X) (x y : X) (j : ℕ) → get_elem? (xs ++ x ∷ []) j ≡ some y → (get_elem? xs j ≡ some y) ⊎ ((j ≡ length xs) × (x ≡ y))

@@ -5,23 +5,17 @@ use Rattle.flash_rule.proofs.Words.{either, Call, Write, WriteNew, Trim, Numbers
 use Rattle.flash_rule.proofs.Words.{Open, Closed, TAKEN, NEXT_PHASE, PAGE_WRITTEN, Owned, Accepted, Work, View, is_pass, is_player, owned_at, without}
 use Rattle.flash_rule.proofs.Words.{with_owned, World, is_owned, sector_word, Lawful, Ruled, Sitter, Looked, Placed, Took, CanPlace, CanCount, CanClose}
 use Rattle.flash_rule.proofs.Words.{words_in, next_page, Tested, test_told, take_told, count_told, close_told, is_unpinned}
-use Rattle.flash_rule.proofs.Points.{player_live, phase_or_not}
+use Rattle.flash_rule.proofs.{Points.player_live, Points.phase_or_not, Still.look_empty, Still.look_named, Still.pass_of}
 use Rattle.flash_rule.proofs.Places.{fits_page, page_within, page_same}
-use Rattle.flash_rule.proofs.Owning.{some_same}
-use Rattle.flash_rule.proofs.Frames.{state_fits}
-use Rattle.flash_rule.proofs.Still.{look_empty, look_named, pass_of}
+use Rattle.flash_rule.proofs.{Owning.some_same, Frames.state_fits, Values.value_same, Reclaiming.unowned}
 use Rattle.flash_rule.proofs.OwnSteps.{deeds, takes, denied, taken_state, taker, counts_page, closes, worker, own_low, is_open, counter, count_deeds}
 use Rattle.flash_rule.proofs.OwnSteps.{counted_state, closed_state}
 use Rattle.flash_rule.proofs.Ruling.{Does, does, ruled_kept, ruled_map, ruled_as, ruled_plus, ruled_still, same_block, same_owned, owner_adds}
 use Rattle.flash_rule.proofs.PageSteps.{puts_word, putter, put_world, gets_accepted, spared}
 use Rattle.flash_rule.proofs.MapSteps.{placed, placer, place_world, pass_same, word_empty, word_named, trims, writes, writes_new, leaves}
-use Rattle.flash_rule.proofs.Values.{value_same}
-use Rattle.flash_rule.proofs.Reclaiming.{unowned}
 use Rattle.std.specs.Int.Bits.{bit_or}
 use Rattle.geometry.specs.Sectors.{was_of}
-use Rattle.geometry.specs.declared.answer.Was.{Was}
-use Rattle.geometry.specs.declared.answer.Was.TheVariants.{Empty, Written}
-use Rattle.geometry.specs.declared.map_word.TheConstants.{UNMAPPED}
+use Rattle.geometry.specs.declared.{answer.Was.Was, answer.Was.TheVariants.Empty, answer.Was.TheVariants.Written, map_word.TheConstants.UNMAPPED}
 use Rattle.flash_rule.specs.Plays.{CanPut, look_told, write_told, new_told, trim_told, put_told, get_told, Called}
 use Rattle.geometry.proofs.PinBits.{next_phase, counts, takes_free, takes_taken}
 

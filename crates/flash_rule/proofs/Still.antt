@@ -4,11 +4,9 @@ use Rattle.flash_rule.proofs.Words.{◌∙◌, subst, arith, length-set, suc-mul
 use Rattle.flash_rule.proofs.Words.{Begins, held, Numbers, Begins-refl, map_word, FitsMap, MapWord, PinWord, Phase, Free, Open, Closed, Victim, Drained}
 use Rattle.flash_rule.proofs.Words.{Erasing, Retired, Name, Pass, Broom, Role, Dealer, Player, Note, Gone, Pin, Clear, Candidate, Accepted, Stray, Cycle}
 use Rattle.flash_rule.proofs.Words.{Carried, View, one_if, is_pass, is_live_role, pin_is_on, pins_on, weight, owned_at, AreOfHosts, calls_of, sum_of, World}
-use Rattle.flash_rule.proofs.Words.{is_intact, is_nameable, is_shut, age_of, half_cycle, IsCurrent, Programs, Erases, LawfulKind, LawfulKnowledge}
-use Rattle.flash_rule.proofs.Words.{LawfulPin, LawfulView}
-use Rattle.flash_rule.proofs.Words.{LawfulCopy, Lawful, IsValue, PinOnward, Onward, Looked, Met, is_unpinned}
-use Rattle.flash_rule.proofs.Frames.{lists_stay, assembled, block_kept}
-use Rattle.flash_rule.proofs.Ceding.{ceded_still}
+use Rattle.flash_rule.proofs.Words.{is_intact, is_nameable, is_shut, age_of, half_cycle, IsCurrent, Programs, Erases, LawfulKind, LawfulKnowledge, LawfulPin}
+use Rattle.flash_rule.proofs.Words.{LawfulView, LawfulCopy, Lawful, IsValue, PinOnward, Onward, Looked, Met, is_unpinned}
+use Rattle.flash_rule.proofs.{Frames.lists_stay, Frames.assembled, Frames.block_kept, Ceding.ceded_still}
 use Rattle.flash_rule.proofs.Owning.{kind_reading, some_same, holding_with, knowledge_with}
 use Rattle.flash_rule.specs.Plays.{Disjoint, Once}
 

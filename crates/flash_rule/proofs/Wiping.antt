@@ -5,10 +5,7 @@ use Rattle.flash_rule.proofs.Words.{is_player, owned_at, World, put_word, is_int
 use Rattle.flash_rule.proofs.Words.{Lawful, Onward, IsErasing, wiper, Begins-refl}
 use Rattle.flash_rule.proofs.Owning.{some_same, holding_with, kind_with, knowledge_as, owned_with, source_with, work_with}
 use Rattle.flash_rule.proofs.Frames.{counted, knowledge_kept, assembled, block_kept, sector_kept}
-use Rattle.flash_rule.proofs.Places.{row_same}
-use Rattle.flash_rule.proofs.Ceding.{ceded_still}
-use Rattle.flash_rule.proofs.Still.{onward_called}
-use Rattle.flash_rule.proofs.PageSteps.{word_here, word_else}
+use Rattle.flash_rule.proofs.{Places.row_same, Ceding.ceded_still, Still.onward_called, PageSteps.word_here, PageSteps.word_else}
 use Rattle.std.proofs.Math.Nat.{add-mul}
 
 -- a place in rows of one length is one of some row

@@ -1,22 +1,11 @@
 -- What the rule allows at the device's numbers and at a place of its own is what a step asks, at the table's numbers and at the place that the code
 -- computes.
 use Rattle.std.proofs.Common.{◌≡◌, ℕ, ◌<◌, true, [], sym, refl, ap, subst, arith}
-use Rattle.atomic_table.specs.Table.{Allows, Splits, Joins}
-use Rattle.atomic_table.specs.declared.shared.Seat.{Seat}
-use Rattle.geometry.specs.Geometry.{numbers_of}
-use Rattle.geometry.specs.Limits.{Numbers, table_words_of}
-use Rattle.geometry.specs.TableOrder.{pin_index}
-use Rattle.flash_rule.specs.declared.facts.Role.{Role}
-use Rattle.flash_rule.specs.declared.facts.Role.TheVariants as role
-use Rattle.flash_rule.specs.declared.view.View.{View}
-use Rattle.flash_rule.specs.Views.{is_pass, is_player}
-use Rattle.flash_rule.specs.Plays.{Sitter}
-use Rattle.flash_rule.specs.Seats.{Ruled, gone}
-use Rattle.flash_rule.proofs.Places.{pin_within}
-use Rattle.flash_table.specs.declared.flash.Flash.{Flash}
-use Rattle.flash_table.specs.declared.pass.Pass.{Pass}
-use Rattle.flash_table.specs.declared.pass.Note.{Note}
-use Rattle.flash_table.specs.declared.broom_seat.BroomSeat.{BroomSeat}
+use Rattle.atomic_table.specs.{Table.Allows, Table.Splits, Table.Joins, declared.shared.Seat.Seat}
+use Rattle.geometry.specs.{Geometry.numbers_of, TableOrder.pin_index, Limits.Numbers, Limits.table_words_of}
+use Rattle.flash_rule.specs.{declared.facts.Role.Role, declared.view.View.View, Views.is_player, Plays.Sitter, Seats.Ruled, Seats.gone}
+use Rattle.flash_rule.proofs.{Places.pin_within, Still.pass_of}
+use Rattle.flash_table.specs.declared.{flash.Flash.Flash, pass.Pass.Pass, pass.Note.Note, broom_seat.BroomSeat.BroomSeat}
 use Rattle.flash_table.specs.Flash.{IsPassOf, IsBroomOf, IsNoteOf, note_view, device}
 
 -- A seat of this device, of a pass or of a broom
@@ -25,17 +14,15 @@ pub record IsSeatOf (f : Flash) (x : Seat (Unit {0}) View) : Type 0 where
   pub player : is_player x.me.0.role ≡ true
   pub numbers : x.me.0.numbers ≡ device f
 
-pass_player : (r : Role) → is_pass r ≡ true → is_player r ≡ true
-pass_player (role.Player n) is = refl
-pass_player role.Dealer is = absurd (cc)
-pass_player role.Note is = absurd (cc)
-pass_player role.Gone is = absurd (cc)
+pub of_pass : {f : Flash} {p : Pass} → IsPassOf f p → IsSeatOf f p.seat
+of_pass {f} {p} h = record { table = h.table; player = ap is_player (pass_of p.seat.me.0.role h.role).1; numbers = h.numbers }
 
-pub of_pass : (f : Flash) (p : Pass) → IsPassOf f p → IsSeatOf f p.seat
-of_pass f p h = record { table = h.table; player = pass_player p.seat.me.0.role h.role; numbers = h.numbers }
+pub of_broom : {f : Flash} {s : BroomSeat} → IsBroomOf f s → IsSeatOf f s.seat
+of_broom h = record { table = h.table; player = ap is_player h.role.1; numbers = h.numbers }
 
-pub of_broom : (f : Flash) (s : BroomSeat) → IsBroomOf f s → IsSeatOf f s.seat
-of_broom f s h = record { table = h.table; player = ap is_player h.role.1; numbers = h.numbers }
+-- which player a seat is, and of a device of which numbers
+abbrev pub whose : View → Role × Numbers
+whose v = (v.role, v.numbers)
 
 -- how many slots the table has
 abbrev pub slots_of : Flash → ℕ
@@ -59,28 +46,28 @@ abbrev pub AsksJoin : (f : Flash) (x : Seat (Unit {0}) View) (n : Note) (both : 
 AsksJoin f x n both = (x.table_id ≡ f.table.shared.table_id) × (n.seat.table_id ≡ f.table.shared.table_id) × (n.seat.me.1 ≡ [])
     × (0 < f.table.shared.table_id.words) × Joins (Ruled (numbers_of f.table.shared.key)) x.id x.me.0 n.seat.id (note_view n) both gone
 
-module _ (f : Flash) (x : Seat (Unit {0}) View) (h : IsSeatOf f x) where
+module _ {f : Flash} {x : Seat (Unit {0}) View} (h : IsSeatOf f x) where
   -- a step that brings numbers beside its place
-  pub asks_with : (A : Type 0) (change : A → ℕ → ℕ) (told : ℕ → A → ℕ → Sitter → Type 0) (word place : ℕ) (a b : A) → IsPlace f place → word ≡ place
+  pub asks_with : {A : Type 0} (change : A → ℕ → ℕ) (told : ℕ → A → ℕ → Sitter → Type 0) {word place : ℕ} {a b : A} → IsPlace f place → word ≡ place
       → a ≡ b → Allows (Ruled (device f)) (slots_of f) x.id x.me place (change b) (told place b) → Asks f x word (change a) (told word a)
-  asks_with A change told word place a b within is same law =
+  asks_with {A} change told within is same law =
       let P : Numbers × ℕ × A → Type 0 = λ t. Allows (Ruled t.0) (slots_of f) x.id x.me t.1 (change t.2) (told t.1 t.2) in
       let size = f.size in (h.table, omega arith, subst P (λ i. (sym (ap numbers_of f.key) i, sym is i, sym same i)) law)
 
-  pub asks : (change : ℕ → ℕ) (told : ℕ → ℕ → Sitter → Type 0) (word place : ℕ) → IsPlace f place → word ≡ place
+  pub asks : (change : ℕ → ℕ) (told : ℕ → ℕ → Sitter → Type 0) {word place : ℕ} → IsPlace f place → word ≡ place
       → Allows (Ruled (device f)) (slots_of f) x.id x.me place change (told place) → Asks f x word change (told word)
-  asks change told word place within is law = asks_with ℕ (λ _. change) (λ w _. told w) word place 0 0 within is refl law
+  asks change told within is law = asks_with (λ (_ : ℕ). change) (λ w _. told w) {b = 0} within is refl law
 
   -- a step on a pin word
-  pub asks_pin : (change : ℕ → ℕ) (told : ℕ → ℕ → Sitter → Type 0) (word b : ℕ) → b < (device f).blocks → word ≡ pin_index (device f) b
+  pub asks_pin : (change : ℕ → ℕ) (told : ℕ → ℕ → Sitter → Type 0) {word : ℕ} (b : ℕ) → b < (device f).blocks → word ≡ pin_index (device f) b
       → Allows (Ruled (device f)) (slots_of f) x.id x.me (pin_index (device f) b) change (told (pin_index (device f) b))
       → Asks f x word change (told word)
-  asks_pin change told word b low is law = asks change told word (pin_index (device f) b) (pin_within (device f) b low) is law
+  asks_pin change told b low is law = asks change told (pin_within (device f) b low) is law
 
   -- a step on a map word
   pub asks_sector : (change : ℕ → ℕ) (told : ℕ → Sitter → Type 0) (s : ℕ) → s < (device f).sectors
       → Allows (Ruled (device f)) (slots_of f) x.id x.me s change told → Asks f x s change told
-  asks_sector change told s low law = asks change (λ _. told) s s (omega arith) refl law
+  asks_sector change told s low law = asks change (λ _. told) {place = s} (omega arith) refl law
 
   -- ---- notes
   some_word : 0 < f.table.shared.table_id.words

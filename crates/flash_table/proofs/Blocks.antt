@@ -3,16 +3,13 @@ use Rattle.std.proofs.Common.{◌≡◌, ℕ, List, [], ◌∷◌, ◌++◌, Opt
 use mathlib.Core.Logic.{dite}
 use native.Mathlib.Decide.{ℕ_discrete}
 use Rattle.geometry.specs.declared.pin_word.Phase.TheVariants.{Open, Victim, Erasing}
-use Rattle.flash_rule.specs.declared.facts.Owned.{Owned}
-use Rattle.flash_rule.specs.Views.{owned_at, without, with_owned}
+use Rattle.flash_rule.specs.{declared.facts.Owned.Owned, Views.owned_at, Views.without, Views.with_owned}
 use Rattle.flash_rule.proofs.Owning.{some_same, none_some}
 use Rattle.flash_table.specs.declared.pass.OpenBlock.{OpenBlock}
-use Rattle.flash_table.specs.declared.broom_seat.ReclaimedBlock.{ReclaimedBlock}
-use Rattle.flash_table.specs.declared.broom_seat.Reclaiming.{Reclaiming}
-use Rattle.flash_table.specs.declared.broom_seat.Reclaiming.TheVariants as reclaiming
-use Rattle.flash_table.specs.declared.broom_seat.BroomBlocks.{BroomBlocks}
+use Rattle.flash_table.specs.declared.broom_seat.{ReclaimedBlock.ReclaimedBlock, Reclaiming.Reclaiming, BroomBlocks.BroomBlocks}
 use Rattle.flash_table.specs.Owning.{owned_of, owned_list, reclaimed_as, reclaimed_list, blocks_list, OwnsJust}
 use Rattle.flash_table.proofs.Rows.{at_first, past_first, just_at, just_set, just_without, just_with, stays_without}
+use Rattle.flash_table.specs.declared.broom_seat.Reclaiming.TheVariants as reclaiming
 
 -- a row of three parts
 abbrev row : Option OpenBlock → Option OpenBlock → List Owned → List Owned
@@ -32,7 +29,7 @@ last : (d : Option OpenBlock) (e : Owned) → (owned_list d ++ []) ++ e ∷ [] �
 last None e = refl
 last (Some x) e = refl
 
-module _ (x : BroomBlocks) (owns : List Owned) (h : OwnsJust (blocks_list x) owns) where
+module _ (x : BroomBlocks) {owns : List Owned} (h : OwnsJust (blocks_list x) owns) where
   -- ---- which entries they are
   with_destination : (o : OpenBlock) → x.destination ≡ Some o → OwnsJust (owned_of o ∷ (owned_list x.spare ++ reclaimed_list x.reclaiming)) owns
   with_destination o is = subst (λ d. OwnsJust (row d x.spare (reclaimed_list x.reclaiming)) owns) is h
@@ -46,17 +43,17 @@ module _ (x : BroomBlocks) (owns : List Owned) (h : OwnsJust (blocks_list x) own
   with_reclaiming : (r : Reclaiming) → x.reclaiming ≡ r → OwnsJust (row x.destination x.spare (reclaimed_list r)) owns
   with_reclaiming r is = subst (λ r. OwnsJust (row x.destination x.spare (reclaimed_list r)) owns) is h
 
-  pub destination_at : (o : OpenBlock) → x.destination ≡ Some o → owned_at o.block owns ≡ Some (owned_of o)
-  destination_at o is = just_at [] (owned_list x.spare ++ reclaimed_list x.reclaiming) owns (owned_of o) (with_destination o is)
+  pub destination_at : {o : OpenBlock} → x.destination ≡ Some o → owned_at o.block owns ≡ Some (owned_of o)
+  destination_at {o} is = just_at [] (owned_list x.spare ++ reclaimed_list x.reclaiming) owns (owned_of o) (with_destination o is)
 
-  pub spare_at : (o : OpenBlock) → x.spare ≡ Some o → owned_at o.block owns ≡ Some (owned_of o)
-  spare_at o is = just_at (owned_list x.destination) (reclaimed_list x.reclaiming) owns (owned_of o) (with_spare o is)
+  pub spare_at : {o : OpenBlock} → x.spare ≡ Some o → owned_at o.block owns ≡ Some (owned_of o)
+  spare_at {o} is = just_at (owned_list x.destination) (reclaimed_list x.reclaiming) owns (owned_of o) (with_spare o is)
 
-  pub draining_at : (o : ReclaimedBlock) → x.reclaiming ≡ reclaiming.Draining o → owned_at o.block owns ≡ Some (reclaimed_as Victim o)
-  draining_at o is = just_at (owned_list x.destination ++ owned_list x.spare) [] owns (reclaimed_as Victim o) (with_reclaiming (reclaiming.Draining o) is)
+  pub draining_at : {o : ReclaimedBlock} → x.reclaiming ≡ reclaiming.Draining o → owned_at o.block owns ≡ Some (reclaimed_as Victim o)
+  draining_at {o} is = just_at (owned_list x.destination ++ owned_list x.spare) [] owns (reclaimed_as Victim o) (with_reclaiming _ is)
 
-  pub erasing_at : (o : ReclaimedBlock) → x.reclaiming ≡ reclaiming.Erasing o → owned_at o.block owns ≡ Some (reclaimed_as Erasing o)
-  erasing_at o is = just_at (owned_list x.destination ++ owned_list x.spare) [] owns (reclaimed_as Erasing o) (with_reclaiming (reclaiming.Erasing o) is)
+  pub erasing_at : {o : ReclaimedBlock} → x.reclaiming ≡ reclaiming.Erasing o → owned_at o.block owns ≡ Some (reclaimed_as Erasing o)
+  erasing_at {o} is = just_at (owned_list x.destination ++ owned_list x.spare) [] owns (reclaimed_as Erasing o) (with_reclaiming _ is)
 
   -- a broom that drains and erases nothing has open blocks alone
   pub all_open : x.reclaiming ≡ reclaiming.Nothing → (b : ℕ) (o : Owned) → owned_at b owns ≡ Some o → o.phase ≡ Open
@@ -75,12 +72,12 @@ module _ (x : BroomBlocks) (owns : List Owned) (h : OwnsJust (blocks_list x) own
     opens (Some y) (Some z) b o at = found y (owned_of z ∷ []) b o at (λ e. found z [] b o e (λ e. absurd (none_some o e)))
 
   -- ---- what each step makes of them
-  pub counted_just : (o e : OpenBlock) → x.destination ≡ Some o → e.block ≡ o.block
+  pub counted_just : {o : OpenBlock} (e : OpenBlock) → x.destination ≡ Some o → e.block ≡ o.block
       → OwnsJust (blocks_list (record x { destination = Some e })) (with_owned (owned_of e) owns)
-  counted_just o e is block = just_set [] (owned_list x.spare ++ reclaimed_list x.reclaiming) owns (owned_of o) (owned_of e) block (with_destination o is)
+  counted_just {o} e is block = just_set [] (owned_list x.spare ++ reclaimed_list x.reclaiming) owns (owned_of o) (owned_of e) block (with_destination o is)
 
-  pub closed_just : (o : OpenBlock) → x.destination ≡ Some o → OwnsJust (blocks_list (record x { destination = None })) (without o.block owns)
-  closed_just o is = just_without [] (owned_list x.spare ++ reclaimed_list x.reclaiming) owns (owned_of o) (with_destination o is)
+  pub closed_just : {o : OpenBlock} → x.destination ≡ Some o → OwnsJust (blocks_list (record x { destination = None })) (without o.block owns)
+  closed_just {o} is = just_without [] (owned_list x.spare ++ reclaimed_list x.reclaiming) owns (owned_of o) (with_destination o is)
 
   pub claimed_just : (o : ReclaimedBlock) → x.reclaiming ≡ reclaiming.Nothing → owned_at o.block owns ≡ None
       → OwnsJust (blocks_list (record x { reclaiming = reclaiming.Draining o })) (with_owned (reclaimed_as Victim o) owns)
@@ -102,17 +99,17 @@ module _ (x : BroomBlocks) (owns : List Owned) (h : OwnsJust (blocks_list x) own
       (just_with (owned_list x.destination) r owns (owned_of e) fresh bare) in
       subst (λ l. OwnsJust l (owned_of e ∷ owns)) (middle x.destination (owned_of e) r) more
 
-  pub drained_just : (o : ReclaimedBlock) → x.reclaiming ≡ reclaiming.Draining o
+  pub drained_just : {o : ReclaimedBlock} → x.reclaiming ≡ reclaiming.Draining o
       → OwnsJust (blocks_list (record x { reclaiming = reclaiming.Nothing })) (without o.block owns)
-  drained_just o is = just_without (owned_list x.destination ++ owned_list x.spare) [] owns (reclaimed_as Victim o) (with_reclaiming (reclaiming.Draining o) is)
+  drained_just {o} is = just_without (owned_list x.destination ++ owned_list x.spare) [] owns (reclaimed_as Victim o) (with_reclaiming _ is)
 
-  pub erased_just : (o : ReclaimedBlock) → x.reclaiming ≡ reclaiming.Erasing o
+  pub erased_just : {o : ReclaimedBlock} → x.reclaiming ≡ reclaiming.Erasing o
       → OwnsJust (blocks_list (record x { reclaiming = reclaiming.Nothing })) (without o.block owns)
-  erased_just o is = just_without (owned_list x.destination ++ owned_list x.spare) [] owns (reclaimed_as Erasing o) (with_reclaiming (reclaiming.Erasing o) is)
+  erased_just {o} is = just_without (owned_list x.destination ++ owned_list x.spare) [] owns (reclaimed_as Erasing o) (with_reclaiming _ is)
 
-  pub kept_just : (o : ReclaimedBlock) (e : OpenBlock) → x.reclaiming ≡ reclaiming.Erasing o → x.spare ≡ None → e.block ≡ o.block
+  pub kept_just : {o : ReclaimedBlock} (e : OpenBlock) → x.reclaiming ≡ reclaiming.Erasing o → x.spare ≡ None → e.block ≡ o.block
       → OwnsJust (blocks_list (record x { spare = Some e; reclaiming = reclaiming.Nothing })) (with_owned (owned_of e) owns)
-  kept_just o e is none block =
+  kept_just {o} e is none block =
       let there : OwnsJust (row x.destination None (reclaimed_as Erasing o ∷ [])) owns =
       subst (λ s. OwnsJust (row x.destination s (reclaimed_as Erasing o ∷ [])) owns) none (with_reclaiming (reclaiming.Erasing o) is) in
       subst (λ l. OwnsJust l (with_owned (owned_of e) owns)) (last x.destination (owned_of e))

@@ -1,18 +1,11 @@
 -- The passes are dealt one after the other, and then the brooms.
 use Rattle.std.proofs.Common.{◌≡◌, ℕ, suc, ◌+◌, ◌-◌, ◌<◌, ⊎_elim, List, [], ◌∷◌, ◌++◌, None, Some, length, slice_get, sym, ap, ◌∙◌, subst, arith, length-append}
 use Rattle.geometry.specs.Limits.{Numbers}
-use Rattle.atomic_table.specs.Table.{Splits}
 use Rattle.atomic_table.specs.declared.shared.Seat.{Seat}
-use Rattle.flash_rule.specs.declared.facts.Role.TheVariants.{Dealer}
-use Rattle.flash_rule.specs.declared.view.View.{View}
-use Rattle.flash_rule.specs.Views.{is_pass, owned_at, without}
-use Rattle.flash_rule.specs.Seats.{Ruled, dealt_pass, new_pass, spare, spares, next_spare, dealt_broom, new_broom}
-use Rattle.flash_rule.proofs.Owning.{get_last, nothing}
-use Rattle.flash_rule.proofs.Splitting.{deals_pass}
-use Rattle.flash_rule.proofs.DealingBrooms.{first_spare, other_spares, deals_broom}
-use Rattle.flash_table.specs.declared.flash.Flash.{Flash}
-use Rattle.flash_table.specs.declared.pass.Pass.{Pass}
-use Rattle.flash_table.specs.declared.broom_seat.BroomSeat.{BroomSeat}
+use Rattle.flash_rule.specs.{declared.facts.Role.TheVariants.Dealer, declared.view.View.View, Views.is_pass, Views.owned_at, Views.without}
+use Rattle.flash_rule.specs.Seats.{dealt_pass, new_pass, spare, spares, next_spare, dealt_broom, new_broom}
+use Rattle.flash_rule.proofs.{Owning.get_last, Owning.nothing, DealingBrooms.first_spare, DealingBrooms.other_spares}
+use Rattle.flash_table.specs.declared.{flash.Flash.Flash, pass.Pass.Pass, broom_seat.BroomSeat.BroomSeat}
 use Rattle.flash_table.specs.Flash.{IsPassOf, IsBroomOf, view_of, broom_view, opened_of, own_blocks, device, first_view, first_broom, first_blocks, spare_of}
 
 -- so many passes have been dealt, pass k with number k
@@ -26,15 +19,21 @@ pub record Deals (f : Flash) (dealer : Seat (Unit {0}) View) (passes : List Pass
   pub owns : dealer.me.0.owns ≡ spares (device f).brooms ((device f).blocks - (device f).brooms)
   pub each : (k : ℕ) (p : Pass) → slice_get passes k ≡ Some p → IsPassOf f p × (view_of p ≡ first_view (device f) k) × (opened_of p ≡ None)
 
-pub deal_here : (z k : Numbers) (same : k ≡ z) (id : ℕ) (v : View) → v.role ≡ Dealer → v.passes < v.numbers.hosts
-    → Splits (Ruled k) id v (dealt_pass v) (new_pass v)
-deal_here z k same id v role room = let P : Numbers → Type 0 = λ x. Splits (Ruled x) id v (dealt_pass v) (new_pass v) in
-    subst P (sym same) (deals_pass z id v role room)
+-- what holds of each item of a row holds after one item more
+pushed : {X : Type 0} (P : ℕ → X → Type 0) (xs : List X) (x : X) (t : ℕ) → length xs ≡ t → P t x → ((k : ℕ) (y : X) → slice_get xs k ≡ Some y → P k y)
+    → (k : ℕ) (y : X) → slice_get (xs ++ x ∷ []) k ≡ Some y → P k y
+pushed P xs x t long now each k y is =
+    ⊎_elim (each k y) (λ (new : (k ≡ length xs) × (x ≡ y)). subst (λ k. P k y) (sym (new.0 ∙ long)) (subst (P t) new.1 now)) (get_last xs x y k is)
 
 pub deals_next : (f : Flash) (before after : Seat (Unit {0}) View) (passes : List Pass) (p : Pass) (t : ℕ) → Deals f before passes t
     → after.table_id ≡ before.table_id → after.me.0 ≡ dealt_pass before.me.0
     → p.seat.table_id ≡ before.table_id → view_of p ≡ new_pass before.me.0 → opened_of p ≡ None → Deals f after (passes ++ p ∷ []) (t + 1)
 deals_next f before after passes p t h table now seat view closed =
+    let its : IsPassOf f p = record {
+      table = seat ∙ h.table;
+      role = ap (λ (v : View). is_pass v.role) view;
+      numbers = ap (λ (v : View). v.numbers) view ∙ h.numbers;
+    } in
     record {
       table = table ∙ h.table;
       role = ap (λ (v : View). v.role) now ∙ h.role;
@@ -43,19 +42,8 @@ deals_next f before after passes p t h table now seat view closed =
       long = (let l = length-append passes (p ∷ []) in let e = h.long in omega arith);
       none = ap (λ (v : View). v.brooms) now ∙ h.none;
       owns = ap (λ (v : View). v.owns) now ∙ h.owns;
-      each = λ k q is.
-          ⊎_elim (λ (old : slice_get passes k ≡ Some q). h.each k q old)
-          (λ (new : (k ≡ length passes) × (p ≡ q)).
-          let place : t ≡ k = sym (new.0 ∙ h.long) in
-          let first : view_of p ≡ first_view (device f) t = view ∙ (λ i. first_view (h.numbers i) (h.count i)) in
-          let its : IsPassOf f p = record {
-            table = seat ∙ h.table;
-            role = ap (λ (v : View). is_pass v.role) view;
-            numbers = ap (λ (v : View). v.numbers) view ∙ h.numbers;
-          } in
-          let P : ℕ × Pass → Type 0 = λ x. IsPassOf f x.1 × (view_of x.1 ≡ first_view (device f) x.0) × (opened_of x.1 ≡ None) in
-          let now : P (t, p) = (its, first, closed) in subst P (λ i. (place i, new.1 i)) now)
-          (get_last passes p q k is);
+      each = pushed (λ k q. IsPassOf f q × (view_of q ≡ first_view (device f) k) × (opened_of q ≡ None)) passes p t h.long
+          (its, view ∙ (λ i. first_view (h.numbers i) (h.count i)), closed) h.each;
     }
 
 -- ---- brooms
@@ -110,16 +98,16 @@ module _ (z : Numbers) (v : View) (t : ℕ) (numbers : v.numbers ≡ z) (count :
       (λ i. without (next_is i) ((owns ∙ ap (λ n. spares n (spare_of z t)) one_more) i))
       ∙ (other_spares (z.brooms - (t + 1)) (spare_of z t) ∙ ap (λ b. spares (z.brooms - (t + 1)) b) behind)
 
-pub deal_broom_here : (z k : Numbers) (same : k ≡ z) (id : ℕ) (v : View) → v.role ≡ Dealer
-    → owned_at (next_spare v) v.owns ≡ Some (spare (next_spare v)) → Splits (Ruled k) id v (dealt_broom v) (new_broom v)
-deal_broom_here z k same id v role has = let P : Numbers → Type 0 = λ x. Splits (Ruled x) id v (dealt_broom v) (new_broom v) in
-    subst P (sym same) (deals_broom z id v role has)
-
 pub deals_next_broom : (f : Flash) (before after : Seat (Unit {0}) View) (brooms : List BroomSeat) (b : BroomSeat) (t : ℕ)
     → DealsBrooms f before brooms t → t < (device f).brooms → after.table_id ≡ before.table_id
     → after.me.0 ≡ dealt_broom before.me.0 → b.seat.table_id ≡ before.table_id → broom_view b ≡ new_broom before.me.0
     → own_blocks b ≡ first_blocks (device f) t → DealsBrooms f after (brooms ++ b ∷ []) (t + 1)
 deals_next_broom f before after brooms b t h more table now seat view blocks =
+    let its : IsBroomOf f b = record {
+      table = seat ∙ h.table;
+      role = (before.me.0.brooms, ap (λ (v : View). v.role) view);
+      numbers = ap (λ (v : View). v.numbers) view ∙ h.numbers;
+    } in
     record {
       table = table ∙ h.table;
       role = ap (λ (v : View). v.role) now ∙ h.role;
@@ -127,19 +115,6 @@ deals_next_broom f before after brooms b t h more table now seat view blocks =
       numbers = ap (λ (v : View). v.numbers) now ∙ h.numbers;
       owns = ap (λ (v : View). v.owns) now ∙ others_owned (device f) before.me.0 t h.numbers h.count h.owns more;
       long = (let l = length-append brooms (b ∷ []) in let e = h.long in omega arith);
-      each = λ k q is.
-          ⊎_elim (λ (old : slice_get brooms k ≡ Some q). h.each k q old)
-          (λ (new : (k ≡ length brooms) × (b ≡ q)).
-          let place : t ≡ k = sym (new.0 ∙ h.long) in
-          let first : broom_view b ≡ first_broom (device f) t = view ∙ (λ i. first_broom (h.numbers i) (h.count i)) in
-          let its : IsBroomOf f b =
-          record {
-            table = seat ∙ h.table;
-            role = (before.me.0.brooms, ap (λ (v : View). v.role) view);
-            numbers = ap (λ (v : View). v.numbers) view ∙ h.numbers;
-          } in
-          let P : ℕ × BroomSeat → Type 0 =
-          λ x. IsBroomOf f x.1 × (broom_view x.1 ≡ first_broom (device f) x.0) × (own_blocks x.1 ≡ first_blocks (device f) x.0) in
-          let now : P (t, b) = (its, first, blocks) in subst P (λ i. (place i, new.1 i)) now)
-          (get_last brooms b q k is);
+      each = pushed (λ k q. IsBroomOf f q × (broom_view q ≡ first_broom (device f) k) × (own_blocks q ≡ first_blocks (device f) k)) brooms b t h.long
+          (its, view ∙ (λ i. first_broom (h.numbers i) (h.count i)), blocks) h.each;
     }

@@ -1,9 +1,8 @@
 -- What a seat owns beside the row of its blocks, when one of them changes, goes or comes.
+use Rattle.flash_rule.specs.{declared.view.View.View, declared.facts.Owned.Owned, Views.owned_at, Views.without, Views.with_owned}
 use Rattle.std.proofs.Common.{◌≡◌, ◌≢◌, ℕ, eq-eqb, ne_eqb, List, [], ◌∷◌, ◌++◌, None, Some, sym, refl, ap, ◌∙◌, subst}
 use mathlib.Core.Logic.{dite}
 use native.Mathlib.Decide.{ℕ_discrete}
-use Rattle.flash_rule.specs.declared.facts.Owned.{Owned}
-use Rattle.flash_rule.specs.Views.{owned_at, without, with_owned}
 use Rattle.flash_rule.proofs.Owning.{none_some, with_here, with_else, without_here, without_else}
 use Rattle.flash_table.specs.Owning.{AreApart, OwnsJust}
 
@@ -109,5 +108,5 @@ just_with xs ys owns o fresh h =
     })
 
 -- what a seat owns after a step
-pub just_now : (row owns after : List Owned) → after ≡ owns → OwnsJust row owns → OwnsJust row after
-just_now row owns after is h = subst (λ owns. OwnsJust row owns) (sym is) h
+pub just_now : {row : List Owned} {v w : View} → w ≡ v → OwnsJust row v.owns → OwnsJust row w.owns
+just_now {row} is h = subst (λ (u : View). OwnsJust row u.owns) (sym is) h

@@ -1,44 +1,26 @@
 -- What a step's play makes of a pass, and of any seat with an open block.
+use Rattle.flash_table.proofs.Asking.{whose, IsSeatOf, slots_of}
 use Rattle.std.proofs.Common.{◌≡◌, ℕ, ◌+◌, ◌<◌, Bool, true, false, List, [], ◌∷◌, ◌++◌, length, Option, Some, None, sym, refl, ap, ◌∙◌, subst, arith}
-use Rattle.geometry.specs.PinWords.{FitsPin, pin_word}
-use Rattle.geometry.specs.declared.pin_word.PinWord.{PinWord}
-use Rattle.flash_rule.specs.declared.facts.Owned.{Owned}
-use Rattle.flash_rule.specs.declared.view.View.{View}
-use Rattle.flash_rule.specs.Views.{is_pass, owned_at, with_owned, without}
+use Rattle.geometry.specs.{PinWords.FitsPin, PinWords.pin_word, Limits.Numbers, Geometry.blocks_of, Geometry.pages_of, MapWords.map_word, MapWords.FitsMap}
+use Rattle.geometry.specs.declared.pin_word.{PinWord.PinWord, TheConstants.NEXT_PHASE, TheConstants.PAGE_WRITTEN, TheConstants.READER}
+use Rattle.flash_rule.specs.declared.facts.{Owned.Owned, Work.Work, Pin.TheVariants.Clear, Pin.TheVariants.Candidate, Pin.TheVariants.Accepted}
+use Rattle.flash_rule.specs.{declared.view.View.View, World.data_word, World.Intact, Views.is_pass, Views.owned_at, Views.with_owned, Views.without}
 use Rattle.std.specs.Bool.{MatchBool}
 use mathlib.Core.Option.{none}
-use Rattle.atomic_table.specs.Table.{step}
-use Rattle.atomic_table.specs.declared.shared.Seat.{Seat}
-use Rattle.geometry.specs.Geometry.{blocks_of, pages_of}
-use Rattle.geometry.specs.declared.geometry.Geometry.{Geometry}
-use Rattle.geometry.specs.History.{Write, WriteNew, Trim}
-use Rattle.geometry.specs.Limits.{Numbers}
-use Rattle.geometry.specs.MapWords.{map_word, FitsMap}
-use Rattle.geometry.specs.TableOrder.{pin_index, page_index}
-use Rattle.geometry.specs.declared.map_word.MapWord.{MapWord}
-use Rattle.geometry.specs.declared.map_word.TheConstants.{UNMAPPED}
-use Rattle.geometry.specs.declared.pin_word.TheConstants.{NEXT_PHASE, PAGE_WRITTEN, READER}
-use Rattle.flash_rule.specs.declared.facts.Work.{Work}
-use Rattle.flash_rule.specs.declared.facts.Pin.TheVariants.{Clear, Candidate, Accepted}
-use Rattle.flash_rule.specs.World.{data_word, Intact}
-use Rattle.flash_rule.specs.Plays.{Sitter, Placed, CanPlace, CanPut, CanCount, CanClose, words_in, next_page, write_told, new_told, trim_told}
-use Rattle.flash_rule.specs.Plays.{put_told, count_told, close_told, IsOn, Pinned, pin_told, unpin_told, get_told}
-use Rattle.flash_rule.proofs.Still.{pass_of}
-use Rattle.flash_rule.proofs.Owning.{some_same}
+use Rattle.atomic_table.specs.{Table.step, declared.shared.Seat.Seat}
+use Rattle.geometry.specs.declared.{geometry.Geometry.Geometry, map_word.MapWord.MapWord, map_word.TheConstants.UNMAPPED}
+use Rattle.geometry.specs.{History.Write, History.WriteNew, History.Trim, TableOrder.pin_index, TableOrder.page_index}
+use Rattle.flash_rule.specs.Plays.{Sitter, Placed, CanPlace, CanPut, CanCount, CanClose, words_in, next_page, write_told, new_told, trim_told, put_told}
+use Rattle.flash_rule.specs.Plays.{count_told, close_told, IsOn, Pinned, pin_told, unpin_told, get_told}
+use Rattle.flash_rule.proofs.{Still.pass_of, Points.eq_self, Owning.some_same}
 use Rattle.geometry.proofs.PinBits.{pin_same}
-use Rattle.flash_rule.proofs.Points.{eq_self}
-use Rattle.flash_table.specs.declared.flash.Flash.{Flash}
-use Rattle.flash_table.specs.declared.pass.Pass.{Pass}
-use Rattle.flash_table.specs.declared.pass.OpenBlock.{OpenBlock}
+use Rattle.flash_table.specs.declared.{flash.Flash.Flash, pass.Pass.Pass, pass.OpenBlock.OpenBlock}
 use Rattle.flash_table.specs.Owning.{owned_of, owned_list, closed_as, closed_list}
-use Rattle.flash_table.specs.GivingUp.{closed_pass, left_closed}
-use Rattle.flash_table.specs.Steps.{CanGiveUp, IsFilled, IsNextWord}
+use Rattle.flash_table.specs.{GivingUp.closed_pass, GivingUp.left_closed, Steps.CanGiveUp, Steps.IsFilled, Steps.IsNextWord}
 use Rattle.flash_table.specs.Flash.{IsPassOf, Strayed, view_of, device}
-use Rattle.flash_table.proofs.Asking.{IsSeatOf, slots_of}
 
-pub stays_pass : (f : Flash) (p q : Pass) → IsPassOf f p → q.seat.table_id ≡ p.seat.table_id → (view_of q).role ≡ (view_of p).role
-    → (view_of q).numbers ≡ (view_of p).numbers → IsPassOf f q
-stays_pass f p q h table role numbers = record { table = table ∙ h.table; role = ap is_pass role ∙ h.role; numbers = numbers ∙ h.numbers }
+pub stays_pass : {f : Flash} {p q : Pass} → IsPassOf f p → q.seat.table_id ≡ p.seat.table_id → whose (view_of q) ≡ whose (view_of p) → IsPassOf f q
+stays_pass h table same = record { table = table ∙ h.table; role = ap (λ w. is_pass w.0) same ∙ h.role; numbers = ap (λ w. w.1) same ∙ h.numbers }
 
 pub without_one : (o : Owned) → without o.block (o ∷ []) ≡ []
 without_one o = rw (eq_self o.block) refl
@@ -51,38 +33,38 @@ pub by_outcome : (b : Bool) (P Q R S : Type 0) → (P → R) → (Q → S) → M
 by_outcome true P Q R S f g h = f h
 by_outcome false P Q R S f g h = g h
 
-pub same_block : (a b : OpenBlock) (x : Option OpenBlock) → x ≡ Some a → x ≡ Some b → a ≡ b
-same_block a b x p q = some_same a b (sym p ∙ q)
+pub same_block : {a b : OpenBlock} {x : Option OpenBlock} → x ≡ Some a → x ≡ Some b → a ≡ b
+same_block {a} {b} p q = some_same a b (sym p ∙ q)
 
 -- a place at which one block's next page begins, where another name of that block is asked for
-pub starts_same : (z : Numbers) (start : ℕ) (a b : OpenBlock) (x : Option OpenBlock) → start ≡ page_index z a.block a.written → x ≡ Some a
+pub starts_same : (z : Numbers) (start : ℕ) {a b : OpenBlock} {x : Option OpenBlock} → start ≡ page_index z a.block a.written → x ≡ Some a
     → x ≡ Some b → start ≡ page_index z b.block b.written
-starts_same z start a b x at p q = at ∙ ap (λ (o : OpenBlock). page_index z o.block o.written) (same_block a b x p q)
+starts_same z start at p q = at ∙ ap (λ (o : OpenBlock). page_index z o.block o.written) (same_block p q)
 
 -- ---- what is asked of the open block, of the block that is found there
-module _ (g : Geometry) (v : View) (opened : Option OpenBlock) (o : OpenBlock) (is : opened ≡ Some o) where
+module _ (g : Geometry) (v : View) {opened : Option OpenBlock} {o : OpenBlock} (is : opened ≡ Some o) where
   pub put_can : (i : ℕ) → IsNextWord g v opened i → CanPut v (owned_of o) × (i ≡ length (words_in v.work (owned_of o))) × (o.block < blocks_of g)
   put_can i t = let P : OpenBlock → Type 0 = λ x. CanPut v (owned_of x) × (i ≡ length (words_in v.work (owned_of x))) × (x.block < blocks_of g) in
-      subst P (same_block t.0 o opened t.1 is) (t.2, t.3, t.4)
+      subst P (same_block t.1 is) (t.2, t.3, t.4)
 
   pub count_can : IsFilled g v opened → (x : Work) × CanCount v (owned_of o) x × (o.written < pages_of g) × (o.block < blocks_of g)
   count_can t = let P : OpenBlock → Type 0 = λ y. (x : Work) × CanCount v (owned_of y) x × (y.written < pages_of g) × (y.block < blocks_of g) in
-      subst P (same_block t.0 o opened t.2 is) (t.1, t.3, t.4, t.5)
+      subst P (same_block t.2 is) (t.1, t.3, t.4, t.5)
 
   pub close_can : CanGiveUp g v opened → CanClose v (owned_of o) × (o.block < blocks_of g)
-  close_can t = let P : OpenBlock → Type 0 = λ x. CanClose v (owned_of x) × (x.block < blocks_of g) in subst P (same_block t.0 o opened t.1 is) (t.2, t.3)
+  close_can t = let P : OpenBlock → Type 0 = λ x. CanClose v (owned_of x) × (x.block < blocks_of g) in subst P (same_block t.1 is) (t.2, t.3)
 
 -- ---- what a step on it makes of the seat of a pass or a broom
-module _ (f : Flash) (x : Seat (Unit {0}) View) (h : IsSeatOf f x) (n : ℕ) (after : Sitter) (word : ℕ) (o : OpenBlock) where
+module _ {f : Flash} {x : Seat (Unit {0}) View} (h : IsSeatOf f x) {after : Sitter} {word : ℕ} (o : OpenBlock) where
   pub put_view : (i w : ℕ) → CanPut x.me.0 (owned_of o) → i ≡ length (words_in x.me.0.work (owned_of o)) → word ≡ page_index (device f) o.block o.written + i
-      → put_told (step (slots_of f) word w 0 none) x.me n after
+      → put_told (step (slots_of f) word w 0 none) x.me 0 after
       → after.0 ≡ record x.me.0 { work = Some (record { page = next_page (owned_of o); words = words_in x.me.0.work (owned_of o) ++ w ∷ [] }) }
   put_view i w can here at told =
       told.1 (owned_of o) can (at ∙ (ap (λ k. page_index (device f) o.block o.written + k) here
       ∙ ap (λ y. page_index y o.block o.written + length (words_in x.me.0.work (owned_of o))) (sym h.numbers)))
 
   pub count_view : (w : Work) → CanCount x.me.0 (owned_of o) w → word ≡ pin_index (device f) o.block
-      → count_told (step (slots_of f) word PAGE_WRITTEN 0 none) x.me n after
+      → count_told (step (slots_of f) word PAGE_WRITTEN 0 none) x.me 0 after
       → after.0 ≡ record x.me.0 {
         programs = x.me.0.programs ++ w.page ∷ [];
         owns = with_owned (owned_of (record o { written = o.written + 1 })) x.me.0.owns;
@@ -90,7 +72,7 @@ module _ (f : Flash) (x : Seat (Unit {0}) View) (h : IsSeatOf f x) (n : ℕ) (af
   count_view w can at told = told.1 (owned_of o) w can (at ∙ ap (λ y. pin_index y o.block) (sym h.numbers))
 
   pub close_view : CanClose x.me.0 (owned_of o) → word ≡ pin_index (device f) o.block
-      → close_told (step (slots_of f) word NEXT_PHASE 0 none) x.me n after → after.0 ≡ left_closed x.me.0 o
+      → close_told (step (slots_of f) word NEXT_PHASE 0 none) x.me 0 after → after.0 ≡ left_closed x.me.0 o
   close_view can at told = told.1 (owned_of o) can (at ∙ ap (λ y. pin_index y o.block) (sym h.numbers))
 
 -- ---- a pass owns no other block
@@ -113,8 +95,25 @@ module _ (p : Pass) (o : OpenBlock) (is : p.opened ≡ Some o) where
       let closed : closed_as o ∷ [] ≡ closed_list p.opened = ap closed_list (sym is) in
       changed ∙ (λ i. record (view_of p) { owns = alone i; work = None; ceded = (view_of p).ceded ++ closed i })
 
+-- ---- what a pin records, by what its word says
+module _ {v w : View} {m : MapWord} {value : List ℕ} {n : ℕ} (told : Pinned v m value n w) where
+  pub pin_yes : (state : PinWord) × FitsPin state × (pin_word state ≡ n) × Intact state m.generation → w ≡ record v { pin = Accepted m value }
+  pin_yes t =
+      let same : told.state ≡ t.0 = pin_same told.state t.0 told.fits t.1 (sym told.found ∙ sym t.2) in
+      let a = told.accepted (subst (λ (s : PinWord). Intact s m.generation) (sym same) t.3) in
+      told.changed ∙ (λ i. record v { pin = a.0 i; known = a.1 i })
+
+  pub pin_no : ((state : PinWord) → FitsPin state → pin_word state ≡ n → ¬ Intact state m.generation) → Strayed v m.block w
+  pin_no not =
+      let a = told.stray (not told.state told.fits (sym told.found)) in
+      record { changed = told.changed ∙ (λ i. record v { pin = a.0 i; known = w.known }); rises = a.1; bounded = told.bounded }
+
+pub unpin_view : {f : Flash} {p : Pass} {after : Sitter} {word : ℕ} → IsPassOf f p → (b : ℕ) → IsOn (view_of p).pin b → word ≡ pin_index (device f) b
+    → unpin_told (step (slots_of f) word READER 0 none) p.seat.me 0 after → after.0 ≡ record (view_of p) { pin = Clear }
+unpin_view h b on at told = told.1 b on (at ∙ ap (λ y. pin_index y b) (sym h.numbers))
+
 -- ---- what a step makes of a pass
-module _ (f : Flash) (p : Pass) (h : IsPassOf f p) (n : ℕ) (after : Sitter) where
+module _ {f : Flash} {p : Pass} (h : IsPassOf f p) {n : ℕ} {after : Sitter} where
   -- ---- place
   pub trim_changed : (s : ℕ) → trim_told (step (slots_of f) s 0 0 none) p.seat.me n after → (t : ℕ) × Placed (view_of p) (Trim t s) s n after.0
   trim_changed s told = let t = pass_of (view_of p).role h.role in (t.0, told.1 t.0 t.1)
@@ -133,23 +132,6 @@ module _ (f : Flash) (p : Pass) (h : IsPassOf f p) (n : ℕ) (after : Sitter) wh
   pub pin_pinned : (word : ℕ) (m : MapWord) (value : List ℕ) → (view_of p).pin ≡ Candidate m value → word ≡ pin_index (device f) m.block
       → pin_told (step (slots_of f) word READER 0 none) p.seat.me n after → Pinned (view_of p) m value n after.0
   pin_pinned word m value pin at told = told.1 m value pin (at ∙ ap (λ y. pin_index y m.block) (sym h.numbers))
-
-  pub pin_yes : (m : MapWord) (value : List ℕ) (w : View) → Pinned (view_of p) m value n w → (state : PinWord) × FitsPin state × (pin_word state ≡ n)
-      × Intact state m.generation → w ≡ record (view_of p) { pin = Accepted m value }
-  pin_yes m value w told t =
-      let same : told.state ≡ t.0 = pin_same told.state t.0 told.fits t.1 (sym told.found ∙ sym t.2) in
-      let a = told.accepted (subst (λ (s : PinWord). Intact s m.generation) (sym same) t.3) in
-      told.changed ∙ (λ i. record (view_of p) { pin = a.0 i; known = a.1 i })
-
-  pub pin_no : (m : MapWord) (value : List ℕ) (w : View) → Pinned (view_of p) m value n w
-      → ((state : PinWord) → FitsPin state → pin_word state ≡ n → ¬ Intact state m.generation) → Strayed (view_of p) m.block w
-  pin_no m value w told not =
-      let a = told.stray (not told.state told.fits (sym told.found)) in
-      record { changed = told.changed ∙ (λ i. record (view_of p) { pin = a.0 i; known = w.known }); rises = a.1; bounded = told.bounded }
-
-  pub unpin_view : (word b : ℕ) → IsOn (view_of p).pin b → word ≡ pin_index (device f) b
-      → unpin_told (step (slots_of f) word READER 0 none) p.seat.me n after → after.0 ≡ record (view_of p) { pin = Clear }
-  unpin_view word b on at told = told.1 b on (at ∙ ap (λ y. pin_index y b) (sym h.numbers))
 
   pub get_value : (word i : ℕ) (m : MapWord) (value : List ℕ) → (view_of p).pin ≡ Accepted m value → i < (device f).words
       → word ≡ page_index (device f) m.block m.page + i → get_told (step (slots_of f) word 0 0 none) p.seat.me n after → n ≡ data_word value i

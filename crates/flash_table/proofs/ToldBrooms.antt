@@ -1,44 +1,26 @@
 -- What a step's play makes of a broom's seat.
-use Rattle.std.specs.Prelude.{◌&&◌, Bool, false}
-use Rattle.flash_rule.specs.BroomPlays.{Inspected, is_page_of}
-use Rattle.flash_table.specs.Inspecting.{InspectTold}
-use Rattle.std.proofs.Common.{◌≡◌, ℕ, ◌+◌, ◌<◌, ◌≤◌, ◌⊎◌, inl, inr, ⊎_elim, ◌==◌, eq-eqb, ne_eqb, true, [], ◌∷◌, ◌++◌, List}
-use Rattle.std.proofs.Common.{Option, None, Some, IfSome, IfNone, sym, refl, ap, ◌∙◌, subst, arith}
-use Rattle.std.specs.Bool.{MatchBool}
+use Rattle.flash_rule.proofs.{Points.phase_or_not, Owning.some_same}
+use Rattle.flash_table.proofs.{Asking.whose, Asking.slots_of, Blocks.all_open, Blocks.draining_at}
+use Rattle.std.specs.{Prelude.◌&&◌, Bool.MatchBool, Prelude.Bool, Prelude.false}
+use Rattle.flash_rule.specs.BroomPlays.{Inspected, is_page_of, GotStamp, CanGetStamp, CanMove, Moved, stamp_told, source_told, move_told, Loaded, IsLastLoaded}
+use Rattle.flash_rule.specs.BroomPlays.{IsInspected, CanClaim, Claimed, CanDrain, state_told, claim_told, drain_told}
+use Rattle.flash_table.specs.{Inspecting.InspectTold, declared.flash.Flash.Flash}
+use Rattle.std.proofs.Common.{◌≡◌, ℕ, ◌+◌, ◌<◌, ◌≤◌, ◌⊎◌, inl, inr, ⊎_elim, ◌==◌, eq-eqb, ne_eqb, true, [], ◌∷◌, ◌++◌, List, Option, None, Some, IfSome, IfNone}
+use Rattle.std.proofs.Common.{sym, refl, ap, ◌∙◌, subst, arith}
 use mathlib.Core.Option.{none}
 use mathlib.Core.Logic.{dite}
 use native.Mathlib.Decide.{ℕ_discrete, dec_lt}
 use Rattle.atomic_table.specs.Table.{step}
-use Rattle.geometry.specs.Limits.{Numbers}
-use Rattle.geometry.specs.MapWords.{map_word, FitsMap}
-use Rattle.geometry.specs.declared.map_word.MapWord.{MapWord}
-use Rattle.geometry.specs.declared.map_word.TheConstants.{MAPPED}
-use Rattle.geometry.specs.PinWords.{pin_word, FitsPin}
-use Rattle.geometry.specs.TableOrder.{pin_index, page_index}
-use Rattle.geometry.specs.declared.pin_word.PinWord.{PinWord}
-use Rattle.geometry.specs.declared.pin_word.Phase.{Phase}
-use Rattle.geometry.specs.declared.pin_word.Phase.TheVariants.{Free, Open, Closed, Victim, Drained, Erasing, Retired}
-use Rattle.geometry.specs.declared.pin_word.TheConstants.{NEXT_PHASE}
-use Rattle.flash_rule.specs.declared.facts.Owned.{Owned}
-use Rattle.flash_rule.specs.declared.facts.Source.{Source}
-use Rattle.flash_rule.specs.declared.view.View.{View}
-use Rattle.flash_rule.specs.Views.{is_broom}
-use Rattle.flash_rule.specs.Plays.{Sitter}
-use Rattle.flash_rule.specs.BroomPlays.{GotStamp, CanGetStamp, CanMove, Moved, stamp_told, source_told, move_told, Loaded}
-use Rattle.flash_rule.specs.BroomPlays.{IsLastLoaded, IsInspected, CanClaim, Claimed, CanDrain, state_told, claim_told, drain_told}
-use Rattle.flash_rule.specs.World.{data_word, sector_word}
-use Rattle.flash_rule.proofs.Owning.{some_same}
-use Rattle.flash_table.specs.declared.flash.Flash.{Flash}
-use Rattle.flash_table.specs.declared.broom_seat.BroomSeat.{BroomSeat}
-use Rattle.flash_table.specs.declared.broom_seat.ReclaimedBlock.{ReclaimedBlock}
-use Rattle.flash_table.specs.declared.broom_seat.Reclaiming.{Reclaiming}
-use Rattle.flash_table.specs.declared.broom_seat.Reclaiming.TheVariants as reclaiming
-use Rattle.flash_table.specs.Owning.{reclaimed_as}
-use Rattle.flash_table.specs.GivingUp.{left_drained}
-use Rattle.flash_table.specs.Steps.{HasInspected, IsCleared}
+use Rattle.geometry.specs.{Limits.Numbers, MapWords.map_word, MapWords.FitsMap}
+use Rattle.geometry.specs.declared.{map_word.MapWord.MapWord, map_word.TheConstants.MAPPED, pin_word.PinWord.PinWord, pin_word.TheConstants.NEXT_PHASE}
+use Rattle.geometry.specs.{PinWords.pin_word, PinWords.FitsPin, TableOrder.pin_index, TableOrder.page_index}
+use Rattle.geometry.specs.declared.pin_word.Phase.TheVariants.{Closed, Victim, Drained}
+use Rattle.flash_rule.specs.declared.{facts.Owned.Owned, facts.Source.Source, view.View.View}
+use Rattle.flash_rule.specs.{Views.is_broom, Plays.Sitter, World.data_word, World.sector_word}
+use Rattle.flash_table.specs.declared.broom_seat.{BroomSeat.BroomSeat, Reclaiming.Reclaiming, ReclaimedBlock.ReclaimedBlock}
+use Rattle.flash_table.specs.{Owning.reclaimed_as, GivingUp.left_drained, Steps.HasInspected, Steps.IsCleared}
 use Rattle.flash_table.specs.Flash.{IsBroomOf, broom_view, own_blocks, device, geometry_of}
-use Rattle.flash_table.proofs.Blocks.{all_open, draining_at}
-use Rattle.flash_table.proofs.Asking.{slots_of}
+use Rattle.flash_table.specs.declared.broom_seat.Reclaiming.TheVariants as reclaiming
 
 -- a map word that was found is that of what it was unpacked to
 pub unpacked : (r : Option MapWord) (n : ℕ) → IfSome r (λ p. FitsMap p × (map_word p ≡ n)) → IfNone r (n < MAPPED)
@@ -77,30 +59,18 @@ inspected_changed v w b generation s n h = by_test (is_page_of b generation h.fo
   by_test true is = let e = h.stopped is in e ∙ (λ i. record v { named = (sym e i).named; inspection = (sym e i).inspection })
   by_test false is = let e = h.passed is in e ∙ (λ i. record v { named = (sym e i).named; inspection = (sym e i).inspection })
 
-pub stays_broom : (f : Flash) (s t : BroomSeat) → IsBroomOf f s → t.seat.table_id ≡ s.seat.table_id → (broom_view t).role ≡ (broom_view s).role
-    → (broom_view t).numbers ≡ (broom_view s).numbers → IsBroomOf f t
-stays_broom f s t h table role numbers = record { table = table ∙ h.table; role = (h.role.0, role ∙ h.role.1); numbers = numbers ∙ h.numbers }
+pub stays_broom : {f : Flash} {s t : BroomSeat} → IsBroomOf f s → t.seat.table_id ≡ s.seat.table_id → whose (broom_view t) ≡ whose (broom_view s)
+    → IsBroomOf f t
+stays_broom h table same = record { table = table ∙ h.table; role = (h.role.0, ap (λ w. w.0) same ∙ h.role.1); numbers = ap (λ w. w.1) same ∙ h.numbers }
 
 -- ---- the block that a broom drains or erases is one
-draining_one : (a b : ReclaimedBlock) → reclaiming.Draining a ≡ reclaiming.Draining b → a ≡ b
-draining_one a b e = cc
-
-pub draining_same : (a b : ReclaimedBlock) (x : Reclaiming) → x ≡ reclaiming.Draining a → x ≡ reclaiming.Draining b → a ≡ b
-draining_same a b x p q = draining_one a b (sym p ∙ q)
+pub draining_same : {a b : ReclaimedBlock} {x : Reclaiming} → x ≡ reclaiming.Draining a → x ≡ reclaiming.Draining b → a ≡ b
+draining_same p q = cc
 
 -- what is asked of it holds of the block that is found there
 pub of_draining : (P : ReclaimedBlock → Type 0) (x : Reclaiming) (o : ReclaimedBlock) → x ≡ reclaiming.Draining o
     → (a : ReclaimedBlock) × (x ≡ reclaiming.Draining a) × P a → P o
-of_draining P x o is t = subst P (draining_same t.0 o x t.1 is) t.2
-
-drained_or_not : (f : Phase) → (f ≡ Drained) ⊎ (¬ (f ≡ Drained))
-drained_or_not Free = inr (λ e. absurd (cc))
-drained_or_not Open = inr (λ e. absurd (cc))
-drained_or_not Closed = inr (λ e. absurd (cc))
-drained_or_not Victim = inr (λ e. absurd (cc))
-drained_or_not Drained = inl refl
-drained_or_not Erasing = inr (λ e. absurd (cc))
-drained_or_not Retired = inr (λ e. absurd (cc))
+of_draining P x o is t = subst P (draining_same t.1 is) t.2
 
 -- a state step changes the broom's notes alone
 pub loaded_changed : (v w : View) (b n : ℕ) → Loaded v b n w → w ≡ record v { loaded = w.loaded; busy = w.busy; stale = w.stale }
@@ -111,10 +81,10 @@ loaded_changed v w b n h =
     (λ some. let e = h.busy drained (omega arith) in e ∙ (λ i. record v { loaded = (sym e i).loaded; busy = (sym e i).busy; stale = (sym e i).stale })))
     (λ (other : ¬ (h.state.phase ≡ Drained)). let e = h.stale other in
     e ∙ (λ i. record v { loaded = (sym e i).loaded; busy = (sym e i).busy; stale = (sym e i).stale }))
-    (drained_or_not h.state.phase)
+    (phase_or_not h.state.phase Drained)
 
 -- ---- what each step on a state asks for
-module _ (f : Flash) (s : BroomSeat) (h : IsBroomOf f s) where
+module _ {f : Flash} {s : BroomSeat} (h : IsBroomOf f s) where
   pub is_a_broom : is_broom (broom_view s).role ≡ true
   is_a_broom = ap is_broom h.role.1
 
@@ -124,7 +94,7 @@ module _ (f : Flash) (s : BroomSeat) (h : IsBroomOf f s) where
   pub claim_can : (b : ℕ) (p : PinWord) → b < (device f).blocks → FitsPin p × (p.phase ≡ Closed) → IsLastLoaded (broom_view s) b (pin_word p)
       → (own_blocks s).reclaiming ≡ reclaiming.Nothing → CanClaim (broom_view s) b p
   claim_can b p low state loaded rest =
-      record { low = low_here b low; fits = state.0; closed = state.1; loaded = loaded; rested = all_open (own_blocks s) (broom_view s).owns s.owns rest }
+      record { low = low_here b low; fits = state.0; closed = state.1; loaded = loaded; rested = all_open (own_blocks s) s.owns rest }
 
   -- a victim whose pages are all cleared, or that was inspected, can be drained
   pub drain_can : (o : ReclaimedBlock) → (own_blocks s).reclaiming ≡ reclaiming.Draining o
@@ -136,30 +106,30 @@ module _ (f : Flash) (s : BroomSeat) (h : IsBroomOf f s) where
       ⊎_elim (λ (c : IsCleared (geometry_of f) (broom_view s) (own_blocks s)). (c.0, c.1, (c.2.0, inl c.2.1)))
       (λ (c : HasInspected (geometry_of f) (broom_view s) (own_blocks s)). (c.0, c.1, (c.2.0, inr c.2.1))) asked in
       let its = of_draining (λ (y : ReclaimedBlock). (y.block < (device f).blocks) × Emptied y) (own_blocks s).reclaiming o is some in
-      (its.0, record { own = draining_at (own_blocks s) (broom_view s).owns s.owns o is; victim = refl; emptied = its.1 })
+      (its.0, record { own = draining_at (own_blocks s) s.owns is; victim = refl; emptied = its.1 })
+
+  pin_there : {word : ℕ} (b : ℕ) → word ≡ pin_index (device f) b → word ≡ pin_index (broom_view s).numbers b
+  pin_there b at = at ∙ ap (λ y. pin_index y b) (sym h.numbers)
+
+  pub drained_view : {after : Sitter} {word : ℕ} (o : ReclaimedBlock) → CanDrain (broom_view s) (reclaimed_as Victim o) → word ≡ pin_index (device f) o.block
+      → drain_told (step (slots_of f) word NEXT_PHASE 0 none) s.seat.me 0 after
+      → after.0 ≡ left_drained (broom_view s) o
+  drained_view o can at told = told.1 (reclaimed_as Victim o) can (pin_there o.block at)
 
 -- ---- and what it makes of the seat
-module _ (f : Flash) (s : BroomSeat) (h : IsBroomOf f s) (n : ℕ) (after : Sitter) where
-  pin_there : (word b : ℕ) → word ≡ pin_index (device f) b → word ≡ pin_index (broom_view s).numbers b
-  pin_there word b at = at ∙ ap (λ y. pin_index y b) (sym h.numbers)
-
-  pub loaded_view : (word b : ℕ) → b < (device f).blocks → word ≡ pin_index (device f) b → state_told (step (slots_of f) word 0 0 none) s.seat.me n after
+module _ {f : Flash} {s : BroomSeat} (h : IsBroomOf f s) {n : ℕ} {after : Sitter} {word : ℕ} where
+  pub loaded_view : (b : ℕ) → b < (device f).blocks → word ≡ pin_index (device f) b → state_told (step (slots_of f) word 0 0 none) s.seat.me n after
       → Loaded (broom_view s) b n after.0
-  loaded_view word b low at told = told.1 b (low_here f s h b low) (pin_there word b at)
+  loaded_view b low at told = told.1 b (low_here h b low) (pin_there h b at)
 
-  pub claimed_view : (word b old : ℕ) (p : PinWord) → CanClaim (broom_view s) b p → word ≡ pin_index (device f) b → old ≡ pin_word p
+  pub claimed_view : (b old : ℕ) (p : PinWord) → CanClaim (broom_view s) b p → word ≡ pin_index (device f) b → old ≡ pin_word p
       → claim_told (step (slots_of f) word old (old + NEXT_PHASE) none) s.seat.me n after
       → Claimed (broom_view s) b p n after.0
-  claimed_view word b old p can at packed told = told.1 b p can (pin_there word b at) packed
-
-  pub drained_view : (word : ℕ) (o : ReclaimedBlock) → CanDrain (broom_view s) (reclaimed_as Victim o) → word ≡ pin_index (device f) o.block
-      → drain_told (step (slots_of f) word NEXT_PHASE 0 none) s.seat.me n after
-      → after.0 ≡ left_drained (broom_view s) o
-  drained_view word o can at told = told.1 (reclaimed_as Victim o) can (pin_there word o.block at)
+  claimed_view b old p can at packed told = told.1 b p can (pin_there h b at) packed
 
 -- ---- sectors and pages
-pub source_same : (x y : Source) (a : Option Source) → a ≡ Some x → a ≡ Some y → x ≡ y
-source_same x y a p q = some_same x y (sym p ∙ q)
+pub source_same : {x y : Source} {a : Option Source} → a ≡ Some x → a ≡ Some y → x ≡ y
+source_same {x} {y} p q = some_same x y (sym p ∙ q)
 
 -- a stamp changes the source and the count of cleared pages alone
 pub stamp_changed : (v w : View) (o : Owned) (n : ℕ) → GotStamp v o n w → w ≡ record v { source = w.source; cleared = w.cleared }
@@ -168,32 +138,32 @@ stamp_changed v w o n h =
     (λ below. let e = h.sector below in e ∙ (λ i. record v { source = (sym e i).source; cleared = (sym e i).cleared }))
     (λ above. let e = h.dead (omega arith) in e ∙ (λ i. record v { source = (sym e i).source; cleared = (sym e i).cleared }))
 
-module _ (f : Flash) (s : BroomSeat) (h : IsBroomOf f s) where
+module _ {f : Flash} {s : BroomSeat} (h : IsBroomOf f s) where
   pub stamp_can : (o : ReclaimedBlock) (page : ℕ) → (own_blocks s).reclaiming ≡ reclaiming.Draining o → page < o.written
       → page ≡ (broom_view s).cleared → CanGetStamp (broom_view s) (reclaimed_as Victim o)
   stamp_can o page is below cleared =
-      record { own = draining_at (own_blocks s) (broom_view s).owns s.owns o is; victim = refl; written = subst (λ k. k < o.written) cleared below }
+      record { own = draining_at (own_blocks s) s.owns is; victim = refl; written = subst (λ k. k < o.written) cleared below }
 
-module _ (f : Flash) (s : BroomSeat) (h : IsBroomOf f s) (n : ℕ) (after : Sitter) where
-  pub stamp_view : (word page : ℕ) (o : ReclaimedBlock) → CanGetStamp (broom_view s) (reclaimed_as Victim o) → page ≡ (broom_view s).cleared
+module _ {f : Flash} {s : BroomSeat} (h : IsBroomOf f s) {n : ℕ} {after : Sitter} {word : ℕ} where
+  pub stamp_view : (page : ℕ) (o : ReclaimedBlock) → CanGetStamp (broom_view s) (reclaimed_as Victim o) → page ≡ (broom_view s).cleared
       → word ≡ page_index (device f) o.block page + (device f).words
       → stamp_told (step (slots_of f) word 0 0 none) s.seat.me n after → GotStamp (broom_view s) (reclaimed_as Victim o) n after.0
-  stamp_view word page o can cleared at told =
+  stamp_view page o can cleared at told =
       told.1 (reclaimed_as Victim o) can
       (at ∙ (ap (λ k. page_index (device f) o.block k + (device f).words) cleared
       ∙ ap (λ (y : Numbers). page_index y o.block (broom_view s).cleared + y.words) (sym h.numbers)))
 
-  pub source_value : (word i : ℕ) (page : MapWord) (x : Source) (value : List ℕ) → (broom_view s).source ≡ Some x → x.page ≡ page
+  pub source_value : (i : ℕ) (page : MapWord) (x : Source) (value : List ℕ) → (broom_view s).source ≡ Some x → x.page ≡ page
       → x.value ≡ Some value → i < (device f).words → word ≡ page_index (device f) page.block page.page + i
       → source_told (step (slots_of f) word 0 0 none) s.seat.me n after → n ≡ data_word value i
-  source_value word i page x value is same live low at told =
+  source_value i page x value is same live low at told =
       told.1 x value i is live (subst (λ (y : Numbers). i < y.words) (sym h.numbers) low)
       (at ∙ (λ j. page_index (sym h.numbers j) (sym same j).block (sym same j).page + i))
 
-  pub moved_view : (sector old new : ℕ) (x : Source) (from to : MapWord) → CanMove (broom_view s) x to → FitsMap from × FitsMap to → x.page ≡ from
-      → x.stamp ≡ sector → old ≡ map_word from → new ≡ map_word to
-      → move_told (step (slots_of f) sector old new none) s.seat.me n after → Moved (broom_view s) x n after.0
-  moved_view sector old new x from to can fits same stamp packed copy told =
+  pub moved_view : (old new : ℕ) (x : Source) (from to : MapWord) → CanMove (broom_view s) x to → FitsMap from × FitsMap to → x.page ≡ from
+      → x.stamp ≡ word → old ≡ map_word from → new ≡ map_word to
+      → move_told (step (slots_of f) word old new none) s.seat.me n after → Moved (broom_view s) x n after.0
+  moved_view old new x from to can fits same stamp packed copy told =
       told.1 x to can (subst FitsMap (sym same) fits.0) fits.1 (sym stamp) (packed ∙ ap map_word (sym same)) copy
 
 -- whether the word found is the one expected

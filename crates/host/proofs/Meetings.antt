@@ -1,25 +1,14 @@
 -- Two passes that meet: what goes along with their notes, and what each of them knows in the end.
 use Rattle.std.proofs.Common.{◌≡◌, ℕ, ◌+◌, ◌++◌, true, false, List, [], Option, Some, None, is_some, sym, refl, ap, ◌∙◌, subst}
 use Rattle.std.proofs.lemmas.List.{append-nil}
-use Rattle.geometry.specs.History.{Begins}
-use Rattle.geometry.specs.declared.map_word.MapWord.{MapWord}
-use Rattle.flash_rule.specs.declared.facts.Name.{Name}
-use Rattle.flash_rule.specs.declared.facts.Role.{Role}
-use Rattle.flash_rule.specs.declared.facts.Role.TheVariants.{Player}
-use Rattle.flash_rule.specs.declared.facts.Owned.{Owned}
-use Rattle.flash_rule.specs.declared.carried.Carried.{Carried}
-use Rattle.flash_rule.specs.declared.view.View.{View}
-use Rattle.flash_rule.specs.Views.{is_pass}
+use Rattle.geometry.specs.{History.Begins, declared.map_word.MapWord.MapWord}
+use Rattle.flash_rule.specs.declared.facts.{Name.Name, Owned.Owned, Role.Role, Role.TheVariants.Player}
+use Rattle.flash_rule.specs.{declared.carried.Carried.Carried, declared.view.View.View, Views.is_pass, Plays.Met, Plays.Looked, Plays.Disjoint, Plays.Spared}
 use Rattle.flash_rule.specs.Seats.{name_of, carried, lender, lent_note, host_of, giver, given_note, home}
-use Rattle.flash_rule.specs.Plays.{Met, Looked, Disjoint, Spared}
 use Rattle.flash_rule.proofs.Still.{pass_of}
-use Rattle.flash_table.specs.declared.flash.Flash.{Flash}
-use Rattle.flash_table.specs.declared.pass.Pass.{Pass}
-use Rattle.flash_table.specs.declared.pass.OpenBlock.{OpenBlock}
-use Rattle.flash_table.specs.Owning.{owned_list, closed_list}
-use Rattle.flash_table.specs.Flash.{view_of, opened_of}
-use Rattle.host.specs.Ready.{IsRested}
-use Rattle.host.specs.Told.{MetHolding, MetTold}
+use Rattle.flash_table.specs.declared.{flash.Flash.Flash, pass.Pass.Pass, pass.OpenBlock.OpenBlock}
+use Rattle.flash_table.specs.{Owning.owned_list, Owning.closed_list, Flash.view_of, Flash.opened_of}
+use Rattle.host.specs.{Ready.IsRested, Told.MetHolding, Told.MetTold}
 
 -- a pass's role is that of its name
 pub named : (r : Role) → is_pass r ≡ true → r ≡ Player (name_of r)

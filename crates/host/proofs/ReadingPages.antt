@@ -1,13 +1,9 @@
 -- A page that is pinned, word by word.
 use Rattle.std.proofs.Common.{◌≡◌, ℕ, ◌^◌, ◌<◌, ◌∙◌, List, length, get_or, ap, sym, subst}
-use Rattle.geometry.specs.Geometry.{words_of, page_bytes_of}
-use Rattle.geometry.specs.PageBytes.{word_of}
-use Rattle.geometry.specs.declared.map_word.MapWord.{MapWord}
-use Rattle.flash_rule.specs.declared.view.View.{View}
-use Rattle.flash_rule.specs.World.{data_word}
+use Rattle.geometry.specs.{Geometry.words_of, Geometry.page_bytes_of, PageBytes.word_of, declared.map_word.MapWord.MapWord}
+use Rattle.flash_rule.specs.{declared.view.View.View, World.data_word}
 use Rattle.flash_rule.proofs.Values.{value_same}
-use Rattle.flash_table.specs.declared.flash.Flash.{Flash}
-use Rattle.flash_table.specs.declared.pass.Pass.{Pass}
+use Rattle.flash_table.specs.declared.{flash.Flash.Flash, pass.Pass.Pass}
 use Rattle.flash_table.specs.Flash.{IsPassOf, device, view_of, opened_of, geometry_of}
 use Rattle.host.specs.Ready.{IsPinned}
 use Rattle.host.proofs.ReadingSearch.{KnowsCalls, rested_same}

@@ -1,27 +1,13 @@
 -- The looks of a search: each but the last one is followed by a stray pin, by which the pass learns that a block is older than it knew.
 use Rattle.std.proofs.Common.{◌≡◌, ℕ, ◌+◌, ◌-◌, ◌*◌, ◌<◌, ◌≤◌, ◌∙◌, List, true, Option, None, Some, is_some, sym, ap, subst, refl, arith}
 use Rattle.std.specs.Option.{IfSome}
-use Rattle.geometry.specs.History.{Call, Begins, held}
-use Rattle.geometry.specs.Limits.{Numbers}
-use Rattle.geometry.specs.MapWords.{FitsMap, map_word}
-use Rattle.geometry.specs.declared.map_word.MapWord.{MapWord}
-use Rattle.geometry.proofs.Histories.{Begins-refl, Begins-trans}
-use Rattle.geometry.proofs.PinBits.{map_same}
-use Rattle.flash_rule.specs.declared.facts.Name.TheVariants.{Pass as APass}
-use Rattle.flash_rule.specs.declared.facts.Role.TheVariants.{Player}
-use Rattle.flash_rule.specs.declared.facts.Owned.{Owned}
-use Rattle.flash_rule.specs.declared.facts.Pin.{Pin}
-use Rattle.flash_rule.specs.declared.facts.Pin.TheVariants.{Clear, Candidate, Accepted}
-use Rattle.flash_rule.specs.declared.view.View.{View}
-use Rattle.flash_rule.specs.Views.{AreOfHosts, calls_of, sum_of, owned_at}
-use Rattle.flash_rule.specs.World.{sector_word}
-use Rattle.flash_rule.specs.Rule.{IsValue}
-use Rattle.flash_rule.specs.Plays.{Looked, is_unpinned}
-use Rattle.flash_table.specs.declared.flash.Flash.{Flash}
-use Rattle.flash_table.specs.declared.pass.Pass.{Pass}
-use Rattle.flash_table.specs.Flash.{IsPassOf, device, view_of, opened_of}
-use Rattle.host.specs.Ready.{IsRested, IsReady, IsPinned}
-use Rattle.host.specs.Told.{Searched, CameLate}
+use Rattle.geometry.specs.{History.Call, History.Begins, History.held, MapWords.FitsMap, MapWords.map_word, Limits.Numbers, declared.map_word.MapWord.MapWord}
+use Rattle.geometry.proofs.{Histories.Begins-refl, Histories.Begins-trans, PinBits.map_same}
+use Rattle.flash_rule.specs.declared.{facts.Name.TheVariants.Pass as APass, facts.Role.TheVariants.Player, facts.Owned.Owned, view.View.View}
+use Rattle.flash_rule.specs.declared.facts.Pin.{Pin, TheVariants.Clear, TheVariants.Candidate, TheVariants.Accepted}
+use Rattle.flash_rule.specs.{Views.AreOfHosts, Views.calls_of, Views.sum_of, Views.owned_at, World.sector_word, Rule.IsValue, Plays.Looked, Plays.is_unpinned}
+use Rattle.flash_table.specs.{declared.flash.Flash.Flash, declared.pass.Pass.Pass, Flash.IsPassOf, Flash.device, Flash.view_of, Flash.opened_of}
+use Rattle.host.specs.{Ready.IsRested, Ready.IsReady, Ready.IsPinned, Told.Searched, Told.CameLate}
 
 -- what the ages that a pass knows can add up to
 abbrev pub most_known : Numbers → ℕ

@@ -1,32 +1,20 @@
 -- A write and a trim, made of their steps.
-use Rattle.std.proofs.Common.{◌≡◌, ℕ, ◌+◌, ◌<◌, ◌≤◌, true, false, is_some, ⊎_elim, inl, inr, ◌⊎◌, List, [], ◌∷◌}
-use Rattle.std.proofs.Common.{◌++◌, Option, None, Some, sym, refl, ap, ◌∙◌, subst, arith}
+use Rattle.std.proofs.Common.{◌≡◌, ℕ, ◌+◌, ◌<◌, ◌≤◌, true, false, is_some, ⊎_elim, inl, inr, ◌⊎◌, List, [], ◌∷◌, ◌++◌, Option, None, Some, sym, refl, ap, ◌∙◌}
+use Rattle.std.proofs.Common.{subst, arith}
 use Rattle.std.specs.List.{range_with_len}
 use mathlib.Core.Logic.{dite}
 use native.Mathlib.Decide.{ℕ_discrete}
 use Rattle.geometry.specs.Geometry.{blocks_of, pages_of, endurance_of}
-use Rattle.geometry.specs.History.{Call, Begins, was}
-use Rattle.geometry.specs.Limits.{Numbers}
-use Rattle.geometry.specs.MapWords.{FitsMap}
-use Rattle.geometry.specs.declared.answer.Was.{Was}
-use Rattle.geometry.specs.declared.map_word.MapWord.{MapWord}
-use Rattle.geometry.specs.declared.pin_word.Phase.TheVariants.{Open, Closed}
-use Rattle.flash_rule.specs.declared.facts.Owned.{Owned}
-use Rattle.flash_rule.specs.declared.facts.Work.{Work}
-use Rattle.flash_rule.specs.declared.view.View.{View}
-use Rattle.flash_rule.specs.Views.{AreOfHosts, owned_at, calls_of}
+use Rattle.geometry.specs.{History.Call, History.Begins, History.was, Limits.Numbers, MapWords.FitsMap}
+use Rattle.geometry.specs.declared.{answer.Was.Was, map_word.MapWord.MapWord, pin_word.Phase.TheVariants.Open, pin_word.Phase.TheVariants.Closed}
+use Rattle.flash_rule.specs.{declared.facts.Owned.Owned, declared.facts.Work.Work, declared.view.View.View, Views.AreOfHosts, Views.owned_at, Views.calls_of}
 use Rattle.flash_rule.specs.Plays.{Called, CanPlace, IsSettled, next_page, is_unpinned}
-use Rattle.flash_rule.proofs.Owning.{some_same, none_some}
-use Rattle.flash_rule.proofs.Still.{pass_of}
-use Rattle.flash_table.specs.declared.flash.Flash.{Flash}
-use Rattle.flash_table.specs.declared.pass.Pass.{Pass}
-use Rattle.flash_table.specs.declared.pass.OpenBlock.{OpenBlock}
-use Rattle.flash_table.specs.Owning.{owned_of, owned_list}
+use Rattle.flash_rule.proofs.{Owning.some_same, Owning.none_some, Still.pass_of}
+use Rattle.flash_table.specs.declared.{flash.Flash.Flash, pass.Pass.Pass, pass.OpenBlock.OpenBlock}
+use Rattle.flash_table.specs.{Owning.owned_of, Owning.owned_list, Steps.HasNumber, Steps.PlaceTold}
 use Rattle.flash_table.specs.Flash.{IsPassOf, view_of, opened_of, geometry_of, device}
 use Rattle.host.specs.Filling.{TookLowest, Filled, ClosedIfFull, IsClosedIfFull, IsProgrammed, Starts}
-use Rattle.flash_table.specs.Steps.{HasNumber, PlaceTold}
-use Rattle.host.specs.Ready.{IsReady}
-use Rattle.host.specs.Told.{Programmed}
+use Rattle.host.specs.{Ready.IsReady, Told.Programmed}
 use Rattle.host.proofs.WritingSteps.{owns_one}
 
 lt_or_eq : (m n : ℕ) → m ≤ n → (m < n) ⊎ (m ≡ n)

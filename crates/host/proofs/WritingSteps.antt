@@ -1,27 +1,15 @@
 -- The parts of a write, one step after the other: blocks are tried in order, words are put in order, a page is counted.
-use Rattle.std.proofs.Common.{◌≡◌, ◌≢◌, ℕ, zero, suc, ◌+◌, ◌-◌, ◌<◌, ◌≤◌, eq-eqb, ne_eqb, List, [], ◌∷◌, ◌++◌, length, Option, None}
-use Rattle.std.proofs.Common.{Some, sym, refl, ap, ◌∙◌, arith, append_assoc, append-nil, length-append, Fits, w8}
-use Rattle.std.proofs.Math.ListN.{get_or, get_or-append}
-use Rattle.std.proofs.lemmas.List.{get_or-append_right}
+use Rattle.std.proofs.Common.{◌≡◌, ℕ, zero, suc, ◌+◌, ◌-◌, ◌<◌, ◌≤◌, List, [], ◌∷◌, ◌++◌, length, None, Some, sym, refl, ap, ◌∙◌}
+use Rattle.std.proofs.Common.{arith, append_assoc, append-nil, length-append, Fits, w8}
+use Rattle.std.proofs.{Math.ListN.get_or, Math.ListN.get_or-append, lemmas.List.get_or-append_right}
 use Rattle.std.specs.List.{range_with_len}
 use mathlib.Core.Logic.{dite}
 use native.Mathlib.Decide.{ℕ_discrete}
-use Rattle.geometry.specs.Geometry.{pages_of, words_of, page_bytes_of}
-use Rattle.geometry.specs.Limits.{Numbers}
-use Rattle.geometry.specs.PageBytes.{word_of}
-use Rattle.geometry.specs.declared.map_word.MapWord.{MapWord}
-use Rattle.flash_rule.specs.declared.facts.Owned.{Owned}
-use Rattle.flash_rule.specs.declared.facts.Work.{Work}
-use Rattle.flash_rule.specs.declared.view.View.{View}
-use Rattle.flash_rule.specs.Views.{owned_at}
-use Rattle.flash_rule.specs.World.{data_word}
+use Rattle.geometry.specs.{Geometry.pages_of, Geometry.words_of, Geometry.page_bytes_of, Limits.Numbers, PageBytes.word_of, declared.map_word.MapWord.MapWord}
+use Rattle.flash_rule.specs.{declared.facts.Owned.Owned, declared.facts.Work.Work, declared.view.View.View, Views.owned_at, World.data_word}
 use Rattle.flash_rule.specs.Plays.{CanPut, CanCount, IsSettled, SettledBut, words_in, next_page}
-use Rattle.flash_rule.proofs.Owning.{some_same}
-use Rattle.flash_rule.proofs.PageSteps.{words_none, words_here}
-use Rattle.flash_table.specs.declared.flash.Flash.{Flash}
-use Rattle.flash_table.specs.declared.pass.Pass.{Pass}
-use Rattle.flash_table.specs.declared.pass.OpenBlock.{OpenBlock}
-use Rattle.flash_table.specs.Owning.{owned_of, owned_list}
+use Rattle.flash_rule.proofs.{Owning.some_same, PageSteps.words_none, PageSteps.words_here}
+use Rattle.flash_table.specs.{declared.flash.Flash.Flash, declared.pass.Pass.Pass, declared.pass.OpenBlock.OpenBlock, Owning.owned_of, Owning.owned_list}
 use Rattle.flash_table.specs.Flash.{IsPassOf, Denied, view_of, opened_of, geometry_of, device}
 use Rattle.flash_table.proofs.Told.{owned_one}
 use Rattle.host.specs.Filling.{Filled}

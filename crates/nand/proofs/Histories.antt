@@ -2,7 +2,6 @@
 use Rattle.std.proofs.Common.{◌≡◌, ◌⊎◌, ◌∙◌, inl, inr, ◌+◌, ◌<◌, ℕ, zero, suc, Bool, false, List, [], ◌∷◌, ◌++◌, length, Result, Ok, Err, IfOk, IfErr}
 use Rattle.std.proofs.Common.{get_or, set, refl, sym, ap, subst, arith}
 use Rattle.durable.specs.Flash.{Flash}
-use Rattle.durable.specs.Promise.{IsReadable}
 use Rattle.durable.specs.Updates.{Makes, Update}
 use Rattle.nand.specs.declared.failure.Failure.{Failure}
 use Rattle.nand.specs.declared.flash.Shape.{Shape}
@@ -10,20 +9,16 @@ use Rattle.nand.specs.declared.history.Change.{Change}
 use Rattle.nand.specs.declared.layer.Durable.{Durable}
 use Rattle.nand.specs.declared.layer.NotOpened.{NotOpened}
 use Rattle.nand.specs.Histories.{Leads, update_by}
-use Rattle.nand.specs.Opened.{CanFreeGood, CanOpen, Fails, IsOpenLayer, device_on, layer_sectors}
-
--- the same as `CanOpen`, of what a chip holds
-abbrev Opens : ℕ → List Update → Flash → Shape → List Bool → Type 0
-Opens sectors updates f shape bad = IsReadable f (device_on shape bad sectors) updates updates × CanFreeGood f bad shape.blocks sectors
+use Rattle.nand.specs.Opened.{CanOpen, Fails, IsOpenLayer, IsOpenable, layer_sectors}
 
 -- a chip that holds the same can be opened too
 pub same_chip : {N : Type 0} (flash : N → Flash) (shape : N → Shape) (bad : N → List Bool) (nand back : N) (sectors : ℕ) (updates : List Update)
     → (flash back ≡ flash nand) × (shape back ≡ shape nand) × (bad back ≡ bad nand) → CanOpen flash shape bad nand sectors updates
     → CanOpen flash shape bad back sectors updates
 same_chip {N} flash shape bad nand back sectors updates same is =
-    subst (λ (f : Flash). Opens sectors updates f (shape back) (bad back)) (sym same.0)
-    (subst (λ (s : Shape). Opens sectors updates (flash nand) s (bad back)) (sym same.1)
-    (subst (λ (m : List Bool). Opens sectors updates (flash nand) (shape nand) m) (sym same.2) is))
+    subst (λ (f : Flash). IsOpenable f (shape back) (bad back) sectors updates) (sym same.0)
+    (subst (λ (s : Shape). IsOpenable (flash nand) s (bad back) sectors updates) (sym same.1)
+    (subst (λ (m : List Bool). IsOpenable (flash nand) (shape nand) m sectors updates) (sym same.2) is))
 
 module _ {N : Type 0} (flash : N → Flash) (shape : N → Shape) (bad : N → List Bool) (update : Update) (before : List Update) where
   abbrev pub LeavesOpen : Bool → Durable N → Type 0

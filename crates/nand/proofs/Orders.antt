@@ -1,20 +1,21 @@
 -- A chip's blocks in the layer's order.
-use Rattle.std.proofs.Common.{◌≡◌, ◌≢◌, ◌⊎◌, ◌∙◌, inl, inr, ⊎_elim, ◌+◌, ◌<◌, ◌≤◌, ℕ, zero, suc, Bool, true, false, List, [], ◌∷◌, length}
-use Rattle.std.proofs.Common.{None, Result, Ok, Err, OnOk, OnErr, ◌++◌, get_or, set, if◌then◌else◌, refl, sym, ap, subst, arith}
+use Rattle.std.proofs.Common.{◌≡◌, ◌≢◌, ◌∙◌, inl, inr, ⊎_elim, ◌+◌, ◌<◌, ◌≤◌, ℕ, zero, suc, Bool, true, false, List, [], ◌∷◌, length}
+use Rattle.std.proofs.Common.{None, Result, Ok, Err, OnOk, OnErr, ◌++◌, get_or, set, min, max, ◌-◌, ◌*◌, ◌/◌, if◌then◌else◌, refl, sym, ap, subst, arith}
 use Rattle.std.proofs.lemmas.Bool.{cases_eq, cases_lt, false≢true}
 use Rattle.std.proofs.lemmas.Bool.Decides.{nat_tests}
+use Rattle.std.proofs.Math.Nat.{lt-div-mul-add, mul-le-mul_right}
 use Rattle.std.proofs.Math.ListN.{get_or-append}
 use Rattle.std.proofs.lemmas.List.{get_or_default, get_or_past, get_or_push, get_or-set_same, get_or-set_other, length-set}
 use Rattle.std.specs.List.{swap}
 use Rattle.geometry.specs.Sectors.{Sector}
 use Rattle.geometry.specs.declared.page_addr.PageAddr.{PageAddr}
-use Rattle.durable.specs.Flash.{Erased, Torn, Version, PageContents, Flash, HoldsNewest, IsErased, LosesPages, SetsPage}
-use Rattle.durable.specs.Commands.{Completes, CutLeaves, IsSameFlash}
-use Rattle.durable.specs.declared.command.Command.{Command}
+use Rattle.durable.specs.Flash.{Torn, Version, PageContents, Flash, HoldsNewest, IsErased, SetsPage}
+use Rattle.durable.specs.Commands.{IsSameFlash}
 use Rattle.durable.specs.declared.command.Command.TheVariants.{Program, Copy, Erase}
 use Rattle.durable.specs.Device.{IsWrittenOn}
+use Rattle.durable.specs.Collecting.{HasCapacity}
 use Rattle.durable.specs.Failures.{IsRenumbered, swapped}
-use Rattle.durable.specs.Promise.{IsReadable, IsRecoverable}
+use Rattle.durable.specs.Promise.{IsRecoverable}
 use Rattle.durable.specs.Spare.{IsDuplicated}
 use Rattle.durable.specs.Updates.{Update}
 use Rattle.durable.proofs.Cells.{erased_holds_none}
@@ -23,8 +24,8 @@ use Rattle.durable.proofs.Reserves.{swapped_first, swapped_other, swapped_second
 use Rattle.nand.specs.declared.flash.Fault.{Fault}
 use Rattle.nand.specs.declared.flash.Shape.{Shape}
 use Rattle.nand.specs.Nand.{Performs}
-use Rattle.nand.specs.Numbers.{IsOrder, IsOrderTo, chip_block, chip_page, good_before, is_marked, numbered}
-use Rattle.nand.specs.Opened.{CanFreeGood, device_on}
+use Rattle.nand.specs.Numbers.{IsOrder, IsOrderTo, chip_block, chip_page, good_before, is_marked, most_in_use, numbered}
+use Rattle.nand.specs.Opened.{IsOpenable, IsReserveBlank, device_on, most_used, used_blocks}
 
 -- the order as it is made
 pub first_order : (numbers : List ℕ) (bad : List Bool) (blocks : ℕ) → ((c : ℕ) → chip_block numbers c ≡ c) → IsOrderTo numbers bad blocks 0
@@ -35,6 +36,7 @@ first_order numbers bad blocks same = record {
   within = λ b lt. lt;
   lies = λ c lt. omega (arith, same c, lt);
   good = λ c lt. absurd (omega (arith, lt));
+  ranked = λ c lt. absurd (omega (arith, lt));
   others = λ c le lt. absurd (omega (arith, lt));
   rest = λ c le. same c;
 }
@@ -50,28 +52,96 @@ pub few_good : (bad : List Bool) (b : ℕ) → good_before bad b ≤ b
 few_good bad zero = omega arith
 few_good bad (suc b) = omega (arith, few_good bad b, one_or_none (is_marked bad b))
 
--- some block is good, if they aren't none
-abbrev HasGood : List Bool → ℕ → Type 0
-HasGood bad n = (b : ℕ) × (b < n) × (is_marked bad b ≡ false)
+-- some block is good and the first of them, if they aren't none
+abbrev HasFirst : List Bool → ℕ → Type 0
+HasFirst bad n = (b : ℕ) × (b < n) × (is_marked bad b ≡ false) × (good_before bad b ≡ 0)
 
-last_good : (bad : List Bool) (n : ℕ) (marked : Bool) → is_marked bad n ≡ marked → (0 < good_before bad n → HasGood bad n)
-    → 0 < good_before bad n + (if marked then 0 else 1) → HasGood bad (suc n)
-last_good bad n false is before some = (n, omega arith, is)
-last_good bad n true is before some = let good = before (omega (arith, some)) in (good.0, omega (arith, good.1), good.2)
+last_good : (bad : List Bool) (n : ℕ) (marked : Bool) → is_marked bad n ≡ marked → (0 < good_before bad n → HasFirst bad n)
+    → 0 < good_before bad n + (if marked then 0 else 1) → HasFirst bad (suc n)
+last_good bad n false is before some = ⊎_elim
+    (λ none. (n, omega arith, is, none))
+    (λ more. let good = before (omega (arith, more)) in (good.0, omega (arith, good.1), good.2, good.3))
+    (cases_eq (good_before bad n) 0)
+last_good bad n true is before some = let good = before (omega (arith, some)) in (good.0, omega (arith, good.1), good.2, good.3)
 
-some_good : (bad : List Bool) (n : ℕ) → 0 < good_before bad n → HasGood bad n
-some_good bad zero some = absurd (omega (arith, some))
-some_good bad (suc n) some = last_good bad n (is_marked bad n) refl (some_good bad n) some
+first_good : (bad : List Bool) (n : ℕ) → 0 < good_before bad n → HasFirst bad n
+first_good bad zero some = absurd (omega (arith, some))
+first_good bad (suc n) some = last_good bad n (is_marked bad n) refl (first_good bad n) some
+
+-- the lesser of two numbers
+pub fewer : (a b c : ℕ) → c < min a b → (c < a) × (c < b)
+fewer a b c lt = (grind (arith, nat_tests, lt), grind (arith, nat_tests, lt))
+
+pub below : (a b c : ℕ) → c < a → c < b → c < min a b
+below a b c first second = grind (arith, nat_tests)
+
+pub least_first : (a b : ℕ) → a ≤ b → min a b ≡ a
+least_first a b le = grind (arith, nat_tests)
+
+pub least_second : (a b : ℕ) → b < a → min a b ≡ b
+least_second a b lt = grind (arith, nat_tests)
+
+pub no_greater : (a b : ℕ) → (min a b ≤ a) × (min a b ≤ b)
+no_greater a b = (grind (arith, nat_tests), grind (arith, nat_tests))
+
+at_least : (a b : ℕ) → b ≤ max a b
+at_least a b = grind (arith, nat_tests)
+
+has_pages : (sectors blocks pages : ℕ) → sectors < blocks * pages → 0 < pages
+has_pages sectors blocks zero lt = absurd (omega (arith, lt))
+has_pages sectors blocks (suc pages) lt = omega arith
+
+-- how many blocks are in use
+pub used_is : (used good sectors : ℕ) (a b c : Shape) (bad : List Bool) → used ≡ min good (most_in_use a.blocks a.pages sectors) → a ≡ b → b ≡ c
+    → good ≡ good_before bad c.blocks → used ≡ used_blocks c bad sectors
+used_is used good sectors a b c bad is first second all =
+    is ∙ (ap (λ (s : Shape). min good (most_in_use s.blocks s.pages sectors)) (first ∙ second)
+    ∙ ap (λ (n : ℕ). min n (most_in_use c.blocks c.pages sectors)) all)
+
+-- the sectors fit in the blocks in use if they fit in all good ones
+pub capacity_of_used : (sectors good blocks pages : ℕ) → HasCapacity sectors good pages
+    → HasCapacity sectors (min good (most_in_use blocks pages sectors)) pages
+capacity_of_used sectors good blocks pages capacity =
+    let most = most_in_use blocks pages sectors in
+    ⊎_elim
+    (λ more. let all = lt-div-mul-add {a = sectors} {b = pages} (has_pages sectors (good - 1) pages capacity) in
+    let needed : sectors / pages + 1 ≤ min good most - 1 =
+    omega (arith, least_second good most more, at_least (blocks - (blocks / 50 + 1)) (sectors / pages + 2)) in
+    let fits = mul-le-mul_right pages needed in
+    let one : (sectors / pages + 1) * pages ≡ sectors / pages * pages + pages = grind arith in
+    omega (arith, all, fits, one))
+    (λ le. let is = least_first good most le in
+    subst (λ (n : ℕ). HasCapacity sectors n pages) (sym is) capacity)
+    (cases_lt most good)
+
+pub capacity_of_good : (sectors good most pages : ℕ) → HasCapacity sectors (min good most) pages → HasCapacity sectors good pages
+capacity_of_good sectors good most pages capacity =
+    let fewer : min good most - 1 ≤ good - 1 = omega (arith, no_greater good most) in
+    let fits = mul-le-mul_right pages fewer in
+    omega (arith, fits, capacity)
+
+-- at least two blocks are in use, if they are good
+pub at_least_two : (shape : Shape) (sectors : ℕ) → 2 ≤ most_used shape sectors
+at_least_two shape sectors = grind (arith, nat_tests)
 
 -- an erased chip with a good block can be opened
 pub erased_opens : (f : Flash) (shape : Shape) (bad : List Bool) (sectors : ℕ) → IsErased f → 0 < good_before bad shape.blocks
-    → IsReadable f (device_on shape bad sectors) [] [] × CanFreeGood f bad shape.blocks sectors
+    → IsOpenable f shape bad sectors []
 erased_opens f shape bad sectors erased some =
     let device = device_on shape bad sectors in
-    let good = some_good bad shape.blocks some in (
-      readable f device [] [] (erased_recoverable f device erased some),
-      (good.0, good.1, good.2, λ s p v lt newest. absurd (erased_holds_none s newest.number v (sym (erased good.0 p) ∙ newest.held))),
-    )
+    let good = first_good bad shape.blocks some in
+    let used : 0 < device.blocks =
+    below (good_before bad shape.blocks) (most_used shape sectors) 0 some (omega (arith, at_least_two shape sectors)) in
+    record {
+      readable = readable f device [] [] (erased_recoverable f device erased used);
+      frees = (
+        good.0,
+        good.1,
+        (good.2, omega (arith, good.3, at_least_two shape sectors)),
+        λ s p v lt newest. absurd (erased_holds_none s newest.number v (sym (erased good.0 p) ∙ newest.held)),
+      );
+      blank = λ b lt is p s n v held. erased_holds_none s n v (sym (erased b p) ∙ held);
+    }
 
 -- a bad block keeps its number for now
 pub skips : (numbers : List ℕ) (bad : List Bool) (blocks i : ℕ) → is_marked bad i ≡ true → IsOrderTo numbers bad blocks i
@@ -85,6 +155,7 @@ skips numbers bad blocks i marked is =
       within = is.within;
       lies = is.lies;
       good = λ c lt. is.good c (omega (arith, lt, good));
+      ranked = λ c lt. is.ranked c (omega (arith, lt, good));
       others = λ c le lt. ⊎_elim
           (λ here. ap (is_marked bad) (is.rest c (omega (arith, here)) ∙ here) ∙ marked)
           (λ differs. is.others c (omega (arith, le, good)) (omega (arith, lt, differs)))
@@ -113,6 +184,11 @@ takes old new bad blocks i within marked is swap =
           (λ here. ap (is_marked bad) (ap (chip_block new) here ∙ first) ∙ marked)
           (λ differs. ap (is_marked bad) (stays c differs (λ e. omega (arith, e, lt, now, few, differs)))
           ∙ is.good c (omega (arith, lt, now, differs)))
+          (cases_eq c g);
+      ranked = λ c lt. ⊎_elim
+          (λ here. ap (good_before bad) (ap (chip_block new) here ∙ first) ∙ sym here)
+          (λ differs. ap (good_before bad) (stays c differs (λ e. omega (arith, e, lt, now, few, differs)))
+          ∙ is.ranked c (omega (arith, lt, now, differs)))
           (cases_eq c g);
       others = λ c le lt. ⊎_elim
           (λ here. ap (is_marked bad) (ap (chip_block new) here ∙ last) ∙ is.others g (omega arith) (omega (arith, here, le, now)))
@@ -164,12 +240,15 @@ module _ (numbers : List ℕ) (bad : List Bool) (blocks : ℕ) (is : IsOrder num
   pub other_chip_block : (c d : ℕ) → d ≢ c → chip_block numbers d ≢ chip_block numbers c
   other_chip_block c d differs e = differs (sym (is.found d) ∙ (ap is.to e ∙ is.found c))
 
-  -- a good block has one of the first numbers
+  -- a good block has one of the first numbers: so many good ones come before it
   pub first_numbers : (b : ℕ) → b < blocks → is_marked bad b ≡ false → is.to b < good_before bad blocks
   first_numbers b lt good = ⊎_elim
       (λ first. first)
       (λ past. absurd (false≢true (sym good ∙ (sym (ap (is_marked bad) (is.put b)) ∙ is.others (is.to b) past (is.within b lt)))))
       (cases_lt (is.to b) (good_before bad blocks))
+
+  pub rank : (b : ℕ) → b < blocks → is_marked bad b ≡ false → good_before bad b ≡ is.to b
+  rank b lt good = sym (ap (good_before bad) (is.put b)) ∙ is.ranked (is.to b) (first_numbers b lt good)
 
 -- a block's newest versions, after the blocks were numbered anew
 module _ (f t : Flash) (blocks sectors : ℕ) (r : IsRenumbered f t blocks) (whole : (b : ℕ) → r.from (r.to b) ≡ b) where
@@ -200,33 +279,39 @@ module _ (f t : Flash) (blocks sectors : ℕ) (r : IsRenumbered f t blocks) (who
 -- what a mount needs, told of the chip's own blocks and of those in order
 module _ (f : Flash) (shape : Shape) (bad : List Bool) (numbers : List ℕ) (sectors : ℕ) (is : IsOrder numbers bad shape.blocks) where
   pub openable : (updates : List Update) → IsRecoverable (numbered numbers f) (device_on shape bad sectors) updates updates
-      → IsReadable f (device_on shape bad sectors) updates updates × CanFreeGood f bad shape.blocks sectors
-  openable updates mounts =
+      → IsReserveBlank f shape bad sectors → IsOpenable f shape bad sectors updates
+  openable updates mounts blank =
       let device = device_on shape bad sectors in
       let again = back numbers bad shape.blocks is f in
-      let spare = mounts.spare in (
-        readable_renumbered (numbered numbers f) f device device updates updates again (refl, refl, refl)
-            (readable (numbered numbers f) device updates updates mounts),
-        (
+      let spare = mounts.spare in
+      let first = fewer (good_before bad shape.blocks) (most_used shape sectors) spare.0 spare.1 in
+      record {
+        readable = readable_renumbered (numbered numbers f) f device device updates updates again (refl, refl, refl)
+            (readable (numbered numbers f) device updates updates mounts);
+        frees = (
           chip_block numbers spare.0,
-          is.lies spare.0 (omega (arith, spare.1, few_good bad shape.blocks)),
-          is.good spare.0 spare.1,
+          is.lies spare.0 (omega (arith, first.0, few_good bad shape.blocks)),
+          (is.good spare.0 first.0, omega (arith, is.ranked spare.0 first.0, first.1)),
           duplicated_there (numbered numbers f) f shape.blocks sectors again is.found spare.0 spare.2,
-        ),
-      )
+        );
+        blank = blank;
+      }
 
-  pub mountable : (updates : List Update) → IsReadable f (device_on shape bad sectors) updates updates → CanFreeGood f bad shape.blocks sectors
+  pub mountable : (updates : List Update) → IsOpenable f shape bad sectors updates
       → IsRecoverable (numbered numbers f) (device_on shape bad sectors) updates updates
-  mountable updates reads free =
+  mountable updates opens =
       let device = device_on shape bad sectors in
       let order = anew numbers bad shape.blocks is f in
-      let there = readable_renumbered f (numbered numbers f) device device updates updates order (refl, refl, refl) reads in
+      let there = readable_renumbered f (numbered numbers f) device device updates updates order (refl, refl, refl) opens.readable in
+      let free = opens.frees in
       record {
         keeps = there.keeps;
         written = there.written;
         spare = (
           is.to free.0,
-          first_numbers numbers bad shape.blocks is free.0 free.1 free.2,
+          below (good_before bad shape.blocks) (most_used shape sectors) (is.to free.0)
+              (first_numbers numbers bad shape.blocks is free.0 free.1 free.2.0)
+              (omega (arith, free.2.1, rank numbers bad shape.blocks is free.0 free.1 free.2.0)),
           duplicated_there f (numbered numbers f) shape.blocks sectors order is.put free.0 free.3,
         );
       }

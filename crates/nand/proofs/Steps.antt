@@ -1,5 +1,6 @@
 -- The commands of one call.
-use Rattle.std.proofs.Common.{◌≡◌, ◌≢◌, ◌⊎◌, ◌∙◌, inl, inr, ⊎_elim, ◌<◌, ℕ, Bool, true, false, List, ◌∷◌, None, Some, Result, Ok, Err, OnOk, IfErr, sym, refl}
+use Rattle.std.proofs.Common.{◌≡◌, ◌≢◌, ◌⊎◌, ◌∙◌, inl, ⊎_elim, ◌+◌, ◌-◌, ◌%◌, ◌^◌, ◌<◌, ℕ, Bool, true, false}
+use Rattle.std.proofs.Common.{List, ◌∷◌, None, Some, Result, Ok, Err, OnOk, IfErr, sym, refl}
 use Rattle.std.proofs.Common.{ap, subst, arith}
 use Rattle.std.proofs.lemmas.Bool.{cases_eq, false≢true}
 use Rattle.std.proofs.lemmas.Bool.Decides.{nat_tests}
@@ -12,10 +13,9 @@ use Rattle.durable.specs.Choice.{Spends, number_after}
 use Rattle.durable.specs.Commands.{is_program, updates_with}
 use Rattle.durable.specs.Device.{Device, device_of}
 use Rattle.durable.specs.Flash.{Flash}
-use Rattle.durable.specs.Promise.{IsConsistent, IsReadable, IsRecoverable}
+use Rattle.durable.specs.Promise.{IsConsistent, IsRecoverable}
 use Rattle.durable.specs.Memory.{Represents}
 use Rattle.durable.specs.Updates.{Update, array_after, changed}
-use Rattle.durable.proofs.Exact.{before_or_after}
 use Rattle.durable.proofs.Promises.{survives_idle_cut}
 use Rattle.nand.specs.declared.failure.Failure.{Failure}
 use Rattle.nand.specs.declared.failure.Failure.TheVariants as failure
@@ -23,8 +23,9 @@ use Rattle.nand.specs.declared.flash.Fault.{Fault}
 use Rattle.nand.specs.declared.flash.Fault.TheVariants as fault
 use Rattle.nand.specs.declared.flash.Shape.{Shape}
 use Rattle.nand.specs.declared.layer.Durable.{Durable}
-use Rattle.nand.specs.Numbers.{IsOrder, numbered}
-use Rattle.nand.specs.Opened.{CanFreeGood, CanOpen, Fails, IsOpenLayer, IsRefusal, IsTrueCause, device_on, failure_of, layer_sectors, number_of, update_of}
+use Rattle.nand.specs.Numbers.{IsOrder, good_before, is_marked, numbered}
+use Rattle.nand.specs.Opened.{CanOpen, Fails, HasMarkedFailed, IsOpenLayer, IsSameDevice, IsSpent, IsTrueCause, KeepsDevice, device_on}
+use Rattle.nand.specs.Opened.{layer_sectors, number_of, update_of}
 use Rattle.nand.proofs.Orders.{openable}
 use Rattle.durable.proofs.Subsequences.{all_of, between_same}
 
@@ -53,16 +54,6 @@ nearer (Program at k) pages old new spends is goes = absurd (false≢true (sym i
 nearer (Copy k from to) pages old new spends is goes = omega (arith, spends.1)
 nearer (Erase b) pages old new spends is goes = omega (arith, spends.0, spends.1)
 nearer Refused pages old new spends is goes = absurd (goes refl)
-
--- what a power cut inside an update leaves on the chip has the array from before it, or the one from after it
-pub opens_before_or_after : (f : Flash) (shape : Shape) (bad : List Bool) (numbers : List ℕ) (sectors : ℕ) (update : Update) (updates : List Update)
-    → IsOrder numbers bad shape.blocks → IsRecoverable (numbered numbers f) (device_on shape bad sectors) updates (update ∷ updates)
-    → (IsReadable f (device_on shape bad sectors) updates updates × CanFreeGood f bad shape.blocks sectors)
-    ⊎ (IsReadable f (device_on shape bad sectors) (update ∷ updates) (update ∷ updates) × CanFreeGood f bad shape.blocks sectors)
-opens_before_or_after f shape bad numbers sectors update updates order is = ⊎_elim
-    (λ before. inl (openable f shape bad numbers sectors order updates before))
-    (λ after. inr (openable f shape bad numbers sectors order (update ∷ updates) after))
-    (before_or_after (numbered numbers f) (device_on shape bad sectors) update updates is)
 
 -- an open layer's map is that of the array after its updates
 pub array_is : (f : Flash) (core : Core) (updates : List Update) (is : IsConsistent f core updates updates) (s : ℕ)
@@ -98,17 +89,18 @@ left_open {N} flash shape bad layer updates is =
     let numbers = layer.numbers.items in
     let f = numbered numbers (flash layer.nand) in
     openable (flash layer.nand) (shape layer.nand) (bad layer.nand) numbers (layer_sectors layer) is.order updates
-    (subst (λ (d : Device). IsRecoverable f d updates updates) is.device (survives_idle_cut layer.core f updates updates is.consistent))
+    (subst (λ (d : Device). IsRecoverable f d updates updates) is.device (survives_idle_cut layer.core f updates updates is.consistent)) is.blank
 
 -- an update that failed before its first command
 pub fails_open : {N : Type 0} (flash : N → Flash) (shape : N → Shape) (bad : N → List Bool) (old new : Durable N) (update : Update)
     (updates : List Update) (cause : Failure) → IsOpenLayer flash shape bad new updates → layer_sectors new ≡ layer_sectors old → cause ≢ failure.Lost
-    → Fails flash shape bad old new update updates cause
-fails_open {N} flash shape bad old new update updates cause is sectors readable = record {
+    → cause ≢ failure.Failed → Fails flash shape bad old new update updates cause
+fails_open {N} flash shape bad old new update updates cause is sectors readable other = record {
   reopens = inl (subst (λ (n : ℕ). CanOpen flash shape bad new.nand n updates) sectors (left_open flash shape bad new updates is));
   refused = λ _. is;
   stays = inl is;
   readable = readable;
+  spent = λ failed. absurd (other failed);
 }
 
 -- an update that failed after something that changed nothing
@@ -120,6 +112,7 @@ fails_after {N} flash shape bad old mid new update updates cause sectors fails =
   refused = fails.refused;
   stays = fails.stays;
   readable = fails.readable;
+  spent = λ failed. subst (λ (n : ℕ). IsSpent (shape new.nand) (bad new.nand) n (number_of new)) sectors (fails.spent failed);
 }
 
 pub if_fails_after : {N : Type 0} (flash : N → Flash) (shape : N → Shape) (bad : N → List Bool) (old mid new : Durable N) (update : Update)
@@ -135,6 +128,7 @@ pub true_after : {N : Type 0} (faults : N → Fault → ℕ) (old mid new : Dura
     → IsTrueCause faults old new cause
 true_after {N} faults old mid new failure.PowerGone mounted number same is = λ e. is (e ∙ sym (same fault.PowerGone))
 true_after {N} faults old mid new failure.Failed mounted number same is = λ e. is (e ∙ sym (same fault.Failed))
+true_after {N} faults old mid new failure.OutOfMemory mounted number same is = λ e. is (e ∙ sym (same fault.Failed))
 true_after {N} faults old mid new failure.Closed mounted number same is = sym mounted ∙ is
 true_after {N} faults old mid new failure.NoNumber mounted number same is = omega (arith, number, is)
 true_after {N} faults old mid new failure.Written mounted number same is = tt
@@ -146,23 +140,56 @@ pub if_true_after : {N : Type 0} (faults : N → Fault → ℕ) (old mid new : D
 if_true_after {N} faults old mid new (Ok v) mounted number same is = tt
 if_true_after {N} faults old mid new (Err cause) mounted number same is = true_after faults old mid new cause mounted number same is
 
--- what a call returns at a fault is its true cause
-pub true_fault : {N : Type 0} (faults : N → Fault → ℕ) (old new : Durable N) (cause : Fault) → faults new.nand cause ≢ faults old.nand cause
-    → IsTrueCause faults old new (failure_of cause)
-true_fault {N} faults old new fault.Failed is = is
-true_fault {N} faults old new fault.PowerGone is = is
+-- a device that was left as it was, before a call
+pub keeps_same : {N : Type 0} (shape : N → Shape) (bad : N → List Bool) (faults : N → Fault → ℕ) (old new : Durable N)
+    → IsSameDevice shape bad old new → KeepsDevice shape bad faults old new
+keeps_same {N} shape bad faults old new same = record {
+  sectors = same.sectors;
+  chip = same.chip;
+  marks = λ b is. ap (λ (m : List Bool). is_marked m b) same.marks ∙ is;
+  same = λ _. same.marks;
+}
+
+pub keeps_after : {N : Type 0} (shape : N → Shape) (bad : N → List Bool) (faults : N → Fault → ℕ) (old mid new : Durable N)
+    → IsSameDevice shape bad old mid → ((c : Fault) → faults mid.nand c ≡ faults old.nand c) → KeepsDevice shape bad faults mid new
+    → KeepsDevice shape bad faults old new
+keeps_after {N} shape bad faults old mid new same count keeps = record {
+  sectors = keeps.sectors ∙ same.sectors;
+  chip = keeps.chip ∙ same.chip;
+  marks = λ b is. keeps.marks b (ap (λ (m : List Bool). is_marked m b) same.marks ∙ is);
+  same = λ none. keeps.same (none ∙ sym (count fault.Failed)) ∙ same.marks;
+}
+
+-- what was marked, after something that changed nothing
+pub marked_after : {N : Type 0} (shape : N → Shape) (bad : N → List Bool) (faults : N → Fault → ℕ) (old mid new : Durable N)
+    → IsSameDevice shape bad old mid → ((c : Fault) → faults mid.nand c ≡ faults old.nand c) → HasMarkedFailed shape bad faults mid new
+    → HasMarkedFailed shape bad faults old new
+marked_after {N} shape bad faults old mid new same count is =
+    let marked = λ (s : Shape) (m : List Bool) (n : ℕ). faults new.nand fault.Failed % 2 ^ 64
+    ≡ (n + (good_before m s.blocks - good_before (bad new.nand) s.blocks)) % 2 ^ 64 in
+    subst (λ (s : Shape). marked s (bad old.nand) (faults old.nand fault.Failed)) same.chip
+    (subst (λ (m : List Bool). marked (shape mid.nand) m (faults old.nand fault.Failed)) same.marks
+    (subst (λ (n : ℕ). marked (shape mid.nand) (bad mid.nand) n) (count fault.Failed) is))
+
+pub if_marked_after : {N : Type 0} (shape : N → Shape) (bad : N → List Bool) (faults : N → Fault → ℕ) (old mid new : Durable N)
+    (result : Result (Unit {0}) Failure) → IsSameDevice shape bad old mid → ((c : Fault) → faults mid.nand c ≡ faults old.nand c)
+    → OnOk result (HasMarkedFailed shape bad faults mid new) → OnOk result (HasMarkedFailed shape bad faults old new)
+if_marked_after {N} shape bad faults old mid new (Ok v) same count is = marked_after shape bad faults old mid new same count is
+if_marked_after {N} shape bad faults old mid new (Err e) same count is = tt
+
+pub none_marked : {N : Type 0} (shape : N → Shape) (bad : N → List Bool) (faults : N → Fault → ℕ) (old new : Durable N) → IsSameDevice shape bad old new
+    → ((c : Fault) → faults new.nand c ≡ faults old.nand c) → HasMarkedFailed shape bad faults old new
+none_marked {N} shape bad faults old new same count =
+    let was = good_before (bad old.nand) (shape old.nand).blocks in
+    let now = good_before (bad new.nand) (shape old.nand).blocks in
+    let none : was - now ≡ 0 = omega (arith, ap (λ (m : List Bool). good_before m (shape old.nand).blocks) same.marks) in
+    ap (λ (n : ℕ). n % 2 ^ 64) (count fault.Failed ∙ omega (arith, none))
+
+pub not_failed : {T : Type 0} (cause : Failure) → ◌≡◌ {A = Result T Failure} (Err cause) (Err failure.PowerGone) → cause ≢ failure.Failed
+not_failed {T} cause is failed = cc (is, failed)
 
 pub not_lost : {T : Type 0} (cause : Failure) → ◌≡◌ {A = Result T Failure} (Err cause) (Err failure.PowerGone) → cause ≢ failure.Lost
 not_lost {T} cause is lost = cc (is, lost)
-
--- a fault is no refusal, and no page that can't be read
-pub no_refusal : (cause : Fault) (told : Failure) → told ≡ failure_of cause → IsRefusal told → ⊥
-no_refusal fault.Failed told is refused = subst IsRefusal is refused
-no_refusal fault.PowerGone told is refused = subst IsRefusal is refused
-
-pub is_readable : (cause : Fault) (told : Failure) → told ≡ failure_of cause → told ≢ failure.Lost
-is_readable fault.Failed told is e = cc (is, e)
-is_readable fault.PowerGone told is e = cc (is, e)
 
 pub on_ok : {T E P : Type 0} (r : Result T E) → P → OnOk r P
 on_ok (Ok v) h = h
@@ -191,6 +218,8 @@ trims_nothing {N} flash shape bad layer s updates is empty =
       mounted = is.mounted;
       order = is.order;
       device = is.device;
+      reserve = is.reserve;
+      blank = is.blank;
       consistent = record {
         updates = more;
         includes = all_of more;

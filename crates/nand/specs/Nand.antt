@@ -1,5 +1,5 @@
 -- What a read may say of a page, and what a command leaves.
-use Rattle.std.specs.Prelude.{◌≡◌, ◌≢◌, ℕ, Bool, true, false, List, Option, None, Some, Result, Err, OnOk, OnErr, if◌then◌else◌}
+use Rattle.std.specs.Prelude.{◌≡◌, ◌+◌, ◌%◌, ◌^◌, ℕ, Bool, true, false, List, Option, None, Some, Result, Err, OnOk, OnErr, if◌then◌else◌}
 use Rattle.geometry.specs.Sectors.{Sector}
 use Rattle.durable.specs.declared.command.Command.{Command}
 use Rattle.durable.specs.declared.found.Stamp.{Stamp as Noted}
@@ -49,10 +49,20 @@ ReadsMain Torn main = Unit {0}
 abbrev pub Performs : {T : Type 0} → Command → ℕ → Sector → Result T Fault → Flash → Flash → Type 0
 Performs {T} m s value result f t = IsAllowed f m → OnOk result (Completes m s value f t) × OnErr result (CutLeaves m s value f t)
 
--- success leaves the counts of faults as they were, and a fault changes its count. A count may wrap
+-- the other one of the two faults
+abbrev pub other_fault : Fault → Fault
+other_fault fault.Failed = fault.PowerGone
+other_fault fault.PowerGone = fault.Failed
+
+-- one fault more is counted, modulo 2^64, and none of the other kind
+abbrev pub CountsOne : (Fault → ℕ) → (Fault → ℕ) → Fault → Type 0
+CountsOne before now cause = (now cause ≡ (before cause + 1) % 2 ^ 64) × (now (other_fault cause) ≡ before (other_fault cause))
+
+-- success leaves the counts of faults as they were, and a fault is counted
 abbrev pub CountsFault : {T : Type 0} → (Fault → ℕ) → (Fault → ℕ) → Result T Fault → Type 0
-CountsFault {T} before now result = OnOk result ((cause : Fault) → now cause ≡ before cause) × ((cause : Fault) → result ≡ Err cause → now cause ≢ before cause)
+CountsFault {T} before now result =
+    OnOk result ((cause : Fault) → now cause ≡ before cause) × ((cause : Fault) → result ≡ Err cause → CountsOne before now cause)
 
 -- the same of a call that fails only if the power is gone
 abbrev pub CountsCut : {T : Type 0} → (Fault → ℕ) → (Fault → ℕ) → Result T PowerGone → Type 0
-CountsCut {T} before now result = OnOk result ((cause : Fault) → now cause ≡ before cause) × OnErr result (now fault.PowerGone ≢ before fault.PowerGone)
+CountsCut {T} before now result = OnOk result ((cause : Fault) → now cause ≡ before cause) × OnErr result (CountsOne before now fault.PowerGone)

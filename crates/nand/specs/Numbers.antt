@@ -1,5 +1,6 @@
--- The blocks of a chip in the order in which the layer numbers them: the good ones, which are in use, and then those that are marked bad.
-use Rattle.std.specs.Prelude.{◌≡◌, ◌<◌, ◌≤◌, ◌+◌, ℕ, zero, suc, Bool, true, false, List, if◌then◌else◌, slice_index_or}
+-- The blocks of a chip in the order in which the layer numbers them: the good ones, of which the first are in use and the others are a reserve, and
+-- then those that are marked bad.
+use Rattle.std.specs.Prelude.{◌≡◌, ◌≢◌, ◌<◌, ◌≤◌, ◌+◌, ◌-◌, ◌/◌, ℕ, max, zero, suc, Bool, true, false, List, if◌then◌else◌, slice_index_or}
 use Rattle.geometry.specs.declared.page_addr.PageAddr.{PageAddr}
 use Rattle.durable.specs.Flash.{Flash}
 
@@ -24,7 +25,23 @@ abbrev pub good_before : List Bool → ℕ → ℕ
 good_before bad zero = 0
 good_before bad (suc b) = good_before bad b + (if is_marked bad b then 0 else 1)
 
--- each block has one number: of those before block i first the good ones and then the bad ones, and the others have their own
+-- how many good blocks are in use at most: all blocks of the chip but one, and one of 50 more, but as many as the sectors need
+abbrev pub most_in_use : ℕ → ℕ → ℕ → ℕ
+most_in_use blocks pages sectors = max (blocks - (blocks / 50 + 1)) (sectors / pages + 2)
+
+-- the block is in use: it is good, and has one of the first numbers
+abbrev pub IsInUse : List Bool → ℕ → ℕ → Type 0
+IsInUse bad most b = (is_marked bad b ≡ false) × (good_before bad b < most)
+
+-- the block is in reserve: it is good, and has one of the numbers after those
+abbrev pub IsInReserve : List Bool → ℕ → ℕ → Type 0
+IsInReserve bad most b = (is_marked bad b ≡ false) × (most ≤ good_before bad b)
+
+-- this block is marked bad, and the others are as they were
+abbrev pub Marks : List Bool → List Bool → ℕ → Type 0
+Marks before now b = (is_marked now b ≡ true) × ((d : ℕ) → d ≢ b → is_marked now d ≡ is_marked before d)
+
+-- each block has one number: of those before block i first the good ones in their order, then the bad ones, and the others have their own
 pub record IsOrderTo (numbers : List ℕ) (bad : List Bool) (blocks i : ℕ) : Type 0 where
   pub to : ℕ → ℕ
   pub found : (c : ℕ) → to (chip_block numbers c) ≡ c
@@ -32,6 +49,7 @@ pub record IsOrderTo (numbers : List ℕ) (bad : List Bool) (blocks i : ℕ) : T
   pub within : (b : ℕ) → b < blocks → to b < blocks
   pub lies : (c : ℕ) → c < blocks → chip_block numbers c < blocks
   pub good : (c : ℕ) → c < good_before bad i → is_marked bad (chip_block numbers c) ≡ false
+  pub ranked : (c : ℕ) → c < good_before bad i → good_before bad (chip_block numbers c) ≡ c
   pub others : (c : ℕ) → good_before bad i ≤ c → c < i → is_marked bad (chip_block numbers c) ≡ true
   pub rest : (c : ℕ) → i ≤ c → chip_block numbers c ≡ c
 

@@ -1,8 +1,9 @@
 -- What an open layer holds, and what a call that was cut short leaves.
-use Rattle.std.specs.Prelude.{◌≡◌, ◌≢◌, ◌⊎◌, ◌<◌, ◌≤◌, ◌+◌, ◌^◌, ℕ, Bool, true, false, List, ◌∷◌, None, Some}
+use Rattle.std.specs.Prelude.{◌≡◌, ◌≢◌, ◌⊎◌, ◌<◌, ◌≤◌, ◌+◌, ◌-◌, ◌%◌, ◌^◌, ℕ, Bool, true, false, List, ◌∷◌, None, Some, min}
 use Rattle.geometry.specs.Sectors.{Sector}
 use Rattle.geometry.specs.declared.answer.Got.{Got}
 use Rattle.geometry.specs.declared.answer.Got.TheVariants as got
+use Rattle.durable.specs.Failures.{HoldsNoVersion}
 use Rattle.durable.specs.Flash.{Flash}
 use Rattle.durable.specs.Device.{Device, device_of, next_number_of}
 use Rattle.durable.specs.Promise.{IsConsistent, IsReadable}
@@ -14,15 +15,23 @@ use Rattle.nand.specs.declared.flash.Shape.{Shape}
 use Rattle.nand.specs.declared.failure.Failure.{Failure}
 use Rattle.nand.specs.declared.failure.Failure.TheVariants as failure
 use Rattle.nand.specs.declared.layer.Durable.{Durable}
-use Rattle.nand.specs.Numbers.{IsOrder, good_before, is_marked, numbered}
+use Rattle.nand.specs.Numbers.{IsInReserve, IsInUse, IsOrder, good_before, is_marked, most_in_use, numbered}
 
 -- the sizes of a device on a chip of which so many blocks are in use
 abbrev pub device_using : ℕ → Shape → ℕ → Device
 device_using used shape sectors = record { blocks = used; read_blocks = shape.blocks; pages = shape.pages; sectors = sectors }
 
--- the same where the blocks that aren't marked bad are in use
+-- how many good blocks are in use at most
+abbrev pub most_used : Shape → ℕ → ℕ
+most_used shape sectors = most_in_use shape.blocks shape.pages sectors
+
+-- how many are
+abbrev pub used_blocks : Shape → List Bool → ℕ → ℕ
+used_blocks shape bad sectors = min (good_before bad shape.blocks) (most_used shape sectors)
+
+-- the sizes of a device on a chip with these bad blocks
 abbrev pub device_on : Shape → List Bool → ℕ → Device
-device_on shape bad sectors = device_using (good_before bad shape.blocks) shape sectors
+device_on shape bad sectors = device_using (used_blocks shape bad sectors) shape sectors
 
 -- how many sectors the layer has
 abbrev pub layer_sectors : {N : Type 0} → Durable N → ℕ
@@ -36,22 +45,36 @@ number_of {N} layer = next_number_of layer.core
 abbrev pub update_of : ℕ → Sector → Update
 update_of s value = record { sector = s; value = value }
 
--- a good block can be freed, since all of its newest versions are elsewhere too
-abbrev pub CanFreeGood : Flash → List Bool → ℕ → ℕ → Type 0
-CanFreeGood f bad blocks sectors = (b : ℕ) × (b < blocks) × (is_marked bad b ≡ false) × IsDuplicated f sectors b
+-- a block in use can be freed, since all of its newest versions are elsewhere too
+abbrev pub CanFreeInUse : Flash → Shape → List Bool → ℕ → Type 0
+CanFreeInUse f shape bad sectors = (b : ℕ) × (b < shape.blocks) × IsInUse bad (most_used shape sectors) b × IsDuplicated f sectors b
 
--- the chip can be opened, and a mount finds the array after these updates, the newest first
+-- no block of the reserve has a version
+abbrev pub IsReserveBlank : Flash → Shape → List Bool → ℕ → Type 0
+IsReserveBlank f shape bad sectors = (b : ℕ) → b < shape.blocks → IsInReserve bad (most_used shape sectors) b → HoldsNoVersion f b
+
+-- such a chip can be opened, and a mount finds the array after these updates, the newest first
+pub record IsOpenable (f : Flash) (shape : Shape) (bad : List Bool) (sectors : ℕ) (updates : List Update) : Type 0 where
+  pub readable : IsReadable f (device_on shape bad sectors) updates updates
+  pub frees : CanFreeInUse f shape bad sectors
+  pub blank : IsReserveBlank f shape bad sectors
+
+-- the same of this chip
 abbrev pub CanOpen : {N : Type 0} → (N → Flash) → (N → Shape) → (N → List Bool) → N → ℕ → List Update → Type 0
-CanOpen {N} flash shape bad nand sectors updates =
-    IsReadable (flash nand) (device_on (shape nand) (bad nand) sectors) updates updates
-    × CanFreeGood (flash nand) (bad nand) (shape nand).blocks sectors
+CanOpen {N} flash shape bad nand sectors updates = IsOpenable (flash nand) (shape nand) (bad nand) sectors updates
 
--- the layer is open, uses no bad block, and holds the array after these updates, the newest first
+-- how many blocks the layer has in reserve
+abbrev pub reserve_of : {N : Type 0} → Durable N → ℕ
+reserve_of {N} layer = layer.reserve
+
+-- the layer is open, uses no bad block and none of the reserve, and holds the array after these updates, the newest first
 pub record IsOpenLayer {N : Type 0} (flash : N → Flash) (shape : N → Shape) (bad : N → List Bool) (layer : Durable N) (updates : List Update)
     : Type 0 where
   pub mounted : layer.mounted ≡ true
   pub order : IsOrder layer.numbers.items (bad layer.nand) (shape layer.nand).blocks
   pub device : device_of layer.core ≡ device_on (shape layer.nand) (bad layer.nand) (layer_sectors layer)
+  pub reserve : reserve_of layer + (device_of layer.core).blocks ≡ good_before (bad layer.nand) (shape layer.nand).blocks
+  pub blank : IsReserveBlank (flash layer.nand) (shape layer.nand) (bad layer.nand) (layer_sectors layer)
   pub consistent : IsConsistent (numbered layer.numbers.items (flash layer.nand)) layer.core updates updates
 
 -- a command of the layer has failed, and its chip was not opened again
@@ -64,37 +87,53 @@ pub record IsSameDevice {N : Type 0} (shape : N → Shape) (bad : N → List Boo
   pub chip : shape new.nand ≡ shape old.nand
   pub marks : bad new.nand ≡ bad old.nand
 
+-- the layer has as many sectors as before, and its chip is as large; a mark stays, and there are more only if a command has failed
+pub record KeepsDevice {N : Type 0} (shape : N → Shape) (bad : N → List Bool) (faults : N → Fault → ℕ) (old new : Durable N) : Type 0 where
+  pub sectors : layer_sectors new ≡ layer_sectors old
+  pub chip : shape new.nand ≡ shape old.nand
+  pub marks : (b : ℕ) → is_marked (bad old.nand) b ≡ true → is_marked (bad new.nand) b ≡ true
+  pub same : faults new.nand fault.Failed ≡ faults old.nand fault.Failed → bad new.nand ≡ bad old.nand
+
+-- so many blocks were marked as commands have failed, modulo 2^64
+abbrev pub HasMarkedFailed : {N : Type 0} → (N → Shape) → (N → List Bool) → (N → Fault → ℕ) → Durable N → Durable N → Type 0
+HasMarkedFailed {N} shape bad faults old new =
+    let was = good_before (bad old.nand) (shape old.nand).blocks in
+    let now = good_before (bad new.nand) (shape old.nand).blocks in
+    faults new.nand fault.Failed % 2 ^ 64 ≡ (faults old.nand fault.Failed + (was - now)) % 2 ^ 64
+
 -- the call is refused, and the array stays as it was
 abbrev pub IsRefusal : Failure → Type 0
 IsRefusal failure.PowerGone = ⊥
 IsRefusal failure.Failed = ⊥
+IsRefusal failure.OutOfMemory = ⊥
 IsRefusal failure.Closed = ⊥
 IsRefusal failure.NoNumber = Unit {0}
 IsRefusal failure.Written = Unit {0}
 IsRefusal failure.Lost = ⊥
 
+-- no block is in reserve, or the numbers have run out
+abbrev pub IsSpent : Shape → List Bool → ℕ → ℕ → Type 0
+IsSpent shape bad sectors number = (good_before bad shape.blocks ≤ most_used shape sectors) ⊎ (2 ^ 64 ≤ number + 1)
+
 -- an update that failed: the chip can be opened, with the array from before it or the one from after it; after a refusal the layer holds
--- the array from before it; otherwise it holds that, or it is closed
+-- the array from before it; otherwise it holds that, or it is closed. A failed command is told only where the layer has nothing to go on with
 pub record Fails {N : Type 0} (flash : N → Flash) (shape : N → Shape) (bad : N → List Bool) (old new : Durable N) (update : Update)
     (updates : List Update) (cause : Failure) : Type 0 where
   pub reopens : CanOpen flash shape bad new.nand (layer_sectors old) updates ⊎ CanOpen flash shape bad new.nand (layer_sectors old) (update ∷ updates)
   pub refused : IsRefusal cause → IsOpenLayer flash shape bad new updates
   pub stays : IsOpenLayer flash shape bad new updates ⊎ IsClosed new
   pub readable : cause ≢ failure.Lost
+  pub spent : cause ≡ failure.Failed → IsSpent (shape new.nand) (bad new.nand) (layer_sectors old) (number_of new)
 
 -- the cause that a call tells is the true one: the chip has counted the fault, the layer was closed, or the numbers have run out
 abbrev pub IsTrueCause : {N : Type 0} → (N → Fault → ℕ) → Durable N → Durable N → Failure → Type 0
 IsTrueCause {N} faults old new failure.PowerGone = faults new.nand fault.PowerGone ≢ faults old.nand fault.PowerGone
 IsTrueCause {N} faults old new failure.Failed = faults new.nand fault.Failed ≢ faults old.nand fault.Failed
+IsTrueCause {N} faults old new failure.OutOfMemory = faults new.nand fault.Failed ≢ faults old.nand fault.Failed
 IsTrueCause {N} faults old new failure.Closed = IsClosed old
 IsTrueCause {N} faults old new failure.NoNumber = 2 ^ 64 ≤ number_of old + 1
 IsTrueCause {N} faults old new failure.Written = Unit {0}
 IsTrueCause {N} faults old new failure.Lost = Unit {0}
-
--- what a call returns at a fault of the chip
-abbrev pub failure_of : Fault → Failure
-failure_of fault.Failed = failure.Failed
-failure_of fault.PowerGone = failure.PowerGone
 
 -- what a read returns: that the sector is empty, or its bytes
 abbrev pub ReadsSector : Sector → Got → List ℕ → Type 0

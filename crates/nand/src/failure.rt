@@ -1,4 +1,3 @@
-use crate::flash::Fault;
 use durable::MountFault;
 use thiserror::Error;
 
@@ -8,9 +7,12 @@ pub enum Failure {
     /// The power is gone. Open the chip again once it is back.
     #[error("the power is gone")]
     PowerGone,
-    /// A command has failed. Open the chip again.
+    /// A command has failed, and no block is in reserve. Open the chip again.
     #[error("a command has failed")]
     Failed,
+    /// A command has failed, and there is too little memory to go on without its block. Open the chip again.
+    #[error("out of memory after a command has failed")]
+    OutOfMemory,
     /// An earlier call has failed, and the chip wasn't opened again.
     #[error("the chip has to be opened again")]
     Closed,
@@ -34,18 +36,4 @@ pub enum OpenFailure {
     /// The power is gone.
     #[error("the power is gone")]
     PowerGone,
-}
-
-impl From<Fault> for Failure {
-    ghost use Rattle.std.specs.Prelude.{◌≡◌};
-    ghost use Rattle.nand.specs.Opened.{failure_of};
-
-    ghost from_gives = { λ cause failure. failure ≡ failure_of cause };
-
-    fn from(fault: Fault) -> Failure {
-        match fault {
-            Fault::Failed => Failure::Failed,
-            Fault::PowerGone => Failure::PowerGone,
-        }
-    }
 }

@@ -1,8 +1,9 @@
-ghost use Rattle.std.specs.Prelude.{◌≡◌, ◌⊎◌, ◌<◌, ℕ, Bool, true, false, List, length, slice_index_or, slice_set, IfOk, OnOk, OnErr};
+ghost use Rattle.std.specs.Prelude.{◌≡◌, ◌⊎◌, ◌<◌, ℕ, Bool, true, false, List, length, slice_index_or, IfOk, OnOk};
 ghost use Rattle.durable.specs.Flash.{Flash};
 ghost use Rattle.nand.specs.declared.flash.Shape.{Shape as Numbers};
 ghost use Rattle.durable.specs.declared.command.Command.TheVariants as command;
 ghost use Rattle.nand.specs.declared.flash.Fault.{Fault as Cause};
+ghost use Rattle.nand.specs.Numbers.{Marks};
 ghost use Rattle.nand.specs.Nand.{ReadsStamp, ReadsMain, Performs, CountsFault, CountsCut, value_with};
 
 use geometry::PageAddr;
@@ -64,7 +65,7 @@ pub trait Nand {
     /// Of each block, whether it is marked bad.
     ghost bad: { Self → List Bool };
 
-    /// How many calls have ended with each fault. The count may wrap, so that a driver can keep it in a word.
+    /// How many calls have ended with each fault, modulo 2^64: a driver can keep it in a word.
     ghost faults: { Self → Cause → ℕ };
 
     /// How large the chip is.
@@ -79,11 +80,10 @@ pub trait Nand {
         ensures bad { bad self.new ≡ bad self.old }
         ensures cause { CountsCut (faults self.old) (faults self.new) result };
 
-    /// Marks a block bad for good.
+    /// Marks a block bad for good. Its pages are still read.
     fn mark_bad(&mut self, block: u32) -> Result<(), PowerGone>
-        requires { block < (shape self.old).blocks }
-        ensures marks { OnOk result (bad self.new ≡ slice_set (bad self.old) block true) }
-        ensures cut { OnErr result ((bad self.new ≡ bad self.old) ⊎ (bad self.new ≡ slice_set (bad self.old) block true)) }
+        ensures marks { block < (shape self.old).blocks → OnOk result (Marks (bad self.old) (bad self.new) block) }
+        ensures only { (bad self.new ≡ bad self.old) ⊎ Marks (bad self.old) (bad self.new) block }
         ensures flash { flash self.new ≡ flash self.old }
         ensures shape { shape self.new ≡ shape self.old }
         ensures cause { CountsCut (faults self.old) (faults self.new) result };

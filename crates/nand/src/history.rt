@@ -1,7 +1,7 @@
 ghost use Rattle.std.specs.Prelude.{◌≡◌, All, List, ◌∷◌, [], length, Ok, Err, OnOk, IfOk, IfErr};
 ghost use Rattle.durable.specs.Updates.{Makes, Update};
 ghost use Rattle.nand.specs.Histories.{IsFor, Leads, update_by};
-ghost use Rattle.nand.specs.Opened.{CanOpen, Fails, IsClosed, IsOpenLayer, IsSameDevice, IsTrueCause, layer_sectors};
+ghost use Rattle.nand.specs.Opened.{CanOpen, Fails, HasMarkedFailed, IsClosed, IsOpenLayer, IsTrueCause, KeepsDevice, layer_sectors};
 ghost use Rattle.nand.specs.declared.failure.Failure.TheVariants as failure;
 
 use crate::failure::{Failure, OpenFailure};
@@ -27,7 +27,9 @@ impl<N: Nand> Durable<N> {
             → IfErr result (Fails N.flash N.shape N.bad self.old self.new (update_by change.now) updates) }
         ensures cause { IfErr result (IsTrueCause N.faults self.old self.new) }
         ensures closed { IsClosed self.old → result ≡ Err failure.Closed }
-        ensures device { IsSameDevice N.shape N.bad self.old self.new }
+        ensures device { KeepsDevice N.shape N.bad N.faults self.old self.new }
+        ensures marks { (updates : List Update) → IsOpenLayer N.flash N.shape N.bad self.old updates
+            → OnOk result (HasMarkedFailed N.shape N.bad N.faults self.old self.new) }
     {
         match change {
             Change::Write(sector, bytes) => self.write(*sector, bytes),

@@ -1,5 +1,5 @@
 //! Laws of the definitions: each function has no code, and its clauses say on small values where a definition holds and where not.
-ghost use Rattle.std.specs.Prelude.{◌≡◌, ◌≢◌, ◌<◌, ◌-◌, ◌^◌, ℕ, Bool, List, [], ◌∷◌, None, Some, Ok, Err, Vec, true, false};
+ghost use Rattle.std.specs.Prelude.{◌≡◌, ◌≢◌, ◌<◌, ◌-◌, ◌%◌, ◌^◌, ℕ, Bool, List, [], ◌∷◌, None, Some, Ok, Err, Vec, true, false};
 ghost use Rattle.std.specs.declared.alloc.Global.{Global as OnHeap};
 ghost use Rattle.geometry.specs.Sectors.{Sector};
 ghost use Rattle.geometry.specs.declared.answer.Got.TheVariants as got;
@@ -12,10 +12,10 @@ ghost use Rattle.durable.specs.declared.command.Command.TheVariants as command;
 ghost use Rattle.nand.specs.Cells.{IsWiped, contents_of, flash_in};
 ghost use Rattle.nand.specs.Chip.{Ends, HasSame, after_command, chip_bad, chip_erases, chip_faults, chip_flash, chip_shape, coming, schedule_of};
 ghost use Rattle.nand.specs.Histories.{IsFor, Leads, update_by};
-ghost use Rattle.nand.specs.Nand.{CountsCut, CountsFault, Performs, ReadsMain, ReadsStamp, noted_of, value_with};
-ghost use Rattle.nand.specs.Numbers.{IsOrder, chip_block, chip_page, good_before, is_marked, numbered};
-ghost use Rattle.nand.specs.Opened.{CanFreeGood, CanOpen, Fails, IsClosed, IsOpenLayer, IsRefusal, IsSameDevice, IsTrueCause, ReadsSector};
-ghost use Rattle.nand.specs.Opened.{device_on, failure_of, layer_sectors, number_of, update_of};
+ghost use Rattle.nand.specs.Nand.{CountsCut, CountsFault, Performs, ReadsMain, ReadsStamp, noted_of, other_fault, value_with};
+ghost use Rattle.nand.specs.Numbers.{IsInReserve, IsInUse, IsOrder, Marks, chip_block, chip_page, good_before, is_marked, most_in_use, numbered};
+ghost use Rattle.nand.specs.Opened.{CanFreeInUse, CanOpen, Fails, HasMarkedFailed, IsClosed, IsOpenLayer, IsRefusal, IsSameDevice, IsSpent, IsTrueCause};
+ghost use Rattle.nand.specs.Opened.{KeepsDevice, ReadsSector, device_on, layer_sectors, most_used, number_of, reserve_of, update_of};
 ghost use Rattle.nand.specs.declared.chip.Chip.{Chip as Modelled};
 ghost use Rattle.nand.specs.declared.chip.Cut.TheVariants as cut;
 ghost use Rattle.nand.specs.declared.chip.Fate.TheVariants as fate;
@@ -81,16 +81,20 @@ pub fn outcomes()
     ensures same { (count : Cause → ℕ) → CountsFault {T = ℕ} count count (Ok 0) }
     ensures success { (old new : Cause → ℕ) → new fault.Failed ≢ old fault.Failed → ¬ CountsFault {T = ℕ} old new (Ok 0) }
     ensures same_cut { (old new : Cause → ℕ) → new fault.PowerGone ≢ old fault.PowerGone → ¬ CountsFault {T = ℕ} old new (Ok 0) }
-    ensures wraps { (old new : Cause → ℕ) → new fault.Failed ≢ old fault.Failed → CountsFault {T = ℕ} old new (Err fault.Failed) }
-    ensures counted { (old new : Cause → ℕ) → CountsFault {T = ℕ} old new (Err fault.Failed) → new fault.Failed ≢ old fault.Failed }
-    ensures counts { (old new : Cause → ℕ) → CountsFault {T = ℕ} old new (Err fault.PowerGone) → new fault.PowerGone ≢ old fault.PowerGone }
+    ensures other_failed { other_fault fault.PowerGone ≡ fault.Failed }
+    ensures other_gone { other_fault fault.Failed ≡ fault.PowerGone }
+    ensures wraps { (old new : Cause → ℕ) → CountsFault {T = ℕ} old new (Err fault.Failed) → old fault.Failed ≡ 2 ^ 64 - 1 → new fault.Failed ≡ 0 }
+    ensures counted { (old new : Cause → ℕ) → CountsFault {T = ℕ} old new (Err fault.Failed) → old fault.Failed ≡ 2 → new fault.Failed ≡ 3 }
+    ensures only { (old new : Cause → ℕ) → CountsFault {T = ℕ} old new (Err fault.Failed) → new fault.PowerGone ≡ old fault.PowerGone }
+    ensures counts { (old new : Cause → ℕ) → CountsFault {T = ℕ} old new (Err fault.PowerGone) → old fault.PowerGone ≡ 2 → new fault.PowerGone ≡ 3 }
     ensures not_power { (old new : Cause → ℕ) → new fault.Failed ≢ old fault.Failed → new fault.PowerGone ≡ old fault.PowerGone
         → ¬ CountsFault {T = ℕ} old new (Err fault.PowerGone) }
     ensures same_cuts { (count : Cause → ℕ) → CountsCut {T = ℕ} count count (Ok 0) }
     ensures no_cut { (old new : Cause → ℕ) → new fault.Failed ≢ old fault.Failed → ¬ CountsCut {T = ℕ} old new (Ok 0) }
     ensures no_power { (old new : Cause → ℕ) → new fault.PowerGone ≢ old fault.PowerGone → ¬ CountsCut {T = ℕ} old new (Ok 0) }
     ensures power { (count : Cause → ℕ) (gone : NoPower) → ¬ CountsCut {T = ℕ} count count (Err gone) }
-    ensures gone { (old new : Cause → ℕ) (gone : NoPower) → new fault.PowerGone ≢ old fault.PowerGone → CountsCut {T = ℕ} old new (Err gone) }
+    ensures gone { (old new : Cause → ℕ) (gone : NoPower) → CountsCut {T = ℕ} old new (Err gone) → old fault.PowerGone ≡ 2 → new fault.PowerGone ≡ 3 }
+    ensures no_failure { (old new : Cause → ℕ) (gone : NoPower) → CountsCut {T = ℕ} old new (Err gone) → new fault.Failed ≡ old fault.Failed }
 {}
 
 /// What a modelled chip holds and counts.
@@ -151,20 +155,21 @@ pub fn schedules()
 
 /// Which failures may come, and what they leave.
 pub fn failures()
-    ensures failed { failure_of fault.Failed ≡ failure.Failed }
-    ensures gone { failure_of fault.PowerGone ≡ failure.PowerGone }
     ensures no_number { IsRefusal failure.NoNumber }
     ensures is_written { IsRefusal failure.Written }
     ensures no_power { ¬ IsRefusal failure.PowerGone }
     ensures no_command { ¬ IsRefusal failure.Failed }
+    ensures no_memory { ¬ IsRefusal failure.OutOfMemory }
     ensures is_closed { ¬ IsRefusal failure.Closed }
     ensures is_lost { ¬ IsRefusal failure.Lost }
 {}
 
 /// An open layer on a modelled chip, and a chip that can be opened.
 pub fn opened()
-    ensures blocks { (shape : Numbers) → shape.blocks ≡ 3 → ((device_on shape [] 8).blocks ≡ 3) × ((device_on shape [] 8).read_blocks ≡ 3) }
-    ensures bad_block { (shape : Numbers) → shape.blocks ≡ 3
+    ensures most { (shape : Numbers) → shape.blocks ≡ 100 → shape.pages ≡ 4 → most_used shape 8 ≡ 97 }
+    ensures blocks { (shape : Numbers) → shape.blocks ≡ 9 → shape.pages ≡ 4
+        → ((device_on shape [] 8).blocks ≡ 8) × ((device_on shape [] 8).read_blocks ≡ 9) }
+    ensures bad_block { (shape : Numbers) → shape.blocks ≡ 3 → shape.pages ≡ 4
         → ((device_on shape (false ∷ true ∷ []) 8).blocks ≡ 2) × ((device_on shape (false ∷ true ∷ []) 8).read_blocks ≡ 3) }
     ensures pages { (shape : Numbers) → shape.pages ≡ 4 → (device_on shape [] 8).pages ≡ 4 }
     ensures sectors { (shape : Numbers) → (device_on shape [] 8).sectors ≡ 8 }
@@ -172,6 +177,7 @@ pub fn opened()
     ensures value { (update_of 7 (Some (5 ∷ []))).value ≡ Some (5 ∷ []) }
     ensures size { (layer : Layer Modelled) → (device_of layer.core).sectors ≡ 8 → layer_sectors layer ≡ 8 }
     ensures number { (layer : Layer Modelled) → next_number_of layer.core ≡ 5 → number_of layer ≡ 5 }
+    ensures rest { (layer : Layer Modelled) → layer.reserve ≡ 2 → reserve_of layer ≡ 2 }
     ensures is_closed { (layer : Layer Modelled) → layer.mounted ≡ false → IsClosed layer }
     ensures closed { (layer : Layer Modelled) (updates : List Update) → IsClosed layer → ¬ IsOpenLayer chip_flash chip_shape chip_bad layer updates }
     ensures other_chip { (layer : Layer Modelled) (updates : List Update) → (chip_shape layer.nand).blocks ≡ 3 → (device_of layer.core).read_blocks ≡ 4
@@ -182,7 +188,17 @@ pub fn opened()
         → chip_bad layer.nand ≡ true ∷ [] → 0 < (device_of layer.core).blocks → chip_block layer.numbers.items 0 ≢ 0 }
     ensures frees { (chip : Modelled) (updates : List Update) → (chip_shape chip).blocks ≡ 1 → chip_bad chip ≡ true ∷ []
         → ¬ CanOpen chip_flash chip_shape chip_bad chip 8 updates }
-    ensures freed { (f : Flash) → CanFreeGood f (true ∷ false ∷ []) 2 8 → IsDuplicated f 8 1 }
+    ensures in_reserve { (layer : Layer Modelled) (updates : List Update) → IsOpenLayer chip_flash chip_shape chip_bad layer updates
+        → (chip_shape layer.nand).blocks ≡ 9 → (chip_shape layer.nand).pages ≡ 4 → layer_sectors layer ≡ 8 → chip_bad layer.nand ≡ []
+        → reserve_of layer ≡ 1 }
+    ensures blank { (layer : Layer Modelled) (v : Sector) (updates : List Update) → IsOpenLayer chip_flash chip_shape chip_bad layer updates
+        → (chip_shape layer.nand).blocks ≡ 9 → (chip_shape layer.nand).pages ≡ 4 → layer_sectors layer ≡ 8 → chip_bad layer.nand ≡ []
+        → chip_flash layer.nand 8 0 ≢ Version 7 5 v }
+    ensures blank_chip { (chip : Modelled) (v : Sector) (updates : List Update) → CanOpen chip_flash chip_shape chip_bad chip 8 updates
+        → (chip_shape chip).blocks ≡ 9 → (chip_shape chip).pages ≡ 4 → chip_bad chip ≡ [] → chip_flash chip 8 0 ≢ Version 7 5 v }
+    ensures freed { (f : Flash) (shape : Numbers) → shape.blocks ≡ 2 → CanFreeInUse f shape (true ∷ false ∷ []) 8 → IsDuplicated f 8 1 }
+    ensures freed_in_use { (f : Flash) (shape : Numbers) → shape.blocks ≡ 9 → shape.pages ≡ 4 → CanFreeInUse f shape [] 8
+        → (b : ℕ) × (good_before [] b < 8) × IsDuplicated f 8 b }
     ensures keeps { (chip : Modelled) (updates : List Update) → CanOpen chip_flash chip_shape chip_bad chip 8 updates
         → KeepsAcknowledged (chip_flash chip) 8 updates updates }
     ensures erased { (chip : Modelled) → IsErased (chip_flash chip) → 0 < good_before (chip_bad chip) (chip_shape chip).blocks
@@ -206,6 +222,17 @@ pub fn orders()
     ensures every { (numbers : List ℕ) (bad : List Bool) → IsOrder numbers bad 2 → (c : ℕ) × (c < 2) × (chip_block numbers c ≡ 1) }
     ensures lies { (numbers : List ℕ) (bad : List Bool) → IsOrder numbers bad 2 → chip_block numbers 1 < 2 }
     ensures in_order { IsOrder [] [] 2 }
+    ensures ranked { (numbers : List ℕ) → IsOrder numbers [] 2 → chip_block numbers 1 ≡ 1 }
+    ensures most { most_in_use 100 4 8 ≡ 97 }
+    ensures least { most_in_use 3 2 3 ≡ 3 }
+    ensures in_use { IsInUse (true ∷ false ∷ []) 1 1 }
+    ensures past_use { ¬ IsInUse (false ∷ false ∷ []) 1 1 }
+    ensures bad_use { ¬ IsInUse (true ∷ []) 1 0 }
+    ensures reserve { IsInReserve (false ∷ false ∷ []) 1 1 }
+    ensures no_reserve { ¬ IsInReserve (false ∷ false ∷ []) 1 0 }
+    ensures bad_reserve { ¬ IsInReserve (false ∷ true ∷ []) 1 1 }
+    ensures marked { (now : List Bool) → Marks [] now 1 → is_marked now 1 ≡ true }
+    ensures unmarked { (now : List Bool) → Marks (true ∷ false ∷ []) now 1 → is_marked now 0 ≡ true }
 {}
 
 /// How updates fail, and which causes are true.
@@ -214,12 +241,30 @@ pub fn failing()
         → ¬ IsTrueCause chip_faults old new failure.PowerGone }
     ensures failed { (old new : Layer Modelled) → chip_faults old.nand fault.Failed ≡ 2 → chip_faults new.nand fault.Failed ≡ 2
         → ¬ IsTrueCause chip_faults old new failure.Failed }
+    ensures memory { (old new : Layer Modelled) → chip_faults old.nand fault.Failed ≡ 2 → chip_faults new.nand fault.Failed ≡ 2
+        → ¬ IsTrueCause chip_faults old new failure.OutOfMemory }
     ensures open { (old new : Layer Modelled) → old.mounted ≡ true → ¬ IsTrueCause chip_faults old new failure.Closed }
     ensures number { (old new : Layer Modelled) → number_of old ≡ 5 → ¬ IsTrueCause chip_faults old new failure.NoNumber }
     ensures last_number { (old new : Layer Modelled) → number_of old ≡ 2 ^ 64 - 1 → IsTrueCause chip_faults old new failure.NoNumber }
     ensures sectors { (old new : Layer Modelled) → layer_sectors old ≡ 8 → layer_sectors new ≡ 7 → ¬ IsSameDevice chip_shape chip_bad old new }
     ensures chip { (old new : Layer Modelled) → (chip_shape old.nand).pages ≡ 4 → (chip_shape new.nand).pages ≡ 5 → ¬ IsSameDevice chip_shape chip_bad old new }
     ensures marks { (old new : Layer Modelled) → chip_bad old.nand ≢ chip_bad new.nand → ¬ IsSameDevice chip_shape chip_bad old new }
+    ensures kept_sectors { (old new : Layer Modelled) → layer_sectors old ≡ 8 → layer_sectors new ≡ 7
+        → ¬ KeepsDevice chip_shape chip_bad chip_faults old new }
+    ensures kept_chip { (old new : Layer Modelled) → (chip_shape old.nand).pages ≡ 4 → (chip_shape new.nand).pages ≡ 5
+        → ¬ KeepsDevice chip_shape chip_bad chip_faults old new }
+    ensures kept_marks { (old new : Layer Modelled) → KeepsDevice chip_shape chip_bad chip_faults old new → chip_bad old.nand ≡ true ∷ []
+        → is_marked (chip_bad new.nand) 0 ≡ true }
+    ensures no_marks { (old new : Layer Modelled) → KeepsDevice chip_shape chip_bad chip_faults old new → chip_faults old.nand fault.Failed ≡ 2
+        → chip_faults new.nand fault.Failed ≡ 2 → chip_bad new.nand ≡ chip_bad old.nand }
+    ensures one_mark { (old new : Layer Modelled) → HasMarkedFailed chip_shape chip_bad chip_faults old new → (chip_shape old.nand).blocks ≡ 2
+        → chip_bad old.nand ≡ [] → chip_bad new.nand ≡ true ∷ [] → chip_faults old.nand fault.Failed ≡ 3
+        → chip_faults new.nand fault.Failed % 2 ^ 64 ≡ 4 }
+    ensures spare { (shape : Numbers) → shape.blocks ≡ 9 → shape.pages ≡ 4 → ¬ IsSpent shape [] 8 5 }
+    ensures spent { (shape : Numbers) → shape.blocks ≡ 3 → shape.pages ≡ 4 → IsSpent shape [] 8 5 }
+    ensures spent_numbers { (shape : Numbers) → IsSpent shape [] 8 (2 ^ 64 - 1) }
+    ensures told { (old new : Layer Modelled) (u : Update) (updates : List Update) → Fails chip_flash chip_shape chip_bad old new u updates failure.Failed
+        → IsSpent (chip_shape new.nand) (chip_bad new.nand) (layer_sectors old) (number_of new) }
     ensures lost { (old new : Layer Modelled) (u : Update) (updates : List Update) → ¬ Fails chip_flash chip_shape chip_bad old new u updates failure.Lost }
     ensures written { (old new : Layer Modelled) (u : Update) (updates : List Update) → new.mounted ≡ false
         → ¬ Fails chip_flash chip_shape chip_bad old new u updates failure.Written }

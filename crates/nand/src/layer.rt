@@ -5,12 +5,11 @@ ghost use Rattle.geometry.specs.declared.answer.Was.TheVariants as was;
 ghost use Rattle.durable.specs.Collecting.{HasCapacity};
 ghost use Rattle.durable.specs.Updates.{Update, array_after};
 ghost use Rattle.durable.specs.declared.fault.MountFault.TheVariants as mount_fault;
-ghost use Rattle.nand.specs.Nand.{Performs, CountsFault, value_with};
 ghost use Rattle.durable.specs.Device.{IsWrittenOn, losses_of};
 ghost use Rattle.durable.specs.Flash.{IsErased};
-ghost use Rattle.nand.specs.Numbers.{IsOrder, good_before, numbered};
-ghost use Rattle.nand.specs.Opened.{CanOpen, Fails, IsClosed, IsOpenLayer, IsSameDevice, IsTrueCause, ReadsSector};
-ghost use Rattle.nand.specs.Opened.{device_on, layer_sectors, number_of, update_of};
+ghost use Rattle.nand.specs.Numbers.{good_before};
+ghost use Rattle.nand.specs.Opened.{CanOpen, Fails, HasMarkedFailed, IsClosed, IsOpenLayer, IsSameDevice, IsTrueCause, KeepsDevice, ReadsSector};
+ghost use Rattle.nand.specs.Opened.{device_on, layer_sectors, number_of, reserve_of, update_of};
 ghost use Rattle.nand.specs.declared.failure.Failure.TheVariants as failure;
 ghost use Rattle.nand.specs.declared.failure.OpenFailure.TheVariants as why;
 ghost use Rattle.nand.specs.declared.flash.Reading.TheVariants as outcome;
@@ -18,22 +17,26 @@ ghost use Rattle.nand.specs.declared.flash.Fault.{Fault as Cause};
 ghost use Rattle.nand.specs.declared.flash.Fault.TheVariants as fault;
 
 use crate::failure::{Failure, OpenFailure};
-use crate::flash::{Fault, Nand, PowerGone, Reading, Stamp};
+use crate::flash::{Nand, PowerGone, Reading};
 use crate::mounting::mount;
-use crate::numbers::{chip_block, chip_page};
-use durable::{Command, Core};
+use crate::numbers::chip_page;
+use durable::Core;
 use geometry::{Got, Was};
 use std::alloc::Global;
 
 /// A page-mapped layer over a chip. It survives power cuts.
 #[derive(Drop)]
 pub struct Durable<N: Nand> {
-    nand: N,
+    pub(crate) nand: N,
+    // For the mount that follows a command that has failed.
+    pub(crate) alloc: Global,
     // The chip's block of each of the core's.
-    numbers: Vec<u32>,
-    core: Core,
-    // No command has failed since the chip was opened.
-    mounted: bool,
+    pub(crate) numbers: Vec<u32>,
+    pub(crate) core: Core,
+    // How many good blocks aren't in use.
+    pub(crate) reserve: u32,
+    // The core knows what the chip holds.
+    pub(crate) mounted: bool,
 }
 
 /// A chip that was not opened, and why.
@@ -64,40 +67,6 @@ fn found(reading: Reading, sector: u32) -> Result<Was, Failure>
     }
 }
 
-// Has the chip do a command.
-fn perform<N: Nand>(
-    nand: &mut N,
-    numbers: &[u32],
-    command: Command,
-    sector: u32,
-    trimmed: bool,
-    main: &[u8],
-) -> Result<(), Fault>
-    requires { trimmed ≡ false → length main.now ≡ (N.shape nand.old).page_bytes }
-    ensures does { (bad : List Bool) (blocks : ℕ) → IsOrder numbers.now bad blocks → Performs command sector (value_with trimmed main.now) result
-        (numbered numbers.now (N.flash nand.old)) (numbered numbers.now (N.flash nand.new)) }
-    ensures shape { N.shape nand.new ≡ N.shape nand.old }
-    ensures bad { N.bad nand.new ≡ N.bad nand.old }
-    ensures cause { CountsFault (N.faults nand.old) (N.faults nand.new) result }
-{
-    match command {
-        Command::Program(at, number) => {
-            let stamp = Stamp {
-                sector,
-                number,
-                trimmed,
-            };
-            nand.program(chip_page(numbers, at), stamp, main)
-        }
-        Command::Copy(_, from, to) => nand.copyback(
-            chip_page(numbers, from),
-            chip_page(numbers, to),
-        ),
-        Command::Erase(number) => nand.erase(chip_block(numbers, number)),
-        Command::Refused => Ok(()),
-    }
-}
-
 impl<N: Nand> Durable<N> {
     /// Opens a chip: reads each page's stamp. A chip that was never written is an empty device. A chip that isn't opened comes back.
     pub fn open(alloc: Global, nand: N, sectors: u32) -> Result<Durable<N>, NotOpened<N>>
@@ -125,8 +94,10 @@ impl<N: Nand> Durable<N> {
         match mount(alloc, &mut nand, sectors) {
             Ok(mounted) => Ok(Durable {
                 nand,
+                alloc,
                 numbers: mounted.numbers,
                 core: mounted.core,
+                reserve: mounted.reserve,
                 mounted: true,
             }),
             Err(why) => Err(NotOpened { nand, why }),
@@ -155,6 +126,13 @@ impl<N: Nand> Durable<N> {
         ensures { result ≡ losses_of self.now.core }
     {
         self.core.losses()
+    }
+
+    /// How many blocks are in reserve: so many commands may fail before a call tells one.
+    pub fn reserve(&self) -> u32
+        ensures reserve { result ≡ reserve_of self.now }
+    {
+        self.reserve
     }
 
     /// How many bytes a page has, and so a sector.
@@ -207,7 +185,9 @@ impl<N: Nand> Durable<N> {
             → IfErr result (Fails N.flash N.shape N.bad self.old self.new (update_of sector (Some bytes.now)) updates) }
         ensures cause { IfErr result (IsTrueCause N.faults self.old self.new) }
         ensures closed { IsClosed self.old → result ≡ Err failure.Closed }
-        ensures device { IsSameDevice N.shape N.bad self.old self.new }
+        ensures device { KeepsDevice N.shape N.bad N.faults self.old self.new }
+        ensures marks { (updates : List Update) → IsOpenLayer N.flash N.shape N.bad self.old updates
+            → OnOk result (HasMarkedFailed N.shape N.bad N.faults self.old self.new) }
         ensures overwrites { result ≢ Err failure.Written }
     {
         self.update(sector, false, bytes)
@@ -229,7 +209,9 @@ impl<N: Nand> Durable<N> {
             → IfErr result (Fails N.flash N.shape N.bad self.old self.new (update_of sector (Some bytes.now)) updates) }
         ensures cause { IfErr result (IsTrueCause N.faults self.old self.new) }
         ensures closed { IsClosed self.old → result ≡ Err failure.Closed }
-        ensures device { IsSameDevice N.shape N.bad self.old self.new }
+        ensures device { KeepsDevice N.shape N.bad N.faults self.old self.new }
+        ensures marks { (updates : List Update) → IsOpenLayer N.flash N.shape N.bad self.old updates
+            → OnOk result (HasMarkedFailed N.shape N.bad N.faults self.old self.new) }
     {
         match self.was(sector) {
             Ok(Was::Empty) => self.update(sector, false, bytes),
@@ -252,7 +234,9 @@ impl<N: Nand> Durable<N> {
             → IfErr result (Fails N.flash N.shape N.bad self.old self.new (update_of sector None) updates) }
         ensures cause { IfErr result (IsTrueCause N.faults self.old self.new) }
         ensures closed { IsClosed self.old → result ≡ Err failure.Closed }
-        ensures device { IsSameDevice N.shape N.bad self.old self.new }
+        ensures device { KeepsDevice N.shape N.bad N.faults self.old self.new }
+        ensures marks { (updates : List Update) → IsOpenLayer N.flash N.shape N.bad self.old updates
+            → OnOk result (HasMarkedFailed N.shape N.bad N.faults self.old self.new) }
         ensures trims { result ≢ Err failure.Written }
     {
         match self.was(sector) {
@@ -304,45 +288,6 @@ impl<N: Nand> Durable<N> {
         match self.nand.stamp(chip_page(&self.numbers, at)) {
             Ok(reading) => found(reading, sector),
             Err(PowerGone) => Err(Failure::PowerGone),
-        }
-    }
-
-    // Gives a sector a new version.
-    fn update(&mut self, sector: u32, trimmed: bool, main: &[u8]) -> Result<(), Failure>
-        requires sector { sector < layer_sectors self.old }
-        requires page { trimmed ≡ false → length main.now ≡ (N.shape self.old.nand).page_bytes }
-        ensures acknowledged { (updates : List Update) → IsOpenLayer N.flash N.shape N.bad self.old updates
-            → OnOk result (IsOpenLayer N.flash N.shape N.bad self.new (update_of sector (value_with trimmed main.now) ∷ updates)) }
-        ensures fails { (updates : List Update) → IsOpenLayer N.flash N.shape N.bad self.old updates
-            → IfErr result (Fails N.flash N.shape N.bad self.old self.new (update_of sector (value_with trimmed main.now)) updates) }
-        ensures cause { IfErr result (IsTrueCause N.faults self.old self.new) }
-        ensures closed { IsClosed self.old → result ≡ Err failure.Closed }
-        ensures device { IsSameDevice N.shape N.bad self.old self.new }
-        ensures overwrites { result ≢ Err failure.Written }
-    {
-        if !self.mounted {
-            return Err(Failure::Closed);
-        }
-        loop {
-            let command = self.core.next(sector);
-            if matches!(command, Command::Refused) {
-                return Err(Failure::NoNumber);
-            }
-            if let Err(fault) = perform(
-                &mut self.nand,
-                &self.numbers,
-                command,
-                sector,
-                trimmed,
-                main,
-            ) {
-                self.mounted = false;
-                return Err(fault.into());
-            }
-            self.core.done(sector, command);
-            if command.is_last() {
-                return Ok(());
-            }
         }
     }
 }

@@ -10,6 +10,7 @@ mod laws;
 mod layer;
 mod mounting;
 mod numbers;
+mod updating;
 
 pub use chip::{Chip, Cut};
 pub use durable::MountFault;

@@ -1,4 +1,4 @@
-ghost use Rattle.std.specs.Prelude.{◌≡◌, ◌≢◌, ◌≤◌, ℕ, List, Some, None, Ok, Err, IfOk, IfErr, OnOk};
+ghost use Rattle.std.specs.Prelude.{◌≡◌, ◌≢◌, ◌≤◌, ◌+◌, ℕ, List, Some, None, Ok, Err, IfOk, IfErr, OnOk};
 ghost use Rattle.durable.specs.Collecting.{HasCapacity};
 ghost use Rattle.durable.specs.Device.{IsWrittenOn, device_of};
 ghost use Rattle.durable.specs.Updates.{Update};
@@ -6,13 +6,14 @@ ghost use Rattle.durable.specs.Promise.{IsConsistent, IsReadable, IsRecoverable}
 ghost use Rattle.durable.specs.declared.fault.MountFault.TheVariants as mount_fault;
 ghost use Rattle.nand.specs.Nand.{noted_of};
 ghost use Rattle.nand.specs.Numbers.{IsOrder, good_before, numbered};
-ghost use Rattle.nand.specs.Opened.{CanOpen, device_on, device_using};
+ghost use Rattle.nand.specs.Opened.{CanOpen, device_on, device_using, used_blocks};
+ghost use Rattle.nand.specs.declared.flash.Fault.{Fault as Cause};
 ghost use Rattle.nand.specs.declared.flash.Fault.TheVariants as fault;
 ghost use Rattle.nand.specs.declared.failure.OpenFailure.TheVariants as why;
 
 use crate::failure::OpenFailure;
 use crate::flash::{Nand, PowerGone, Reading};
-use crate::numbers::{chip_page, order_of};
+use crate::numbers::{chip_page, order_of, used_of};
 use durable::{Core, Mount, MountFault};
 use std::alloc::Global;
 
@@ -29,11 +30,12 @@ fn noted(reading: Reading) -> Option<durable::Stamp>
     }
 }
 
-/// What a mount gives: the numbers of the chip's blocks, and the core that knows the blocks by them.
+/// What a mount gives: the numbers of the chip's blocks, the core that knows the blocks by them, and how many are in reserve.
 #[derive(Drop)]
 pub struct Mounted {
     pub numbers: Vec<u32>,
     pub core: Core,
+    pub reserve: u32,
 }
 
 /// Mounts what the chip holds: asks for its bad blocks, and reads each page's stamp, block by block.
@@ -43,6 +45,8 @@ pub fn mount<N: Nand>(alloc: Global, nand: &mut N, sectors: u32) -> Result<Mount
     ensures bad { N.bad nand.new ≡ N.bad nand.old }
     ensures order { IfOk result (λ mounted. IsOrder mounted.numbers.items (N.bad nand.old) (N.shape nand.old).blocks) }
     ensures device { IfOk result (λ mounted. device_of mounted.core ≡ device_on (N.shape nand.old) (N.bad nand.old) sectors) }
+    ensures reserve { IfOk result (λ mounted. mounted.reserve + used_blocks (N.shape nand.old) (N.bad nand.old) sectors
+        ≡ good_before (N.bad nand.old) (N.shape nand.old).blocks) }
     ensures consistent { (updates : List Update) → CanOpen N.flash N.shape N.bad nand.old sectors updates
         → IfOk result (λ mounted. IsConsistent (numbered mounted.numbers.items (N.flash nand.old)) mounted.core updates updates) }
     ensures foreign { IsWrittenOn (device_on (N.shape nand.old) (N.bad nand.old) sectors) (N.flash nand.old)
@@ -52,12 +56,16 @@ pub fn mount<N: Nand>(alloc: Global, nand: &mut N, sectors: u32) -> Result<Mount
     ensures refused { HasCapacity sectors (good_before (N.bad nand.old) (N.shape nand.old).blocks) (N.shape nand.old).pages
         → result ≢ Err (why.Refused mount_fault.TooManySectors) }
     ensures power { result ≡ Err why.PowerGone → N.faults nand.new fault.PowerGone ≢ N.faults nand.old fault.PowerGone }
+    ensures faults { OnOk result ((cause : Cause) → N.faults nand.new cause ≡ N.faults nand.old cause) }
+    ensures failures { N.faults nand.new fault.Failed ≡ N.faults nand.old fault.Failed }
 {
     let order = order_of(alloc, nand)?;
-    match mount_in_order(alloc, nand, &order.numbers, order.good, sectors) {
+    let used = used_of(nand.shape(), order.good, sectors);
+    match mount_in_order(alloc, nand, &order.numbers, used, sectors) {
         Ok(core) => Ok(Mounted {
             numbers: order.numbers,
             core,
+            reserve: order.good - used,
         }),
         Err(why) => Err(why),
     }
@@ -86,6 +94,8 @@ fn mount_in_order<N: Nand>(
     ensures capacity { OnOk result (HasCapacity sectors used (N.shape nand.old).pages) }
     ensures refused { HasCapacity sectors used (N.shape nand.old).pages → result ≢ Err (why.Refused mount_fault.TooManySectors) }
     ensures power { result ≡ Err why.PowerGone → N.faults nand.new fault.PowerGone ≢ N.faults nand.old fault.PowerGone }
+    ensures faults { OnOk result ((cause : Cause) → N.faults nand.new cause ≡ N.faults nand.old cause) }
+    ensures failures { N.faults nand.new fault.Failed ≡ N.faults nand.old fault.Failed }
 {
     let shape = nand.shape();
     let mut mount = match Mount::begin_over(alloc, shape.blocks, used, shape.pages, sectors) {

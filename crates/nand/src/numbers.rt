@@ -1,14 +1,14 @@
 //! The numbers by which the core knows a chip's blocks.
-ghost use Rattle.std.specs.Prelude.{◌≡◌, ◌≢◌, ◌⊎◌, ◌<◌, ◌≤◌, ◌+◌, ◌^◌, ℕ, Bool, List, length, Err, IfOk, OnOk, OnErr};
+ghost use Rattle.std.specs.Prelude.{◌≡◌, ◌≢◌, ◌⊎◌, ◌<◌, ◌≤◌, ◌+◌, ◌^◌, ℕ, min, Bool, List, length, Err, IfOk, OnOk, OnErr};
 ghost use Rattle.durable.specs.Failures.{swapped};
 ghost use Rattle.durable.specs.declared.fault.MountFault.TheVariants as mount_fault;
-ghost use Rattle.nand.specs.Numbers.{IsOrder, IsOrderTo, chip_block as block_of, chip_page as page_of, good_before, is_marked};
+ghost use Rattle.nand.specs.Numbers.{IsOrder, IsOrderTo, chip_block as block_of, chip_page as page_of, good_before, is_marked, most_in_use};
 ghost use Rattle.nand.specs.declared.failure.OpenFailure.TheVariants as why;
 ghost use Rattle.nand.specs.declared.flash.Fault.{Fault as Cause};
 ghost use Rattle.nand.specs.declared.flash.Fault.TheVariants as fault;
 
 use crate::failure::OpenFailure;
-use crate::flash::{Nand, PowerGone};
+use crate::flash::{Nand, PowerGone, Shape};
 use durable::MountFault;
 use geometry::PageAddr;
 use std::alloc::{AllocError, Global};
@@ -30,6 +30,20 @@ pub fn chip_page(numbers: &[u32], at: PageAddr) -> PageAddr
     }
 }
 
+/// How many blocks are in use, if so many are good. The others are a reserve.
+pub fn used_of(shape: Shape, good: u32, sectors: u32) -> u32
+    ensures used { result ≡ min good (most_in_use shape.blocks shape.pages sectors) }
+    ensures few { result ≤ good }
+{
+    let most = shape.blocks.saturating_sub(shape.blocks / 50 + 1);
+    let needed = if shape.pages == 0 {
+        2
+    } else {
+        u64::from(sectors / shape.pages) + 2
+    };
+    u64::from(good).min(u64::from(most).max(needed)) as u32
+}
+
 /// A chip's blocks in the layer's order: first the good ones.
 #[derive(Drop)]
 pub struct Order {
@@ -47,6 +61,7 @@ pub fn order_of<N: Nand>(alloc: Global, nand: &mut N) -> Result<Order, OpenFailu
     ensures shape { N.shape nand.new ≡ N.shape nand.old }
     ensures bad { N.bad nand.new ≡ N.bad nand.old }
     ensures faults { OnOk result ((cause : Cause) → N.faults nand.new cause ≡ N.faults nand.old cause) }
+    ensures failures { N.faults nand.new fault.Failed ≡ N.faults nand.old fault.Failed }
     ensures cause { OnErr result ((result ≡ Err why.PowerGone) ⊎ (result ≡ Err (why.Refused mount_fault.OutOfMemory))) }
     ensures power { result ≡ Err why.PowerGone → N.faults nand.new fault.PowerGone ≢ N.faults nand.old fault.PowerGone }
 {

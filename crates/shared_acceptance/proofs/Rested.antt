@@ -1,17 +1,11 @@
 -- A broom's seat that only looks and loads states rests again.
 use Rattle.std.proofs.Common.{◌≡◌, ℕ, sym, ap, ◌∙◌, subst}
-use Rattle.flash_rule.specs.Views.{AreOfHosts}
-use Rattle.flash_rule.specs.declared.facts.Source.{Source}
-use Rattle.flash_rule.specs.declared.view.View.{View}
-use Rattle.flash_rule.specs.BroomPlays.{Named, Loaded}
+use Rattle.flash_rule.specs.{Views.AreOfHosts, BroomPlays.Named, BroomPlays.Loaded, declared.facts.Source.Source, declared.view.View.View}
 use Rattle.flash_rule.proofs.Owning.{none_some}
-use Rattle.flash_table.specs.declared.flash.Flash.{Flash}
-use Rattle.flash_table.specs.declared.broom_seat.BroomSeat.{BroomSeat}
-use Rattle.flash_table.specs.Flash.{IsBroomOf, broom_view, own_blocks}
+use Rattle.flash_table.specs.{declared.flash.Flash.Flash, declared.broom_seat.BroomSeat.BroomSeat, Flash.IsBroomOf, Flash.broom_view, Flash.own_blocks}
 use Rattle.geometry.specs.Limits.{Numbers}
 use Rattle.broom.specs.Ready.{IsRested}
-use Rattle.broom.proofs.Choosing.{rest_of, rested_again}
-use Rattle.broom.proofs.Loading.{loaded_changes}
+use Rattle.broom.proofs.{Choosing.rest_of, Choosing.rested_again, Loading.loaded_changes}
 
 module _ (f : Flash) (s t : BroomSeat) (h : IsRested f s) (seat : IsBroomOf f t) (blocks : own_blocks t ≡ own_blocks s) where
   abbrev v : View
@@ -33,5 +27,4 @@ module _ (f : Flash) (s t : BroomSeat) (h : IsRested f s) (seat : IsBroomOf f t)
   pub rested_loaded : (b n : ℕ) → Loaded v b n w → IsRested f t
   rested_loaded b n told =
       let e = loaded_changes v w b n told in
-      rested_again f s t h seat blocks (ap rest_of e)
-      (subst (λ (x : View). AreOfHosts x.numbers x.seen) (sym e) h.callers)
+      rested_again f s t h seat blocks (ap rest_of e) (subst (λ (x : View). AreOfHosts x.numbers x.seen) (sym e) h.callers)

@@ -1,28 +1,18 @@
 -- One answer more, behind others.
-use Rattle.std.proofs.Common.{◌≡◌, ℕ, ◌+◌, ◌<◌, ◌≤◌, List, [], ◌∷◌, ◌++◌, length, take, drop, get_or, sym, refl, ap}
-use Rattle.std.proofs.Common.{◌∙◌, subst, arith, append_assoc, append-nil, length-append}
-use Rattle.std.proofs.lemmas.List.{drop_all, drop_more, length_push, take_all}
-use Rattle.std.proofs.Math.Seq.{drop-append_seam}
-use Rattle.flash_rule.specs.declared.facts.Name.TheVariants.{Pass as APass}
-use Rattle.flash_rule.specs.declared.facts.Role.TheVariants.{Player}
-use Rattle.flash_table.specs.declared.pass.Pass.{Pass}
-use Rattle.flash_table.specs.Flash.{view_of}
-use Rattle.trace.specs.declared.commands.Command.{Command}
-use Rattle.trace.specs.declared.commands.Op.{Op}
-use Rattle.trace.specs.declared.commands.Op.TheVariants as op
-use Rattle.volume.specs.declared.volume.Volume.{Volume}
-use Rattle.rounds.specs.Lines.{Said, is_full}
-use Rattle.rounds.specs.Pages.{bytes_of}
+use Rattle.std.proofs.Common.{◌≡◌, ℕ, ◌+◌, ◌<◌, ◌≤◌, List, [], ◌∷◌, ◌++◌, length, take, drop, get_or, sym, refl, ap, ◌∙◌, subst, arith, append_assoc}
+use Rattle.std.proofs.Common.{append-nil, length-append}
+use Rattle.std.proofs.{lemmas.List.drop_all, lemmas.List.drop_more, lemmas.List.length_push, lemmas.List.take_all, Math.Seq.drop-append_seam}
+use Rattle.flash_rule.specs.declared.facts.{Name.TheVariants.Pass as APass, Role.TheVariants.Player}
+use Rattle.flash_table.specs.{declared.pass.Pass.Pass, Flash.view_of}
+use Rattle.trace.specs.declared.commands.{Command.Command, Op.Op}
+use Rattle.volume.specs.{declared.volume.Volume.Volume, Volume.flash_of}
+use Rattle.rounds.specs.{Lines.Said, Lines.is_full, Pages.bytes_of, Playing.Played, declared.answer.Kind.Kind, declared.answer_list.Answers.Answers}
 use Rattle.rounds.specs.Answers.{page_size_of, said_in, space_for, space_of, HasSpace, HasSpaceFor}
-use Rattle.rounds.specs.declared.answer.Kind.{Kind}
-use Rattle.rounds.specs.declared.answer.Kind.TheVariants as kind
-use Rattle.rounds.specs.declared.answer_list.Answers.{Answers}
 use Rattle.host.specs.Ready.{IsReady}
-use Rattle.volume.specs.Volume.{flash_of}
-use Rattle.rounds.specs.Playing.{Played}
-use Rattle.workers.specs.Line.{HasPlayedLine}
-use Rattle.workers.specs.Playable.{HasAnswered, added, lines_at}
+use Rattle.workers.specs.{Line.HasPlayedLine, Playable.HasAnswered, Playable.added, Playable.lines_at}
 use Rattle.workers.proofs.Lines.{Playing, count_lines, other_page, playing_none, playing_more, playing_end}
+use Rattle.trace.specs.declared.commands.Op.TheVariants as op
+use Rattle.rounds.specs.declared.answer.Kind.TheVariants as kind
 
 -- an answer that tells a page only of a read has room where the line has
 pub kind_fits : (n : ℕ) (k : Kind) (o : Op) → (k ≡ kind.Page → o ≡ op.Read) → bytes_of n k ≤ space_for n o

@@ -1,20 +1,15 @@
 -- A broom's calls, one after another and over rounds.
 use Rattle.std.proofs.Common.{◌≡◌, ℕ, suc, List, [], ◌∷◌, ◌++◌, Bool, length, refl, sym, ap, ◌∙◌, subst, append-nil}
-use Rattle.std.proofs.lemmas.List.Concat.{flat_map-append}
-use Rattle.std.proofs.lemmas.List.Elements.{All-append, All-cons, All-nil}
+use Rattle.std.proofs.lemmas.List.{Concat.flat_map-append, Elements.All-append, Elements.All-cons, Elements.All-nil}
 use Rattle.erase_queue.specs.Queue.{limit_of}
 use Rattle.broom.specs.declared.broom.Broom.{Broom}
-use Rattle.volume.specs.declared.volume.Volume.{Volume}
-use Rattle.volume.specs.Volume.{queue_of}
+use Rattle.volume.specs.{declared.volume.Volume.Volume, Volume.queue_of}
 use Rattle.std.specs.Arc.{arc_value}
-use Rattle.workers.specs.declared.broom_answer.BroomAnswer.{BroomAnswer}
-use Rattle.workers.specs.declared.collector.Collector.{Collector}
-use Rattle.workers.specs.Tallies.{added, answer_adds, total_of, wrapped}
+use Rattle.workers.specs.declared.{broom_answer.BroomAnswer.BroomAnswer, collector.Collector.Collector}
+use Rattle.workers.specs.{Tallies.added, Tallies.answer_adds, Tallies.total_of, Tallies.wrapped, Turns.AreTurns, Turns.IsTurn}
 use Rattle.workers.proofs.Counting.{counted_none, counted_one, counted_then, exact_none, exact_one, exact_then, wrapped_sum}
-use Rattle.workers.proofs.Grown.{calls_grown}
-use Rattle.workers.proofs.Listed.{calls_listed}
+use Rattle.workers.proofs.{Grown.calls_grown, Listed.calls_listed}
 use Rattle.workers.specs.Collecting.{CallTold, HasMadeCalls, HasCollected, HasCollectedBy, HasTakenTurn, HaveCollected, limit_at}
-use Rattle.workers.specs.Turns.{AreTurns, IsTurn}
 
 -- one call
 pub calls_one : (limit : ℕ) (a b : Broom) (x : BroomAnswer) → CallTold limit a x b → HasMadeCalls limit a (x ∷ []) b

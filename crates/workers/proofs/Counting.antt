@@ -2,8 +2,7 @@
 use Rattle.std.proofs.Common.{◌≡◌, ℕ, ◌+◌, List, [], ◌∷◌, ◌++◌, sym, ap, ◌∙◌, add-zero, arith}
 use Rattle.std.specs.Prelude.{◌%◌, ◌^◌}
 use Rattle.std.proofs.Math.Nat.{mod-add-mod, mod-mod}
-use Rattle.workers.specs.declared.broom_answer.BroomAnswer.{BroomAnswer}
-use Rattle.workers.specs.declared.tally.Tally.{Tally}
+use Rattle.workers.specs.declared.{broom_answer.BroomAnswer.BroomAnswer, tally.Tally.Tally}
 use Rattle.workers.specs.Tallies.{IsCounted, added, answer_adds, nothing_done, total_of, wrapped}
 
 -- a sum modulo m, where its first part is another one modulo m
@@ -36,29 +35,25 @@ same_counts s t drained moved programmed erased kept retired lost pinned stale g
 added_nothing : (t : Tally) → added t nothing_done ≡ t
 added_nothing t =
     same_counts (added t nothing_done) t (add-zero t.drained) (add-zero t.moved) (add-zero t.programmed) (add-zero t.erased) (add-zero t.kept)
-    (add-zero t.retired) (add-zero t.lost) (add-zero t.pinned) (add-zero t.stale)
-    (add-zero t.gainless)
+    (add-zero t.retired) (add-zero t.lost) (add-zero t.pinned) (add-zero t.stale) (add-zero t.gainless)
 
 pub nothing_added : (t : Tally) → t ≡ added nothing_done t
 nothing_added t =
     same_counts t (added nothing_done t) (zero_plus t.drained) (zero_plus t.moved) (zero_plus t.programmed) (zero_plus t.erased) (zero_plus t.kept)
-    (zero_plus t.retired) (zero_plus t.lost) (zero_plus t.pinned)
-    (zero_plus t.stale) (zero_plus t.gainless)
+    (zero_plus t.retired) (zero_plus t.lost) (zero_plus t.pinned) (zero_plus t.stale) (zero_plus t.gainless)
 
 added_twice : (s t u : Tally) → added (added s t) u ≡ added s (added t u)
 added_twice s t u =
     same_counts (added (added s t) u) (added s (added t u)) (plus_plus s.drained t.drained u.drained) (plus_plus s.moved t.moved u.moved)
     (plus_plus s.programmed t.programmed u.programmed) (plus_plus s.erased t.erased u.erased)
     (plus_plus s.kept t.kept u.kept) (plus_plus s.retired t.retired u.retired) (plus_plus s.lost t.lost u.lost) (plus_plus s.pinned t.pinned u.pinned)
-    (plus_plus s.stale t.stale u.stale)
-    (plus_plus s.gainless t.gainless u.gainless)
+    (plus_plus s.stale t.stale u.stale) (plus_plus s.gainless t.gainless u.gainless)
 
 wrapped_twice : (t : Tally) → wrapped (wrapped t) ≡ wrapped t
 wrapped_twice t =
     let m = 2 ^ 64 in
     same_counts (wrapped (wrapped t)) (wrapped t) (mod-mod t.drained m) (mod-mod t.moved m) (mod-mod t.programmed m) (mod-mod t.erased m)
-    (mod-mod t.kept m) (mod-mod t.retired m) (mod-mod t.lost m) (mod-mod t.pinned m)
-    (mod-mod t.stale m) (mod-mod t.gainless m)
+    (mod-mod t.kept m) (mod-mod t.retired m) (mod-mod t.lost m) (mod-mod t.pinned m) (mod-mod t.stale m) (mod-mod t.gainless m)
 
 pub total_append : (xs ys : List BroomAnswer) → total_of (xs ++ ys) ≡ added (total_of xs) (total_of ys)
 total_append [] ys = nothing_added (total_of ys)

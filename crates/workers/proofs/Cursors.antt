@@ -1,15 +1,11 @@
 -- The front part of a row, before an end.
-use Rattle.std.proofs.Common.{◌≡◌, ℕ, ◌+◌, ◌-◌, ◌<◌, ◌≤◌, All, List, ◌++◌, get_or, length, take}
-use Rattle.std.proofs.Common.{drop, sym, ap, ◌∙◌, arith, add-zero, length-append}
+use Rattle.std.proofs.Common.{◌≡◌, ℕ, ◌+◌, ◌-◌, ◌<◌, ◌≤◌, All, List, ◌++◌, get_or, length, take, drop, sym, ap, ◌∙◌, arith, add-zero, length-append}
 use Rattle.std.specs.List.{prefix_len, take_while, drop-map}
 use Rattle.std.proofs.Math.Seq.{take-append_seam}
-use Rattle.std.proofs.lemmas.Bool.{lt-ltb, le-ltb}
+use Rattle.std.proofs.lemmas.{Bool.lt-ltb, Bool.le-ltb, List.Elements.All-take, List.Elements.All-drop, List.Sums.prefix_len_is}
 use Rattle.std.proofs.lemmas.List.{take-map, length-drop, get_or-drop, get_or_append_left, get_or-append-add}
-use Rattle.std.proofs.lemmas.List.Elements.{All-take, All-drop}
-use Rattle.std.proofs.lemmas.List.Sums.{prefix_len_is}
 use Rattle.trace.specs.declared.commands.Command.{Command}
-use Rattle.workers.specs.Playable.{lines_at, no_line}
-use Rattle.workers.specs.Workers.{is_before}
+use Rattle.workers.specs.{Playable.lines_at, Playable.no_line, Workers.is_before}
 
 -- the lines of the front of a row behind a place are that part of its lines
 pub lines_part : (cs : List Command) (places : List ℕ) (a n : ℕ) → lines_at cs (take n (drop a places)) ≡ take n (drop a (lines_at cs places))

@@ -1,7 +1,6 @@
 -- Rows that are dealt out: one element more has left its row, and a worker or a share more is made.
 use Rattle.std.proofs.Common.{◌≡◌, All, List, [], ◌∷◌, ◌++◌, map, sym, ap, ◌∙◌, subst, append_assoc}
-use Rattle.std.proofs.lemmas.List.{map_push}
-use Rattle.std.proofs.lemmas.List.Elements.{All-push}
+use Rattle.std.proofs.lemmas.List.{map_push, Elements.All-push}
 
 -- what is made of one element more stands behind what was made of those before it
 pub moved : {X Y Z : Type 0} (f : X → Z) (g : Y → Z) (xs xs' : List X) (ys ys' : List Y) (all : List Z) (x : X) (y : Y) → xs' ≡ xs ++ x ∷ []

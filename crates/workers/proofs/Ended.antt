@@ -1,23 +1,13 @@
 -- What a run over all commands has made of the workers' rows.
 use Rattle.std.proofs.Common.{◌≡◌, ℕ, All, List, [], get_or, map, length, sym, ap, ◌∙◌, subst}
-use Rattle.geometry.specs.Geometry.{hosts_of, page_bytes_of, sectors_of}
-use Rattle.geometry.specs.declared.geometry.Geometry.{Geometry}
+use Rattle.geometry.specs.{Geometry.hosts_of, Geometry.page_bytes_of, Geometry.sectors_of, declared.geometry.Geometry.Geometry}
 use Rattle.flash_table.specs.Flash.{geometry_of}
 use Rattle.trace.specs.declared.commands.Command.{Command}
-use Rattle.rounds.specs.Lines.{Said}
-use Rattle.volume.specs.declared.volume.Volume.{Volume}
-use Rattle.volume.specs.Volume.{flash_of}
-use Rattle.rounds.specs.Merging.{merge}
-use Rattle.rounds.specs.Rows.{answers_by, AreAtOneHistory}
-use Rattle.rounds.specs.Answers.{page_size_of, said_in}
-use Rattle.rounds.specs.declared.answer_list.Answers.{Answers}
-use Rattle.std.proofs.lemmas.List.Elements.{All-map}
-use Rattle.std.proofs.lemmas.Simd.{map-map}
-use Rattle.workers.specs.Workers.{answers_kept}
-use Rattle.rounds.specs.Texts.{lines_text, IsTextOfSome}
-use Rattle.workers.specs.declared.worker.Worker.{Worker}
-use Rattle.workers.specs.Commands.{ArePlayed}
-use Rattle.workers.specs.Runs.{AreManned, HasEnded, rows_of}
+use Rattle.rounds.specs.{Lines.Said, Merging.merge, declared.answer_list.Answers.Answers, Answers.page_size_of, Answers.said_in}
+use Rattle.volume.specs.{declared.volume.Volume.Volume, Volume.flash_of}
+use Rattle.rounds.specs.{Rows.answers_by, Rows.AreAtOneHistory, Texts.lines_text, Texts.IsTextOfSome}
+use Rattle.std.proofs.lemmas.{List.Elements.All-map, Simd.map-map}
+use Rattle.workers.specs.{Workers.answers_kept, Commands.ArePlayed, declared.worker.Worker.Worker, Runs.AreManned, Runs.HasEnded, Runs.rows_of}
 
 -- what is said of a run is said of the rows that are handed out
 pub all_played : (volume : Volume) (geo : Geometry) (patience : ℕ) (cs : List Command) (begun back : List Worker) (rows : List Answers)

@@ -1,31 +1,23 @@
 -- A round of a run: what each worker did in it, and what stands answered behind it.
-use Rattle.std.proofs.Common.{◌≡◌, ℕ, ◌+◌, ◌-◌, ◌<◌, ◌≤◌, All, Bool, true, false, List, [], ◌∷◌, ◌++◌, length, take, refl, sym}
-use Rattle.std.proofs.Common.{ap, ◌∙◌, subst, arith, append_assoc, append-nil, length-append, ne_eqb}
-use Rattle.std.specs.Prelude.{if◌then◌else◌, not, ◌&&◌, ◌==◌}
-use Rattle.std.specs.List.{slice_range}
-use Rattle.std.proofs.lemmas.List.{length-drop}
-use Rattle.std.proofs.lemmas.List.Elements.{All-nil, All-cons}
+use Rattle.std.proofs.Common.{◌≡◌, ℕ, ◌+◌, ◌-◌, ◌<◌, ◌≤◌, All, Bool, true, false, List, [], ◌∷◌, ◌++◌, length, take, refl, sym, ap, ◌∙◌, subst, arith}
+use Rattle.std.proofs.Common.{append_assoc, append-nil, length-append, ne_eqb}
+use Rattle.std.specs.{Prelude.if◌then◌else◌, Prelude.not, Prelude.◌&&◌, Prelude.◌==◌, List.slice_range}
+use Rattle.std.proofs.lemmas.List.{length-drop, Elements.All-nil, Elements.All-cons}
 use mathlib.Core.Logic.{dite}
 use native.Mathlib.Decide.{ℕ_discrete}
 use Rattle.geometry.specs.History.{Call, Begins}
 use Rattle.geometry.proofs.Histories.{Begins-refl, Begins-trans}
 use Rattle.flash_rule.specs.declared.view.View.{View}
 use Rattle.trace.specs.declared.commands.Command.{Command}
-use Rattle.rounds.specs.Lines.{Said, calls_made}
+use Rattle.rounds.specs.{Lines.Said, Lines.calls_made, Orders.made, Orders.lines_of, Meetings.HavePlayed, Plans.meetings_from}
 use Rattle.rounds.specs.Playing.{Plays, Played, LinesFound, calls_done, writes_done}
-use Rattle.workers.proofs.Lines.{found-append}
+use Rattle.workers.proofs.{Lines.found-append, Walking.StandsBehind, Walking.ends_from}
 use Rattle.volume.specs.Closing.{HasLooked}
-use Rattle.rounds.specs.Orders.{made, lines_of}
-use Rattle.rounds.specs.Orders as worked
-use Rattle.rounds.specs.Meetings.{HavePlayed}
 use Rattle.rounds.specs.Told.{worker_of, sector_of, calls_in, is_right, line, told}
 use Rattle.rounds.specs.Merging.{is_meet, is_line_of, lines_for, line_count, merge, rows_after, HaveNoMeeting, rounds_of}
-use Rattle.rounds.specs.Plans.{meetings_from}
-use Rattle.rounds.proofs.Told.{plays_told, calls_told}
-use Rattle.rounds.proofs.Chains.{nobody_of}
-use Rattle.rounds.proofs.Merging.{lines_of-merge, rounds_of-meet, rounds_of-last}
+use Rattle.rounds.proofs.{Told.plays_told, Told.calls_told, Chains.nobody_of, Merging.lines_of-merge, Merging.rounds_of-meet, Merging.rounds_of-last}
 use Rattle.workers.specs.Runs.{HasRun}
-use Rattle.workers.proofs.Walking.{StandsBehind, ends_from}
+use Rattle.rounds.specs.Orders as worked
 
 -- what a worker did in a round, behind these commands: its earlier answers stay
 pub record WorkerRound (t patience : ℕ) (done cs : List Command) (old new : List Said) (v w : View) : Type 0 where

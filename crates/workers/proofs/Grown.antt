@@ -1,27 +1,19 @@
 -- What a broom's view grows by with each call.
-use Rattle.std.proofs.Common.{◌≡◌, ℕ, ◌+◌, List, [], ◌∷◌, ◌++◌, ◌⊎◌, inl, inr, Bool, true, false, refl, sym}
-use Rattle.std.proofs.Common.{ap, ◌∙◌, subst, append-nil, append_assoc, add-zero, arith}
+use Rattle.std.proofs.Common.{◌≡◌, ℕ, ◌+◌, List, [], ◌∷◌, ◌++◌, ◌⊎◌, inl, inr, Bool, true, false, refl, sym, ap, ◌∙◌, subst, append-nil, append_assoc, add-zero}
+use Rattle.std.proofs.Common.{arith}
 use Rattle.std.proofs.lemmas.List.{length-append}
-use Rattle.flash_rule.specs.declared.facts.Cycle.{Cycle}
-use Rattle.flash_rule.specs.declared.view.View.{View}
-use Rattle.broom.specs.declared.broom.Broom.{Broom}
-use Rattle.broom.specs.declared.answer.Drain.{Drain}
-use Rattle.broom.specs.declared.answer.Drain.TheVariants as drain
-use Rattle.broom.specs.declared.answer.Erase.{Erase}
-use Rattle.broom.specs.declared.answer.Erase.TheVariants as erase
-use Rattle.broom.specs.Dead.{DeadBySurvey, DeadTold, InspectedTold}
+use Rattle.flash_rule.specs.declared.{facts.Cycle.Cycle, view.View.View}
+use Rattle.broom.specs.declared.{broom.Broom.Broom, answer.Drain.Drain, answer.Erase.Erase}
+use Rattle.broom.specs.{Dead.DeadBySurvey, Dead.DeadTold, Dead.InspectedTold, Told.DrainTold, Told.NextTold, Told.SurveyLeft}
 use Rattle.broom.specs.Handing.{DrainDeadOneTold, EraseOneTold, IsElse, TurnTold}
-use Rattle.broom.specs.Ready.{blocks_of_broom, view_of_broom}
-use Rattle.broom.specs.Restocking.{DidRestock, HadSpare, RestockTold}
-use Rattle.broom.specs.Surveying.{Chosen}
-use Rattle.broom.specs.Told.{DrainTold, NextTold, SurveyLeft}
+use Rattle.broom.specs.{Ready.blocks_of_broom, Ready.view_of_broom, Surveying.Chosen, Restocking.DidRestock, Restocking.HadSpare, Restocking.RestockTold}
 use Rattle.flash_table.specs.declared.broom_seat.BroomBlocks.{BroomBlocks}
-use Rattle.workers.specs.declared.broom_answer.BroomAnswer.{BroomAnswer}
-use Rattle.workers.specs.declared.broom_answer.BroomAnswer.TheVariants as by
-use Rattle.workers.specs.declared.tally.Tally.{Tally}
-use Rattle.workers.specs.Collecting.{CallTold, HasMadeCalls}
-use Rattle.workers.specs.Growing.{GrowsBy, HasGrown}
+use Rattle.workers.specs.declared.{broom_answer.BroomAnswer.BroomAnswer, tally.Tally.Tally}
+use Rattle.workers.specs.{Collecting.CallTold, Collecting.HasMadeCalls, Growing.GrowsBy, Growing.HasGrown}
 use Rattle.workers.specs.Tallies.{added, answer_adds, drain_adds, erase_adds, nothing_done, survey_adds, total_of}
+use Rattle.broom.specs.declared.answer.Drain.TheVariants as drain
+use Rattle.broom.specs.declared.answer.Erase.TheVariants as erase
+use Rattle.workers.specs.declared.broom_answer.BroomAnswer.TheVariants as by
 
 -- what a view has grown by, but for the pages that were programmed
 record Grew (v : View) (count : Tally) (w : View) : Type 0 where
@@ -109,8 +101,7 @@ grown_erase v w kept retired c role drains moves erases lost = record {
 
 -- at the ends the broom has changed in its place at the queue alone
 around : (a b c d : Broom) (t : Tally) → IsElse a b → IsElse c d → Grew (view_of_broom b) t (view_of_broom c) → Grew (view_of_broom a) t (view_of_broom d)
-around a b c d t first last grown =
-    subst (λ (x : View × View). Grew x.0 t x.1) (λ i. (ap view_of_broom first i, sym (ap view_of_broom last) i)) grown
+around a b c d t first last grown = subst (λ (x : View × View). Grew x.0 t x.1) (λ i. (ap view_of_broom first i, sym (ap view_of_broom last) i)) grown
 
 before_it : (a b c : Broom) (t : Tally) → IsElse a b → Grew (view_of_broom b) t (view_of_broom c) → Grew (view_of_broom a) t (view_of_broom c)
 before_it a b c t first grown = subst (λ (x : View). Grew x t (view_of_broom c)) (ap view_of_broom first) grown
@@ -140,23 +131,20 @@ drain_grows a b drain.NothingToGain told =
 drain_grows a b drain.NoSpare told = grown_same (view_of_broom a) (view_of_broom b) nothing_done refl refl refl refl told.view
 drain_grows a b drain.Lost told =
     let is = told.0.changed in
-    grown_lost (view_of_broom a) (view_of_broom b) told.0.block
-    (ap (λ (x : View). x.role) is) (ap (λ (x : View). x.drains) is) (ap (λ (x : View). x.moves) is)
+    grown_lost (view_of_broom a) (view_of_broom b) told.0.block (ap (λ (x : View). x.role) is) (ap (λ (x : View). x.drains) is) (ap (λ (x : View). x.moves) is)
     (ap (λ (x : View). x.erases) is) (ap (λ (x : View). x.lost) is)
 drain_grows a b drain.QueueFull told = absurd told
 
 next_grows : (a b : Broom) (d : Drain) → NextTold a d b → Grew (view_of_broom a) (drain_adds d) (view_of_broom b)
 next_grows a b (drain.Drained block copied) told =
     let is = told.1.changed in
-    grown_drain (view_of_broom a) (view_of_broom b) copied _
-    (ap (λ (x : View). x.role) is) (ap (λ (x : View). x.drains) is) (ap (λ (x : View). x.moves) is)
+    grown_drain (view_of_broom a) (view_of_broom b) copied _ (ap (λ (x : View). x.role) is) (ap (λ (x : View). x.drains) is) (ap (λ (x : View). x.moves) is)
     (ap (λ (x : View). x.erases) is) (ap (λ (x : View). x.lost) is)
 next_grows a b drain.NothingToGain told = grown_same (view_of_broom a) (view_of_broom b) nothing_done refl refl refl refl told.1
 next_grows a b drain.NoSpare told = grown_same (view_of_broom a) (view_of_broom b) nothing_done refl refl refl refl told.0.view
 next_grows a b drain.Lost told =
     let is = told.2 in
-    grown_lost (view_of_broom a) (view_of_broom b) told.0
-    (ap (λ (x : View). x.role) is) (ap (λ (x : View). x.drains) is) (ap (λ (x : View). x.moves) is)
+    grown_lost (view_of_broom a) (view_of_broom b) told.0 (ap (λ (x : View). x.role) is) (ap (λ (x : View). x.drains) is) (ap (λ (x : View). x.moves) is)
     (ap (λ (x : View). x.erases) is) (ap (λ (x : View). x.lost) is)
 next_grows a b drain.QueueFull told = absurd told
 
@@ -164,8 +152,7 @@ next_grows a b drain.QueueFull told = absurd told
 inspected_grows : (r b : Broom) (block : ℕ) (d : Drain) → InspectedTold r block d b → Grew (view_of_broom r) (survey_adds d) (view_of_broom b)
 inspected_grows r b block (drain.Drained one copied) told =
     let is = told.2.changed in
-    grown_drain (view_of_broom r) (view_of_broom b) copied _
-    (ap (λ (x : View). x.role) is) (ap (λ (x : View). x.drains) is)
+    grown_drain (view_of_broom r) (view_of_broom b) copied _ (ap (λ (x : View). x.role) is) (ap (λ (x : View). x.drains) is)
     (ap (λ (x : View). x.moves) is ∙ (sym (add-zero (view_of_broom r).moves) ∙ ap (λ (n : ℕ). (view_of_broom r).moves + n) (sym told.1)))
     (ap (λ (x : View). x.erases) is) (ap (λ (x : View). x.lost) is)
 inspected_grows r b block drain.NothingToGain told = absurd told
@@ -183,8 +170,7 @@ inspected_grows r b block drain.NoSpare told = elim told.0 [
 ]
 inspected_grows r b block drain.Lost told =
     let is = told.0.changed in
-    grown_lost (view_of_broom r) (view_of_broom b) block
-    (ap (λ (x : View). x.role) is) (ap (λ (x : View). x.drains) is) (ap (λ (x : View). x.moves) is)
+    grown_lost (view_of_broom r) (view_of_broom b) block (ap (λ (x : View). x.role) is) (ap (λ (x : View). x.drains) is) (ap (λ (x : View). x.moves) is)
     (ap (λ (x : View). x.erases) is) (ap (λ (x : View). x.lost) is)
 inspected_grows r b block drain.QueueFull told = absurd told
 
@@ -265,16 +251,14 @@ spare_grows v x w y (inl had) = grown_same v w nothing_done refl refl refl refl 
 spare_grows v x w y (inr did) =
     let is = did.changed in
     grown_none v w nothing_done refl refl refl refl (ap (λ (z : View). z.role) is) (ap (λ (z : View). z.drains) is) (ap (λ (z : View). z.moves) is)
-    (ap (λ (z : View). z.erases) is)
-    (ap (λ (z : View). z.lost) is)
+    (ap (λ (z : View). z.erases) is) (ap (λ (z : View). z.lost) is)
 
 restock_grows : (a b : Broom) (given : Bool) → RestockTold a given b → Grew (view_of_broom a) nothing_done (view_of_broom b)
 restock_grows a b true told = spare_grows (view_of_broom a) (blocks_of_broom a) (view_of_broom b) (blocks_of_broom b) told
 restock_grows a b false told =
     let is = told.changed in
     grown_none (view_of_broom a) (view_of_broom b) nothing_done refl refl refl refl (ap (λ (x : View). x.role) is) (ap (λ (x : View). x.drains) is)
-    (ap (λ (x : View). x.moves) is)
-    (ap (λ (x : View). x.erases) is) (ap (λ (x : View). x.lost) is)
+    (ap (λ (x : View). x.moves) is) (ap (λ (x : View). x.erases) is) (ap (λ (x : View). x.lost) is)
 
 -- with the pages that were programmed
 with_programs : (v w : View) (t : Tally) (n : ℕ) → Grew v t w → GrowsBy n v.programs w.programs → HasGrown v (record t { programmed = n }) w
@@ -346,8 +330,7 @@ dead_turn_keeps limit a b (drain.Drained block copied) told =
     let from = told.drain.relieved in
     let to = told.drained in
     kept_around a from to b told.drain.first.rest told.handed.rest (dead_keeps from to (drain.Drained block copied) told.drain.drain)
-dead_turn_keeps limit a b drain.NothingToGain told =
-    kept_before a told.relieved b told.first.rest (dead_keeps told.relieved b drain.NothingToGain told.drain)
+dead_turn_keeps limit a b drain.NothingToGain told = kept_before a told.relieved b told.first.rest (dead_keeps told.relieved b drain.NothingToGain told.drain)
 dead_turn_keeps limit a b drain.NoSpare told = kept_before a told.relieved b told.first.rest (dead_keeps told.relieved b drain.NoSpare told.drain)
 dead_turn_keeps limit a b drain.Lost told = kept_before a told.relieved b told.first.rest (dead_keeps told.relieved b drain.Lost told.drain)
 dead_turn_keeps limit a b drain.QueueFull told = ap (λ (x : Broom). (view_of_broom x).programs) told.rest
@@ -378,8 +361,7 @@ call_grows limit a b (by.DrainNext given programmed) told =
     (turn_grows NextTold drain_adds refl next_grows limit a b given told.0) told.1
 call_grows limit a b (by.DrainDead given) told =
     with_none (view_of_broom a) (view_of_broom b) (survey_adds given) (survey_adds_none given)
-    (turn_grows DeadTold survey_adds refl dead_grows limit a b given told)
-    (dead_turn_keeps limit a b given told)
+    (turn_grows DeadTold survey_adds refl dead_grows limit a b given told) (dead_turn_keeps limit a b given told)
 call_grows limit a b (by.Erase given) told =
     with_none (view_of_broom a) (view_of_broom b) (erase_adds given) (erase_adds_none given) (erase_grows limit a b given told)
     (erase_keeps limit a b given told)

@@ -1,28 +1,22 @@
 -- One line: what a read, a trim, a write that was done and one that was turned away tell, as one record.
-use Rattle.std.proofs.Common.{◌≡◌, ℕ, suc, ◌+◌, ◌<◌, ◌≤◌, ◌⊎◌, Bool, true, false, List, [], ◌∷◌, ◌++◌, Option, None}
-use Rattle.std.proofs.Common.{Some, sym, refl, ap, ◌∙◌, subst, arith, append_assoc, append-nil}
-use Rattle.std.specs.Prelude.{if◌then◌else◌}
-use Rattle.std.specs.List.{range_with_len}
+use Rattle.std.proofs.Common.{◌≡◌, ℕ, suc, ◌+◌, ◌<◌, ◌≤◌, ◌⊎◌, Bool, true, false, List, [], ◌∷◌, ◌++◌, Option, None, Some, sym, refl, ap, ◌∙◌, subst, arith}
+use Rattle.std.proofs.Common.{append_assoc, append-nil}
+use Rattle.std.specs.{Prelude.if◌then◌else◌, List.range_with_len}
 use mathlib.Core.Logic.{inl, inr}
 use Rattle.geometry.specs.History.{Call, Write, WriteNew, Trim, held, was, Begins}
-use Rattle.geometry.specs.Sectors.{Sector, Answers, was_of}
-use Rattle.geometry.specs.declared.answer.Got.{Got}
-use Rattle.geometry.specs.declared.answer.Got.TheVariants as got
-use Rattle.geometry.specs.declared.answer.Was.{Was}
-use Rattle.geometry.specs.declared.answer.Was.TheVariants as was
+use Rattle.geometry.specs.{Sectors.Sector, Sectors.Answers, Sectors.was_of, declared.answer.Got.Got, declared.answer.Was.Was}
 use Rattle.geometry.proofs.Histories.{Begins-refl}
-use Rattle.flash_rule.specs.declared.view.View.{View}
-use Rattle.flash_rule.specs.Plays.{Called}
-use Rattle.flash_table.specs.declared.pass.OpenBlock.{OpenBlock}
-use Rattle.flash_table.specs.Owning.{owned_list, owned_of}
+use Rattle.flash_rule.specs.{declared.view.View.View, Plays.Called}
+use Rattle.flash_table.specs.{declared.pass.OpenBlock.OpenBlock, Owning.owned_list, Owning.owned_of}
 use Rattle.host.specs.Told.{Searched, Programmed, Refused}
 use Rattle.trace.specs.declared.commands.Op.{Op}
-use Rattle.trace.specs.declared.commands.Op.TheVariants as op
-use Rattle.rounds.specs.declared.answer.Kind.{Kind}
-use Rattle.rounds.specs.declared.answer.Kind.TheVariants as kind
-use Rattle.rounds.specs.Lines.{kind_of, is_full, calls_by, IsFound, IsRight}
+use Rattle.rounds.specs.{declared.answer.Kind.Kind, Lines.kind_of, Lines.is_full, Lines.calls_by, Lines.IsFound, Lines.IsRight}
 use Rattle.rounds.specs.Playing.{one_done, all_taken, WriteFound, LineFound}
 use Rattle.workers.specs.Line.{PlayedLine, kind_found, merge}
+use Rattle.geometry.specs.declared.answer.Got.TheVariants as got
+use Rattle.geometry.specs.declared.answer.Was.TheVariants as was
+use Rattle.trace.specs.declared.commands.Op.TheVariants as op
+use Rattle.rounds.specs.declared.answer.Kind.TheVariants as kind
 
 -- a change of no more than the eleven fields
 merged : (v w only : View) → only ≡ merge v only → w ≡ only → w ≡ merge v w

@@ -1,36 +1,25 @@
 -- One line more: the histories, the calls, the programs and the counts grow by its own part.
-use Rattle.std.proofs.Common.{◌≡◌, ℕ, ◌+◌, ◌<◌, ◌≤◌, Bool, List, [], ◌∷◌, ◌++◌, true, length, map, take, get_or, set, sym}
-use Rattle.std.proofs.Common.{refl, ap, ◌∙◌, subst, arith, append_assoc, append-nil, length-append}
+use Rattle.std.proofs.Common.{◌≡◌, ℕ, ◌+◌, ◌<◌, ◌≤◌, Bool, List, [], ◌∷◌, ◌++◌, true, length, map, take, get_or, set, sym, refl, ap, ◌∙◌, subst, arith}
+use Rattle.std.proofs.Common.{append_assoc, append-nil, length-append}
 use Rattle.std.proofs.lemmas.List.{take_all, take_more, take_more_set, map_push, length-map, get_or-map, with_items_is}
 use Rattle.std.proofs.lemmas.Option.{get_or_from_slice_get}
-use Rattle.std.specs.Prelude.{None, Some, slice_get}
+use Rattle.std.specs.{Prelude.None, Prelude.Some, Prelude.slice_get, Vec.with_items}
 use mathlib.Core.Logic.{⊎_elim}
-use Rattle.geometry.specs.Sectors.{Sector, was_of}
-use Rattle.trace.specs.declared.commands.Op.{Op}
-use Rattle.trace.specs.declared.commands.Op.TheVariants as op
-use Rattle.std.specs.Vec.{with_items}
-use Rattle.geometry.specs.Geometry.{page_bytes_of}
-use Rattle.geometry.specs.History.{Call, held, Begins}
+use Rattle.geometry.specs.{Sectors.Sector, Sectors.was_of, Geometry.page_bytes_of, History.Call, History.held, History.Begins}
+use Rattle.trace.specs.declared.commands.{Op.Op, Command.Command}
 use Rattle.geometry.proofs.Histories.{Begins-refl, Begins-trans}
-use Rattle.flash_rule.specs.declared.facts.Name.TheVariants.{Pass as APass}
-use Rattle.flash_rule.specs.declared.facts.Role.TheVariants.{Player}
-use Rattle.flash_rule.specs.Views.{is_pass}
-use Rattle.flash_rule.specs.declared.view.View.{View}
+use Rattle.flash_rule.specs.{declared.facts.Name.TheVariants.Pass as APass, declared.facts.Role.TheVariants.Player, declared.view.View.View, Views.is_pass}
 use Rattle.flash_rule.proofs.Still.{pass_of}
-use Rattle.flash_table.specs.declared.pass.Pass.{Pass}
-use Rattle.flash_table.specs.Flash.{view_of, geometry_of}
+use Rattle.flash_table.specs.{declared.pass.Pass.Pass, Flash.view_of, Flash.geometry_of}
 use Rattle.host.specs.Ready.{IsReady}
-use Rattle.trace.specs.declared.commands.Command.{Command}
-use Rattle.volume.specs.declared.volume.Volume.{Volume}
-use Rattle.volume.specs.Volume.{flash_of}
-use Rattle.rounds.specs.declared.answer.Answer.{Answer}
-use Rattle.rounds.specs.declared.answer.Kind.{Kind}
-use Rattle.rounds.specs.declared.answer.Kind.TheVariants as kind
+use Rattle.volume.specs.{declared.volume.Volume.Volume, Volume.flash_of}
+use Rattle.rounds.specs.declared.answer.{Answer.Answer, Kind.Kind}
 use Rattle.rounds.specs.Lines.{Said, said, calls_made, kind_of, is_full, IsRight}
 use Rattle.rounds.specs.Playing.{Plays, Played, LineFound, LinesFound, calls_done, writes_done, one_done}
-use Rattle.workers.specs.Line.{PlayedLine, HasPlayedLine}
-use Rattle.workers.specs.Playable.{HasPage, lines_at, no_line}
+use Rattle.workers.specs.{Line.PlayedLine, Line.HasPlayedLine, Playable.HasPage, Playable.lines_at, Playable.no_line}
 use Rattle.workers.proofs.Line.{merged-trans}
+use Rattle.trace.specs.declared.commands.Op.TheVariants as op
+use Rattle.rounds.specs.declared.answer.Kind.TheVariants as kind
 
 -- the lines have as many answers, and one more of each
 module _ (n t : ℕ) (c : Command) (a : Said) where

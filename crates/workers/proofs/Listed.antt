@@ -2,19 +2,14 @@
 use Rattle.std.proofs.Common.{◌≡◌, ℕ, ◌+◌, ◌-◌, List, [], ◌∷◌, ◌++◌, length, true, false, refl, sym, ap, subst, arith}
 use Rattle.std.proofs.lemmas.List.{length-append}
 use Rattle.flash_rule.specs.declared.view.View.{View}
-use Rattle.broom.specs.declared.broom.Broom.{Broom}
-use Rattle.broom.specs.declared.answer.Drain.{Drain}
-use Rattle.broom.specs.declared.answer.Drain.TheVariants as drain
-use Rattle.broom.specs.declared.answer.Erase.{Erase}
-use Rattle.broom.specs.declared.answer.Erase.TheVariants as erase
-use Rattle.broom.specs.Handing.{EraseOneTold, IsElse}
-use Rattle.broom.specs.Ready.{view_of_broom}
-use Rattle.workers.specs.declared.broom_answer.BroomAnswer.{BroomAnswer}
-use Rattle.workers.specs.declared.broom_answer.BroomAnswer.TheVariants as by
-use Rattle.workers.specs.declared.tally.Tally.{Tally}
+use Rattle.broom.specs.declared.{broom.Broom.Broom, answer.Drain.Drain, answer.Erase.Erase}
+use Rattle.broom.specs.{Handing.EraseOneTold, Handing.IsElse, Ready.view_of_broom}
+use Rattle.workers.specs.{declared.broom_answer.BroomAnswer.BroomAnswer, declared.tally.Tally.Tally, Growing.busy_in, Growing.stale_in}
 use Rattle.workers.specs.Collecting.{CallTold, HasMadeCalls, listed_by_erase, listed_by_erases}
-use Rattle.workers.specs.Growing.{busy_in, stale_in}
 use Rattle.workers.specs.Tallies.{answer_adds, drain_adds, erase_adds, survey_adds, total_of}
+use Rattle.broom.specs.declared.answer.Drain.TheVariants as drain
+use Rattle.broom.specs.declared.answer.Erase.TheVariants as erase
+use Rattle.workers.specs.declared.broom_answer.BroomAnswer.TheVariants as by
 
 -- two lists of brooms' views, and how much the second one is longer
 abbrev growth : (View → List ℕ) → Broom → Broom → ℕ
@@ -49,8 +44,7 @@ erase_lists_busy limit a b erase.Pinned told =
     let from = told.erase.fetched in
     between busy_in 1 a from told.found b told.erase.first.rest told.handed.rest
     (one_longer (busy_in (view_of_broom from)) (busy_in (view_of_broom told.found)) told.block (ap (λ (x : View). x.busy) told.erase.erase.0.changed))
-erase_lists_busy limit a b erase.Stale told =
-    unchanged busy_in a told.1.fetched b told.1.first.rest (ap (λ (x : View). x.busy) told.1.erase.0.changed)
+erase_lists_busy limit a b erase.Stale told = unchanged busy_in a told.1.fetched b told.1.first.rest (ap (λ (x : View). x.busy) told.1.erase.0.changed)
 erase_lists_busy limit a b erase.QueueEmpty told =
     none_more (busy_in (view_of_broom a)) (busy_in (view_of_broom b)) (ap (λ (x : Broom). busy_in (view_of_broom x)) told.rest)
 

@@ -1,46 +1,28 @@
 -- The state of a run between two rounds: where it begins, one round more, and its end.
-use Rattle.std.proofs.Common.{◌≡◌, ℕ, ◌+◌, ◌-◌, ◌<◌, ◌≤◌, All, List, [], ◌∷◌, ◌++◌, map, length, get_or, take, drop, refl, sym, ap}
-use Rattle.std.proofs.Common.{◌∙◌, subst, arith, append_assoc, append-nil, length-append, zero-add, ne_eqb}
-use Rattle.std.specs.Prelude.{if◌then◌else◌, not, ◌==◌}
-use Rattle.std.specs.List.{slice_range, take_while}
+use Rattle.std.proofs.Common.{◌≡◌, ℕ, ◌+◌, ◌-◌, ◌<◌, ◌≤◌, All, List, [], ◌∷◌, ◌++◌, map, length, get_or, take, drop, refl, sym, ap, ◌∙◌, subst, arith}
+use Rattle.std.proofs.Common.{append_assoc, append-nil, length-append, zero-add, ne_eqb}
+use Rattle.std.specs.{Prelude.if◌then◌else◌, Prelude.not, Prelude.◌==◌, List.slice_range, List.take_while}
 use Rattle.std.proofs.Math.Seq.{drop-append_seam, take-append_seam, take-length}
 use Rattle.std.proofs.lemmas.List.{get_or-map, get_or_past, get_or_append_left, get_or-append-add, length-map, take_all, take-take, take-append-drop, drop-take}
 use Rattle.std.proofs.lemmas.List.Elements.{All-nil, All-head, All-tail}
 use mathlib.Core.Logic.{dite}
 use native.Mathlib.Decide.{dec_lt}
-use Rattle.geometry.specs.Geometry.{sectors_of}
-use Rattle.geometry.specs.History.{Call, Begins}
+use Rattle.geometry.specs.{Geometry.sectors_of, History.Call, History.Begins}
 use Rattle.geometry.proofs.Histories.{Begins-refl}
-use Rattle.flash_rule.specs.declared.facts.Name.TheVariants.{Pass as APass}
-use Rattle.flash_rule.specs.declared.facts.Role.TheVariants.{Player}
-use Rattle.flash_rule.specs.declared.view.View.{View}
-use Rattle.flash_rule.specs.Views.{caller}
-use Rattle.flash_table.specs.declared.pass.Pass.{Pass}
-use Rattle.flash_table.specs.Flash.{view_of, device, geometry_of, first_view}
+use Rattle.flash_rule.specs.{declared.facts.Name.TheVariants.Pass as APass, declared.facts.Role.TheVariants.Player, declared.view.View.View, Views.caller}
+use Rattle.flash_table.specs.{declared.pass.Pass.Pass, Flash.view_of, Flash.device, Flash.geometry_of, Flash.first_view}
 use Rattle.trace.specs.declared.commands.Command.{Command}
-use Rattle.rounds.specs.Lines.{Said}
-use Rattle.rounds.specs.Playing.{Played, Plays}
-use Rattle.workers.specs.Playable.{added, lines_at}
-use Rattle.volume.specs.declared.volume.Volume.{Volume}
-use Rattle.volume.specs.Closing.{HasLooked}
-use Rattle.volume.specs.Volume.{flash_of}
-use Rattle.rounds.specs.Answers.{said_in}
-use Rattle.rounds.specs.Meetings.{AreTied, HaveMet}
+use Rattle.rounds.specs.{Lines.Said, Answers.said_in, Playing.Played, Playing.Plays, Plans.places_from, Plans.places_for, Plans.meetings_from}
+use Rattle.workers.specs.{Playable.added, Playable.lines_at, Meetings.Rest, Meetings.passes_of, Meetings.rest_of, Meetings.views_of}
+use Rattle.volume.specs.{declared.volume.Volume.Volume, Closing.HasLooked, Volume.flash_of}
+use Rattle.rounds.specs.{Meetings.AreTied, Meetings.HaveMet, Rows.RoundAnswered, Rows.AreRounds}
 use Rattle.rounds.specs.Merging.{is_meet, lines_for, line_count, rows_after, rounds_of}
-use Rattle.rounds.specs.Plans.{places_from, places_for, meetings_from}
-use Rattle.rounds.specs.Rows.{RoundAnswered, AreRounds}
-use Rattle.rounds.proofs.Meetings.{tied_again}
-use Rattle.rounds.proofs.Planning.{places_from-append}
+use Rattle.rounds.proofs.{Meetings.tied_again, Runs.run_is_text, Planning.places_from-append}
 use Rattle.rounds.proofs.Chains.{flat, flat-append, lines_for-append, line_count-append, rows_count, round_answered, rounds_same, rounds_push, rounds_go_on}
-use Rattle.rounds.proofs.Runs.{run_is_text}
-use Rattle.workers.specs.declared.round_limits.RoundLimits.{RoundLimits}
-use Rattle.workers.specs.declared.worker.Worker.{Worker}
-use Rattle.workers.specs.Meetings.{Rest, passes_of, rest_of, views_of}
+use Rattle.workers.specs.declared.{round_limits.RoundLimits.RoundLimits, worker.Worker.Worker}
 use Rattle.workers.specs.Workers.{HasPlayed, answered, is_before, round_lines}
 use Rattle.workers.specs.Runs.{RoundPlayed, AreManned, IsDealt, HasBegun, HasEnded, HasRun, answers_of, denied_by, rows_of}
-use Rattle.workers.proofs.Meeting.{ready_at}
-use Rattle.workers.proofs.Cursors.{front_is}
-use Rattle.workers.proofs.Manned.{played_long, played_at, rests_long, rest_at}
+use Rattle.workers.proofs.{Meeting.ready_at, Cursors.front_is, Manned.played_long, Manned.played_at, Manned.rests_long, Manned.rest_at}
 use Rattle.workers.proofs.Walking.{count_places, places_low, places_high, lines_there, FirstRound, first_round}
 use Rattle.workers.proofs.Going.{WorkerRound, run_more, plays_to, round_played, Left, left_is, Closed, closed_is, Next, next_part}
 use Rattle.workers.proofs.Going as going
@@ -263,21 +245,18 @@ module _ (volume : Volume) (patience : ℕ) (trace : List Command) (begun : List
     dealt_here : IsDealt trace t (get_or back t p)
     dealt_here =
         dealt_on trace state.done cs first.tail t patience end (get_or workers t p) (get_or round.between t p) (get_or back t p) whole_now first.last
-        (state.dealt t p low) (state.cursor t p low)
-        played_here rest_here
+        (state.dealt t p low) (state.cursor t p low) played_here rest_here
 
     cursor_here : answered (get_or back t p) ≡ line_count t state.done + line_count t cs
     cursor_here =
         cursor_on trace state.done cs first.tail t patience end (get_or workers t p) (get_or round.between t p) (get_or back t p) whole_now first.last
-        (state.dealt t p low) (state.cursor t p low)
-        played_here rest_here
+        (state.dealt t p low) (state.cursor t p low) played_here rest_here
 
     worker_here : WorkerRound t patience state.done cs (rows_of workers t) (rows_of back t) (before t) (played t)
     worker_here =
         let w =
         worker_round trace state.done cs first.tail t patience end (get_or workers t p) (get_or round.between t p)
-        (get_or back t p) whole_now first.last (state.dealt t p low) (state.cursor t p low)
-        played_here rest_here (role_at t p low) in
+        (get_or back t p) whole_now first.last (state.dealt t p low) (state.cursor t p low) played_here rest_here (role_at t p low) in
         subst (λ (y : List Said × List Said × View × View). WorkerRound t patience state.done cs y.0 y.1 y.2 y.3)
         (λ i. (
           sym (row_at workers t p low) i,
@@ -336,8 +315,7 @@ module _ (volume : Volume) (patience : ℕ) (trace : List Command) (begun : List
       let b = line_count t state.done + line_count t cs in
       let plays =
       plays_to t patience (denied_by volume begun t) (lines_for t state.done) (lines_for t cs) (take a (rows_of workers t))
-      (slice_range (rows_of back t) a b) (before t) (played t) round.met.history (state.each t low) (worker_here t x low).played
-      (collected.brought t low) in
+      (slice_range (rows_of back t) a b) (before t) (played t) round.met.history (state.each t low) (worker_here t x low).played (collected.brought t low) in
       subst (λ (y : ℕ × List Command × List Said). Plays y.0 t [] y.1 y.2 round.met.history)
       (λ i. (sectors_here t x low i, sym (lines_more t) i, answers_more t low i)) plays
 

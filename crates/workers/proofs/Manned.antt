@@ -1,29 +1,19 @@
 -- Workers play a round, meet, and stay manned.
 use Rattle.std.proofs.Common.{◌≡◌, ℕ, zero, suc, ◌+◌, ◌<◌, All, List, [], ◌∷◌, map, length, ◌++◌, get_or, refl, sym, ap, ◌∙◌, subst, arith, append-nil}
 use Rattle.std.specs.Arc.{arc_value}
-use Rattle.std.proofs.lemmas.List.{drop_all, get_or-map, get_or_default, length-map}
-use Rattle.std.proofs.lemmas.List.Elements.{All-head, All-tail}
+use Rattle.std.proofs.lemmas.List.{drop_all, get_or-map, get_or_default, length-map, Elements.All-head, Elements.All-tail}
 use mathlib.Core.Logic.{dite}
 use native.Mathlib.Decide.{ℕ_discrete}
-use Rattle.flash_rule.specs.declared.facts.Name.TheVariants.{Pass as APass}
-use Rattle.flash_rule.specs.declared.facts.Role.TheVariants.{Player}
-use Rattle.flash_rule.specs.declared.view.View.{View}
-use Rattle.flash_table.specs.declared.pass.Pass.{Pass}
-use Rattle.flash_table.specs.Flash.{view_of}
+use Rattle.flash_rule.specs.declared.{facts.Name.TheVariants.Pass as APass, facts.Role.TheVariants.Player, view.View.View}
+use Rattle.flash_table.specs.{declared.pass.Pass.Pass, Flash.view_of}
 use Rattle.trace.specs.declared.commands.Command.{Command}
-use Rattle.rounds.specs.Lines.{Said}
+use Rattle.rounds.specs.{Lines.Said, Playing.Played, Answers.said_in}
 use Rattle.volume.specs.declared.volume.Volume.{Volume}
-use Rattle.workers.specs.declared.round_limits.RoundLimits.{RoundLimits}
-use Rattle.workers.specs.declared.worker.Worker.{Worker}
+use Rattle.workers.specs.declared.{round_limits.RoundLimits.RoundLimits, worker.Worker.Worker}
 use Rattle.workers.specs.Meetings.{AreSeated, Rest, passes_of, rest_of}
 use Rattle.workers.specs.Workers.{HasPlayed, IsIdle, answered, round_lines}
-use Rattle.workers.specs.Tasks.{HavePlayed}
-use Rattle.rounds.specs.Playing.{Played}
-use Rattle.workers.specs.Playable.{HasAnswered, added, lines_at}
-use Rattle.rounds.specs.Answers.{said_in}
-use Rattle.workers.proofs.Lines.{played_none}
-use Rattle.workers.specs.Runs.{AreManned}
-use Rattle.workers.proofs.Meeting.{all_same_at}
+use Rattle.workers.specs.{Tasks.HavePlayed, Runs.AreManned, Playable.HasAnswered, Playable.added, Playable.lines_at}
+use Rattle.workers.proofs.{Lines.played_none, Meeting.all_same_at}
 
 -- as many workers come back as have played, each as its own
 pub played_long : (n : RoundLimits) (workers back : List Worker) → HavePlayed n workers back → length back ≡ length workers

@@ -3,18 +3,11 @@ use Rattle.std.proofs.Common.{◌≡◌, ℕ, zero, suc, ◌+◌, ◌<◌, All, 
 use Rattle.std.specs.Prelude.{slice_set}
 use Rattle.std.proofs.lemmas.List.{get_or-map, get_or_default, map-set, length-map, set-get_or}
 use Rattle.std.proofs.lemmas.List.Elements.{All-cons, All-head, All-tail, All-map, All-weaker}
-use Rattle.geometry.specs.Geometry.{hosts_of}
-use Rattle.geometry.specs.History.{Begins}
-use Rattle.flash_rule.specs.declared.view.View.{View}
-use Rattle.flash_rule.specs.Views.{caller, calls_of}
-use Rattle.flash_table.specs.declared.pass.Pass.{Pass}
-use Rattle.flash_table.specs.Flash.{view_of, device, geometry_of, first_view}
-use Rattle.host.specs.Ready.{IsReady}
-use Rattle.host.specs.Told.{MetTold}
-use Rattle.volume.specs.declared.volume.Volume.{Volume}
-use Rattle.volume.specs.Closing.{HasLooked}
-use Rattle.volume.specs.Gathering.{MetEach}
-use Rattle.volume.specs.Volume.{flash_of}
+use Rattle.geometry.specs.{Geometry.hosts_of, History.Begins}
+use Rattle.flash_rule.specs.{declared.view.View.View, Views.caller, Views.calls_of}
+use Rattle.flash_table.specs.{declared.pass.Pass.Pass, Flash.view_of, Flash.device, Flash.geometry_of, Flash.first_view}
+use Rattle.host.specs.{Ready.IsReady, Told.MetTold}
+use Rattle.volume.specs.{declared.volume.Volume.Volume, Gathering.MetEach, Closing.HasLooked, Volume.flash_of}
 use Rattle.volume.proofs.Looks.{Meets, meets_next, looked-trans}
 use Rattle.workers.specs.declared.worker.Worker.{Worker}
 use Rattle.workers.specs.Meetings.{AreSeated, IsAt, PassesMet, Rest, passes_of, rest_of, views_of}

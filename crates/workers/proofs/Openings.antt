@@ -1,37 +1,21 @@
 -- How a run begins: each worker has its lines, and has played none.
-use Rattle.std.proofs.Common.{◌≡◌, ℕ, ◌<◌, All, true, false, List, [], map, length, get_or, refl, sym, ap, ◌∙◌, subst, arith, append-nil, zero-add}
-use Rattle.std.specs.Prelude.{Vec, ◌==◌, ◌&&◌, not, if◌then◌else◌}
-use Rattle.std.specs.Global.{Global}
-use Rattle.std.specs.List.{range_with_len}
-use Rattle.std.specs.Prelude.{slice_get, Some}
-use Rattle.std.proofs.Common.{ne_eqb}
-use Rattle.std.proofs.lemmas.List.{get_or-map, length-map}
-use Rattle.std.proofs.lemmas.List.Elements.{All-filter, All-weaker, filter_passes}
-use Rattle.std.proofs.lemmas.List.FromFn.{get_or-map-range_with_len, length-map-range_with_len}
-use Rattle.std.proofs.lemmas.Option.{slice_get-get_or}
-use Rattle.std.proofs.lemmas.Simd.{map-map}
-use Rattle.geometry.specs.Geometry.{hosts_of, sectors_of}
-use Rattle.geometry.specs.declared.geometry.Geometry.{Geometry}
+use Rattle.std.proofs.Common.{◌≡◌, ℕ, ◌<◌, All, true, false, List, [], map, length, get_or, refl, sym, ap, ◌∙◌, subst, arith, append-nil, zero-add, ne_eqb}
+use Rattle.std.specs.Prelude.{Vec, ◌==◌, ◌&&◌, not, if◌then◌else◌, slice_get, Some}
+use Rattle.std.specs.{Global.Global, List.range_with_len}
+use Rattle.std.proofs.lemmas.List.{get_or-map, length-map, Elements.All-filter, Elements.All-weaker, Elements.filter_passes}
+use Rattle.std.proofs.lemmas.{List.FromFn.get_or-map-range_with_len, List.FromFn.length-map-range_with_len, Option.slice_get-get_or, Simd.map-map}
+use Rattle.geometry.specs.{Geometry.hosts_of, Geometry.sectors_of, declared.geometry.Geometry.Geometry}
 use Rattle.flash_rule.specs.declared.view.View.{View}
-use Rattle.flash_table.specs.declared.pass.Pass.{Pass}
-use Rattle.flash_table.specs.Flash.{view_of, device, geometry_of, first_view}
-use Rattle.trace.specs.Trace.{workers_of}
-use Rattle.trace.specs.declared.commands.Command.{Command}
-use Rattle.trace.specs.declared.commands.Op.{Op}
-use Rattle.trace.specs.declared.commands.Op.TheVariants as op
+use Rattle.flash_table.specs.{declared.pass.Pass.Pass, Flash.view_of, Flash.device, Flash.geometry_of, Flash.first_view}
+use Rattle.trace.specs.{Trace.workers_of, declared.commands.Command.Command, declared.commands.Op.Op}
 use Rattle.answers.specs.Playable.{IsPlayable}
-use Rattle.workers.specs.Playable.{IsLine, lines_at}
-use Rattle.volume.specs.declared.volume.Volume.{Volume}
-use Rattle.volume.specs.Volume.{flash_of}
-use Rattle.rounds.specs.Merging.{is_meet, is_line_of, lines_for}
-use Rattle.rounds.specs.Plans.{ends_of, items_of, places_for}
-use Rattle.workers.specs.declared.worker.Worker.{Worker}
-use Rattle.workers.specs.Dealing.{AreDoable}
-use Rattle.workers.specs.Meetings.{IsAt, passes_of, views_of}
-use Rattle.workers.specs.Runs.{AreManned, HasBegun}
+use Rattle.workers.specs.{Playable.IsLine, Playable.lines_at, Runs.AreManned, Runs.HasBegun}
+use Rattle.volume.specs.{declared.volume.Volume.Volume, Volume.flash_of}
+use Rattle.rounds.specs.{Merging.is_meet, Merging.is_line_of, Merging.lines_for, Plans.ends_of, Plans.items_of, Plans.places_for}
+use Rattle.workers.specs.{declared.worker.Worker.Worker, Dealing.AreDoable, Meetings.IsAt, Meetings.passes_of, Meetings.views_of}
 use Rattle.workers.specs.Shares.{HasPlayedNone, rows_for, with_commands, work_of}
-use Rattle.workers.proofs.Looping.{some_worker}
-use Rattle.workers.proofs.Walking.{lines_there, places_low}
+use Rattle.workers.proofs.{Looping.some_worker, Walking.lines_there, Walking.places_low}
+use Rattle.trace.specs.declared.commands.Op.TheVariants as op
 
 -- there is a host, so each worker of a command is one of the hosts
 pub workers_low : (geo : Geometry) (cs : List Command) → 0 < hosts_of geo → All (IsPlayable geo) cs → All (λ c. c.worker < hosts_of geo) cs

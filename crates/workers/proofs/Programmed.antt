@@ -4,13 +4,10 @@ use Rattle.std.proofs.lemmas.List.{length-append}
 use Rattle.geometry.specs.declared.map_word.MapWord.{MapWord}
 use Rattle.flash_rule.specs.declared.view.View.{View}
 use Rattle.flash_table.specs.declared.broom_seat.BroomBlocks.{BroomBlocks}
-use Rattle.broom.specs.declared.broom.Broom.{Broom}
-use Rattle.broom.specs.declared.answer.Drain.{Drain}
-use Rattle.broom.specs.declared.answer.Drain.TheVariants as drain
-use Rattle.broom.specs.Emptying.{Programmed, pages_to_fill}
-use Rattle.broom.specs.Handing.{DrainNextOneTold, DrainOneTold, IsElse}
-use Rattle.broom.specs.Ready.{blocks_of_broom, view_of_broom}
+use Rattle.broom.specs.{declared.broom.Broom.Broom, declared.answer.Drain.Drain, Handing.DrainNextOneTold, Handing.DrainOneTold, Handing.IsElse}
+use Rattle.broom.specs.{Emptying.Programmed, Emptying.pages_to_fill, Ready.blocks_of_broom, Ready.view_of_broom}
 use Rattle.workers.specs.Growing.{GrowsBy}
+use Rattle.broom.specs.declared.answer.Drain.TheVariants as drain
 
 -- the pages that are programmed between two brooms are those that there is no more room for
 abbrev pub FillsRoom : ℕ → Broom → Broom → Type 0
@@ -58,8 +55,7 @@ survey_fills limit pages a b drain.NoSpare is told =
     before_it pages a told.relieved b told.first.rest (stays pages told.relieved b (ap (λ (x : View). x.programs) told.drain.0.view) told.drain.0.blocks)
 survey_fills limit pages a b drain.Lost is told =
     before_it pages a told.relieved b told.first.rest (stays pages told.relieved b (ap (λ (x : View). x.programs) told.drain.0.0.changed) told.drain.0.1)
-survey_fills limit pages a b drain.QueueFull is told =
-    stays pages a b (ap (λ (x : Broom). (view_of_broom x).programs) told.rest) (ap blocks_of_broom told.rest)
+survey_fills limit pages a b drain.QueueFull is told = stays pages a b (ap (λ (x : Broom). (view_of_broom x).programs) told.rest) (ap blocks_of_broom told.rest)
 
 pub next_fills : (limit pages : ℕ) (a b : Broom) (d : Drain) → (view_of_broom a).numbers.pages ≡ pages → DrainNextOneTold limit a d b → FillsRoom pages a b
 next_fills limit pages a b (drain.Drained block copied) is told =
@@ -74,5 +70,4 @@ next_fills limit pages a b drain.NoSpare is told =
     before_it pages a told.relieved b told.first.rest (stays pages told.relieved b (ap (λ (x : View). x.programs) told.drain.0.view) told.drain.0.blocks)
 next_fills limit pages a b drain.Lost is told =
     before_it pages a told.relieved b told.first.rest (stays pages told.relieved b (ap (λ (x : View). x.programs) told.drain.2) told.drain.3)
-next_fills limit pages a b drain.QueueFull is told =
-    stays pages a b (ap (λ (x : Broom). (view_of_broom x).programs) told.rest) (ap blocks_of_broom told.rest)
+next_fills limit pages a b drain.QueueFull is told = stays pages a b (ap (λ (x : Broom). (view_of_broom x).programs) told.rest) (ap blocks_of_broom told.rest)

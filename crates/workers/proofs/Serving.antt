@@ -2,24 +2,15 @@
 use Rattle.std.proofs.Common.{◌≡◌, ℕ, suc, ◌+◌, All, List, [], ◌∷◌, Some, length, map, refl, sym, ap, ◌∙◌, subst, arith}
 use Rattle.std.specs.Prelude.{◌%◌, ◌^◌, slice_get}
 use Rattle.std.proofs.lemmas.List.Elements.{All-head, All-tail}
-use Rattle.geometry.specs.Geometry.{brooms_of}
-use Rattle.geometry.specs.declared.geometry.Geometry.{Geometry}
+use Rattle.geometry.specs.{Geometry.brooms_of, declared.geometry.Geometry.Geometry}
 use Rattle.flash_rule.specs.declared.view.View.{View}
 use Rattle.flash_table.specs.Flash.{device, first_broom, geometry_of}
-use Rattle.broom.specs.declared.broom.Broom.{Broom}
-use Rattle.broom.specs.Ends.{folded_view}
-use Rattle.broom.specs.Ready.{view_of_broom}
-use Rattle.volume.specs.declared.volume.Volume.{Volume}
-use Rattle.volume.specs.Brooms.{IsUnused}
-use Rattle.volume.specs.Volume.{flash_of}
-use Rattle.workers.specs.declared.collector.Collector.{Collector}
-use Rattle.workers.specs.declared.collector_end.CollectorEnd.{CollectorEnd}
-use Rattle.workers.specs.declared.tally.Tally.{Tally}
-use Rattle.workers.specs.Collecting.{HasCollected, HaveCollected}
-use Rattle.workers.specs.Folding.{HasFolded, HaveFolded}
-use Rattle.workers.specs.Growing.{GrowsBy, HasGrown}
+use Rattle.broom.specs.{declared.broom.Broom.Broom, Ends.folded_view, Ready.view_of_broom}
+use Rattle.volume.specs.{declared.volume.Volume.Volume, Brooms.IsUnused, Volume.flash_of}
+use Rattle.workers.specs.declared.{collector.Collector.Collector, tally.Tally.Tally, collector_end.CollectorEnd.CollectorEnd}
+use Rattle.workers.specs.{Collecting.HasCollected, Collecting.HaveCollected, Tallies.added, Tallies.total_of, Tallies.wrapped}
+use Rattle.workers.specs.{Folding.HasFolded, Folding.HaveFolded, Growing.GrowsBy, Growing.HasGrown}
 use Rattle.workers.specs.Served.{AllHaveServed, AreAtRunStart, HasCountedNone, HasDone, HasListed, HaveServed, IsAtRunStart, broom_of}
-use Rattle.workers.specs.Tallies.{added, total_of, wrapped}
 use Rattle.workers.proofs.Counting.{nothing_added}
 
 -- the collectors of unused brooms

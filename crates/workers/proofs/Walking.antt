@@ -1,10 +1,8 @@
 -- A round's lines: where they stand in their workers' rows, and which commands stand before and behind them.
-use Rattle.std.proofs.Common.{◌≡◌, ℕ, suc, ◌+◌, ◌<◌, ◌≤◌, All, Bool, true, false, List, [], ◌∷◌, ◌++◌, get_or}
-use Rattle.std.proofs.Common.{length, drop, refl, sym, ap, ◌∙◌, subst, arith, append_assoc}
+use Rattle.std.proofs.Common.{◌≡◌, ℕ, suc, ◌+◌, ◌<◌, ◌≤◌, All, Bool, true, false, List, [], ◌∷◌, ◌++◌, get_or, length, drop, refl, sym, ap, ◌∙◌, subst, arith}
+use Rattle.std.proofs.Common.{append_assoc}
 use Rattle.std.specs.Prelude.{if◌then◌else◌}
-use Rattle.std.proofs.Math.Seq.{get_or-append_seam}
-use Rattle.std.proofs.lemmas.List.{length-append}
-use Rattle.std.proofs.lemmas.List.Elements.{All-nil, All-cons}
+use Rattle.std.proofs.{Math.Seq.get_or-append_seam, lemmas.List.length-append, lemmas.List.Elements.All-nil, lemmas.List.Elements.All-cons}
 use Rattle.trace.specs.declared.commands.Command.{Command}
 use Rattle.workers.specs.Playable.{lines_at, no_line}
 use Rattle.rounds.specs.Merging.{is_meet, is_line_of, lines_for, line_count, HaveNoMeeting}

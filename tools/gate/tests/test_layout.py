@@ -2,7 +2,6 @@
 
 import subprocess
 import unittest
-from unittest import mock
 
 from gate import layout
 from gate.tests import Small
@@ -20,10 +19,6 @@ class Layout(Small):
     def setUp(self):
         super().setUp()
         subprocess.run(["git", "init", "-q", self.top], check=True)
-        listed = mock.patch.object(layout, "STILL_LONG", {"tool": 1})
-        listed.start()
-        self.addCleanup(listed.stop)
-        self.write("tool", "#!/bin/sh\n" + "#" * 161 + "\n")
 
     def passes(self, path, text):
         self.write(path, text)
@@ -36,18 +31,12 @@ class Layout(Small):
 
     def test_a_line_is_counted_in_characters(self):
         self.passes("crates/low/specs/Low.antt", "-- " + "≡" * 157 + "\n")
-        self.refuses("crates/low/src/lib.rt", "//" + "≡" * 159 + "\n", "crates/low/src/lib.rt:1: 161 columns, and at most 160 are wanted")
-        self.refuses("new", "#!/bin/sh\n\n" + "#" * 161 + "\n", "new:3: 161 columns, and at most 160 are wanted")
+        self.refuses("crates/low/src/lib.rt", "//" + "≡" * 159 + "\n", "crates/low/src/lib.rt:1: a line of 161 columns, and at most 160 are wanted")
+        self.refuses("new", "#!/bin/sh\n\n" + "#" * 161 + "\n", "new:3: a line of 161 columns, and at most 160 are wanted")
 
     def test_a_page_and_an_edit_may_have_long_lines(self):
         self.passes("docs/PAGE.md", "word " * 100 + "\n")
         self.passes("crates/low/must-fail/one.edit", "old: " + "x" * 200 + "\n")
-
-    def test_a_listed_script_has_as_many_long_lines_as_are_listed(self):
-        self.passes("other", "#!/bin/sh\n")
-        its = [f"tool:{n}: 161 columns, and at most 160 are wanted" for n in (2, 3)]
-        self.refuses("tool", "#!/bin/sh\n" + ("#" * 161 + "\n") * 2, *its)
-        self.refuses("tool", "#!/bin/sh\n", "tool has 0 long lines now, and tools/gate/layout.py lists 1")
 
     def test_a_term_ends_where_the_next_one_begins(self):
         self.passes("crates/low/proofs/Low.antt", term(60) + "\n" + term(60))

@@ -3,7 +3,8 @@
 from gate import needless
 from gate.tests import Small
 
-STAND_IN = """# Leaves open the goal of `first` that has an answer to keep.
+VERSION = "if [ \"$1\" = version ]; then echo 'rattle-kit-1a logic 01'; exit; fi\n"
+STAND_IN = VERSION + """# Leaves open the goal of `first` that has an answer to keep.
 echo 'help: write ./proofs/lib/first/Answers.antt with these lines, and check again'
 echo '    pub returns-clause-hard : goal.returns-clause-hard'
 echo
@@ -25,15 +26,19 @@ class Needless(Small):
         self.write("crates/low/proofs/lib/second/Answers.antt", HEAD + EASY.replace("helps 1", "refl"))
 
     def test_what_the_check_finds_alone_goes_with_its_lemmas(self):
-        self.assertIn("needless low: 2 of 3 answers go", self.run_main(needless, "low"))
+        self.assertIn("needless low: 2 answers go", self.run_main(needless, "low"))
         self.assertEqual((self.top / "crates/low/proofs/lib/first/Answers.antt").read_text(), HEAD + HARD)
         self.assertFalse((self.top / "crates/low/proofs/lib/second").exists())
+
+    def test_the_type_of_a_long_goal_stands_on_the_next_line(self):
+        self.stand_in(STAND_IN.replace(" : goal.", " :'\necho '        goal."))
+        self.assertIn("needless low: 2 answers go", self.run_main(needless, "low"))
 
     def test_an_answer_stays_at_the_goal_that_refuses_a_wrong_body(self):
         self.write("crates/low/src/lib.rt", "pub fn first() -> u8 {\n    1\n}\n")
         self.edit("low", "must-fail/is_two.edit", ("    1", "    2"))
         self.write("docs/GALLERY.md", "## `low`\n\n| Is two | `first` | `1` becomes `2` | **`returns-clause-easy`** | none |\n")
-        self.assertIn("needless low: 1 of 3 answers go", self.run_main(needless, "low"))
+        self.assertIn("needless low: 1 answers go", self.run_main(needless, "low"))
         self.assertEqual((self.top / "crates/low/proofs/lib/first/Answers.antt").read_text(), HEAD + LEMMA + EASY + HARD)
 
     def test_answers_are_recorded_and_others_are_named(self):
@@ -44,6 +49,6 @@ class Needless(Small):
         self.assertIn("answers of low were not tried", self.run_main(needless, "--check", status=1))
 
     def test_a_check_that_ends_early_changes_nothing(self):
-        self.stand_in("echo 'error: cannot read'; exit 1\n")
-        self.run_main(needless, "low", status=1)
+        self.stand_in(VERSION + "echo 'error: cannot read'; exit 1\n")
+        self.assertIn("the check can't read low", self.run_main(needless, "low", status=1))
         self.assertTrue((self.top / "crates/low/proofs/lib/second/Answers.antt").exists())

@@ -75,6 +75,11 @@ class WrongDefinitions(Small):
         self.write("crates/low/specs/Low.antt", f"-- Other words.\n{LOW}")
         self.assertNotIn("still to try", self.run_here("--check"))
 
+    def test_an_item_may_name_its_module_in_an_import(self):
+        self.write("crates/mid/specs/Mid.antt", MID.replace("specs.Low.{number}", "specs.{Low.number}"))
+        self.write("crates/laws/src/numbers.rt", LAW.replace("specs.Mid.{Holds}", "specs.{Mid.Holds}"))
+        self.assertIn("refused, and its twin is proved", self.run_here("--missing"))
+
     def assert_fault(self, said):
         self.assertIn(said, self.run_here("--all", status=1))
         self.assertIn("still to try: those of low", self.run_here("--check"))

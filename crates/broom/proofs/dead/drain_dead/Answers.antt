@@ -10,5 +10,4 @@ returns-clause-told g c =
     let none : slice_index (counts_kept c.choose.new.broom) c.in-Some.block ≡ 0 =
     sym (subst (λ d. d ≡ slice_index_or (counts_kept c.choose.new.broom) c.in-Some.block d) least c.index.ensures) in
     dead_told c.args.broom.now c.choose.new.broom c.drain_inspected.new.broom c.in-Some.block c.drain_inspected.result
-    (record { chosen = c.in-Some.ensures.told; blocks = c.choose.ensures.blocks }) none c.drain_inspected.ensures.told
-    c.drain_inspected.ensures.marks
+    (record { chosen = c.in-Some.ensures.told; blocks = c.choose.ensures.blocks }) none c.drain_inspected.ensures.told c.drain_inspected.ensures.marks

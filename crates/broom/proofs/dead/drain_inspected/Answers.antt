@@ -1,18 +1,14 @@
 use Rattle.std.proofs.Common.{◌≡◌, refl, ap, ◌∙◌, rules}
 use Rattle.geometry.specs.declared.pin_word.Phase.TheVariants.{Closed, Victim}
-use Rattle.flash_rule.specs.declared.view.View.{View}
-use Rattle.flash_rule.specs.Views.{with_owned}
-use Rattle.flash_rule.specs.BroomPlays.{owned_as}
-use Rattle.flash_table.specs.declared.broom_seat.BroomBlocks.{BroomBlocks}
-use Rattle.flash_table.specs.declared.broom_seat.ReclaimedBlock.{ReclaimedBlock}
+use Rattle.flash_rule.specs.{declared.view.View.View, Views.with_owned, BroomPlays.owned_as}
+use Rattle.flash_table.specs.declared.broom_seat.{BroomBlocks.BroomBlocks, ReclaimedBlock.ReclaimedBlock}
 use Rattle.flash_table.specs.Flash.{broom_view, own_blocks}
 use Rattle.flash_table.proofs.ToldBrooms.{loaded_changed}
 use Rattle.broom.specs.Ready.{IsRested}
 use Rattle.broom.proofs.DeadBlocks.{blocks_back, drained_dead, load_listed, rested_as, rested_drained}
 use Rattle.broom.proofs.Unmarking.{ready_unmarked}
-use Rattle.broom.proofs.dead.drain_inspected.Given.{Over}
+use Rattle.broom.proofs.dead.drain_inspected.{Given.Over, Goals.Then-ne, Goals.Then-not-inspect, Goals.Else-not-inspect}
 use Rattle.broom.proofs.dead.drain_inspected.Goals as goal
-use Rattle.broom.proofs.dead.drain_inspected.Goals.{Then-ne, Then-not-inspect, Else-not-inspect}
 
 -- the block isn't closed
 pub returns-then-ne-clause-ready : goal.returns-then-ne-clause-ready
@@ -52,13 +48,11 @@ inspected g c =
 pub returns-then-not-claim-clause-ready : goal.returns-then-not-claim-clause-ready
 returns-then-not-claim-clause-ready g c =
     let f = c.args.flash.now in
-    let r = c.args.broom.now in
     let second = inspected g (goal.at.returns-then-not-claim-clause-ready g c).Else-not-inspect in
     let told = c.if-not-inspect.ensures.told in
     let lost = c.if-not-claim.ensures in
-    ready_unmarked f r _ c.args.block _ c.requires.ready c.requires.block
-    (rested_as f c.inspect.new.seat c.claim.new.broom _ second lost.broom lost.blocks lost.claimed refl second.callers)
-    refl refl
+    ready_unmarked f c.args.broom.now _ c.args.block _ c.requires.ready c.requires.block
+    (rested_as f c.inspect.new.seat c.claim.new.broom _ second lost.broom lost.blocks lost.claimed refl second.callers) refl refl
     (ap (λ (v : View). v.loaded) lost.claimed ∙ (ap (λ (v : View). v.loaded) told.changed ∙ load_listed _ _ _ _ c.load_state-state.ensures.loaded))
 
 -- and drained
@@ -75,15 +69,13 @@ returns-clause-told g c =
       refl,
       drained_dead (broom_view r.seat) (broom_view c.load_state-state.new.broom) (broom_view c.inspect.new.seat) (broom_view c.claim.new.broom)
           (broom_view c.drain.new.broom) c.args.block p c.load_state-state.ensures.fits closed c.load_state-state.ensures.loaded
-          c.if-not-inspect.ensures.told won.claimed
-          (c.drain.ensures.drained o (ap (λ (x : BroomBlocks). x.reclaiming) won.blocks)),
+          c.if-not-inspect.ensures.told won.claimed (c.drain.ensures.drained o (ap (λ (x : BroomBlocks). x.reclaiming) won.blocks)),
       back ∙ (c.if-not-inspect.ensures.blocks ∙ c.load_state-state.ensures.blocks),
     )
 
 pub returns-clause-ready : goal.returns-clause-ready
 returns-clause-ready g c =
     let f = c.args.flash.now in
-    let r = c.args.broom.now in
     let p = c.load_state-state.result in
     let o : ReclaimedBlock = record { block = c.args.block; generation = p.generation; written = p.written } in
     let second = inspected g (goal.at.returns-clause-ready g c).Else-not-inspect in
@@ -91,7 +83,7 @@ returns-clause-ready g c =
     let drained = c.drain.ensures.drained o (ap (λ (x : BroomBlocks). x.reclaiming) won.blocks) in
     let back = blocks_back (own_blocks c.inspect.new.seat) (own_blocks c.claim.new.broom) (own_blocks c.drain.new.broom) o second.reclaiming won.blocks
     c.drain.ensures.blocks in
-    ready_unmarked f r _ c.args.block _ c.requires.ready c.requires.block
+    ready_unmarked f c.args.broom.now _ c.args.block _ c.requires.ready c.requires.block
     (rested_drained f c.inspect.new.seat c.claim.new.broom c.drain.new.broom o
     (with_owned (owned_as c.args.block p Victim) (broom_view c.inspect.new.seat).owns) second c.drain.ensures.broom back won.claimed drained)
     refl refl

@@ -1,19 +1,13 @@
 use Rattle.std.proofs.Common.{false, set, inl, refl, ap, ◌∙◌, arith, length-set}
-use Rattle.flash_rule.specs.declared.view.View.{View}
-use Rattle.flash_rule.specs.Views.{without, with_owned}
-use Rattle.flash_rule.specs.BroomPlays.{owned_as}
+use Rattle.flash_rule.specs.{declared.view.View.View, BroomPlays.owned_as, Views.without, Views.with_owned}
 use Rattle.geometry.specs.declared.pin_word.Phase.TheVariants.{Victim}
 use Rattle.flash_table.specs.Flash.{broom_view, device}
-use Rattle.broom.specs.Ready.{view_of_broom}
-use Rattle.broom.specs.Relocating.{Sweeps}
-use Rattle.broom.proofs.Marking.{marks_kept, still_marked}
-use Rattle.broom.proofs.Ranks.{ranks_fewer}
-use Rattle.broom.proofs.Drains.{low_mark, low_block, state_closed, last_loaded, victim_of_state, claimed_sweeps}
-use Rattle.broom.proofs.Drains.{claimed_room, did_drain, drained_rested, drained_loaded}
-use Rattle.broom.proofs.Choosing.{rested_lost}
-use Rattle.broom.proofs.draining.drain_marked.Given.{Over}
+use Rattle.broom.specs.{Ready.view_of_broom, Relocating.Sweeps}
+use Rattle.broom.proofs.{Marking.marks_kept, Marking.still_marked, Ranks.ranks_fewer, Choosing.rested_lost}
+use Rattle.broom.proofs.Drains.{low_mark, low_block, state_closed, last_loaded, victim_of_state, claimed_sweeps, claimed_room, did_drain, drained_rested}
+use Rattle.broom.proofs.Drains.{drained_loaded}
+use Rattle.broom.proofs.draining.drain_marked.{Given.Over, Goals.Else-not-claim, Goals.After-relocate-copied}
 use Rattle.broom.proofs.draining.drain_marked.Goals as goal
-use Rattle.broom.proofs.draining.drain_marked.Goals.{Else-not-claim, After-relocate-copied}
 
 pub claim-requires-clause-block : goal.claim-requires-clause-block
 claim-requires-clause-block g c = low_block c.args.flash.now c.args.broom.now c.args.block c.requires.ready c.requires.marked
@@ -51,10 +45,9 @@ swept : (g : Over) (c : After-relocate-copied g)
     → Sweeps c.args.flash.now c.relocate-copied.new.seat
     (victim_of_state c.args.flash.now c.args.broom.now c.args.block c.requires.ready c.requires.marked c.index-state.result.now c.index-state.ensures)
 swept g c =
-    let at = (goal.at.After-relocate-copied g c).Else-not-claim in
     c.relocate-copied.ensures.sweeps
     (victim_of_state c.args.flash.now c.args.broom.now c.args.block c.requires.ready c.requires.marked c.index-state.result.now
-    c.index-state.ensures) (sweeping g at)
+    c.index-state.ensures) (sweeping g ((goal.at.After-relocate-copied g c).Else-not-claim))
 
 pub drain-requires-clause-broom : goal.drain-requires-clause-broom
 drain-requires-clause-broom g c = (swept g (goal.at.drain-requires-clause-broom g c).After-relocate-copied).seat

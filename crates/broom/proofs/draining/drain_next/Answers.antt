@@ -1,8 +1,7 @@
 use Rattle.std.proofs.Common.{ap, sym, ◌∙◌, subst, is_some}
 use Rattle.geometry.specs.Greedy.{IsClosed}
 use Rattle.flash_table.specs.declared.broom_seat.BroomBlocks.{BroomBlocks}
-use Rattle.broom.specs.declared.broom.Broom.{Broom}
-use Rattle.broom.specs.Ready.{blocks_of_broom, marks_of}
+use Rattle.broom.specs.{declared.broom.Broom.Broom, Ready.blocks_of_broom, Ready.marks_of}
 use Rattle.broom.proofs.Drains.{next_ranked, none_ranked, handed_ranked}
 use Rattle.broom.proofs.draining.drain_next.Goals as goal
 

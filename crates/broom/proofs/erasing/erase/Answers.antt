@@ -1,19 +1,13 @@
 use Rattle.std.proofs.Common.{rules, ◌≡◌, ℕ, Bool, true, false, [], ◌∷◌, ◌++◌, MatchBool, refl, sym, ap, ◌∙◌, arith}
 use Rattle.flash_rule.specs.declared.view.View.{View}
-use Rattle.flash_table.specs.declared.broom_seat.BroomBlocks.{BroomBlocks}
-use Rattle.geometry.specs.PinWords.{pin_word}
-use Rattle.geometry.specs.Geometry.{endurance_of}
-use Rattle.geometry.specs.Limits.{Numbers}
-use Rattle.geometry.specs.declared.pin_word.Phase.TheVariants.{Drained}
-use Rattle.flash_table.specs.declared.broom_seat.Reclaiming.TheVariants.{Nothing}
+use Rattle.flash_table.specs.declared.broom_seat.{BroomBlocks.BroomBlocks, Reclaiming.TheVariants.Nothing}
+use Rattle.geometry.specs.{PinWords.pin_word, Limits.Numbers, Geometry.endurance_of, declared.pin_word.Phase.TheVariants.Drained}
 use Rattle.flash_table.specs.Flash.{broom_view, own_blocks, geometry_of}
 use Rattle.broom.specs.Erasing.{DidKeep, DidFree}
-use Rattle.broom.proofs.Renewing.{loaded_stale, loaded_busy, loaded_changed, rested_loaded, WasWiped, was_wiped, its}
-use Rattle.broom.proofs.Renewing.{did_retire, did_renew, told_erased, rested_retired, rested_renewed}
-use Rattle.broom.proofs.Unmarking.{ready_unmarked}
-use Rattle.broom.proofs.erasing.erase.Given.{Over}
+use Rattle.broom.proofs.Renewing.{loaded_stale, loaded_busy, loaded_changed, rested_loaded, WasWiped, was_wiped, its, did_retire, did_renew, told_erased}
+use Rattle.broom.proofs.Renewing.{rested_retired, rested_renewed}
+use Rattle.broom.proofs.{Unmarking.ready_unmarked, erasing.erase.Given.Over, erasing.erase.Goals.After-wipe_all}
 use Rattle.broom.proofs.erasing.erase.Goals as goal
-use Rattle.broom.proofs.erasing.erase.Goals.{After-wipe_all}
 
 -- every word of the block was wiped
 wiped : (g : Over) (c : After-wipe_all g) → WasWiped c.args.broom.now.seat c.args.block c.load_state-state.result c.wipe_all.new.seat

@@ -1,14 +1,9 @@
 use Rattle.std.proofs.Common.{sym, ap, ◌∙◌, subst, refl}
-use Rattle.flash_rule.specs.World.{sector_word}
-use Rattle.flash_rule.specs.declared.view.View.{View}
-use Rattle.flash_rule.specs.Seats.{host_of, lent_note, home}
-use Rattle.flash_rule.specs.BroomPlays.{Named}
+use Rattle.flash_rule.specs.{World.sector_word, BroomPlays.Named, declared.view.View.View, Seats.host_of, Seats.lent_note, Seats.home}
 use Rattle.flash_table.specs.Flash.{broom_view, note_view}
-use Rattle.broom.specs.Ready.{view_of_broom}
-use Rattle.broom.specs.Meeting.{BroomsMet}
-use Rattle.broom.proofs.Tying.{named_broom, lent, guest, given, brooms_met}
+use Rattle.broom.specs.{Ready.view_of_broom, Meeting.BroomsMet}
+use Rattle.broom.proofs.{Tying.named_broom, Tying.lent, Tying.guest, Tying.given, Tying.brooms_met, meeting.meet_brooms.Goals.After-broom_look}
 use Rattle.broom.proofs.meeting.meet_brooms.Goals as goal
-use Rattle.broom.proofs.meeting.meet_brooms.Goals.{After-broom_look}
 
 pub broom_take_in-requires-clause-lent : goal.broom_take_in-requires-clause-lent
 broom_take_in-requires-clause-lent c = lent (view_of_broom c.args.second.now) (note_view c.broom_lend-note.result) c.broom_lend-note.ensures.note.0
@@ -18,8 +13,7 @@ first_look : (c : After-broom_look)
     → Named (host_of (view_of_broom c.args.first.now) (lent_note (view_of_broom c.args.second.now))) 0 (sector_word c.broom_look.result)
     (broom_view c.broom_look.new.broom)
 first_look c =
-    let v = view_of_broom c.args.first.now in
-    let hosted = c.broom_take_in.ensures.told ∙ ap (host_of v) c.broom_lend-note.ensures.note.0 in
+    let hosted = c.broom_take_in.ensures.told ∙ ap (host_of (view_of_broom c.args.first.now)) c.broom_lend-note.ensures.note.0 in
     subst (λ (x : View). Named x 0 (sector_word c.broom_look.result) (broom_view c.broom_look.new.broom)) hosted c.broom_look.ensures.named
 
 pub broom_give_back-note-requires-clause-guest : goal.broom_give_back-note-requires-clause-guest
@@ -45,12 +39,11 @@ pub returns-clause-told : goal.returns-clause-told
 returns-clause-told c =
     let v = view_of_broom c.args.first.now in
     let v' = view_of_broom c.args.second.now in
-    let w = broom_view c.broom_look.new.broom in
     let u = broom_view c.broom_look-2.new.broom in
     let came = c.broom_come_home.ensures.told ∙ (λ i. home (c.broom_lend-note.ensures.told i) (c.broom_give_back-note.ensures.note.0 i)) in
     let again = subst (λ (x : View). Named x 0 (sector_word c.broom_look-2.result) u) came c.broom_look-2.ensures.named in
     let t =
-    brooms_met v v' w c.broom_look.result (named_broom v.role c.requires.first.rested.seat.role)
+    brooms_met v v' (broom_view c.broom_look.new.broom) c.broom_look.result (named_broom v.role c.requires.first.rested.seat.role)
     (named_broom v'.role c.requires.second.rested.seat.role) c.requires.first.rested.source
     (first_look (goal.at.returns-clause-told c).After-broom_look) u c.broom_look-2.result c.requires.second.rested.source
     c.requires.second.rested.whole again c.requires.first.rested.alone in

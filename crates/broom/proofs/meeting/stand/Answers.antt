@@ -1,15 +1,10 @@
 use Rattle.std.proofs.Common.{◌≡◌, sym, ap, ◌∙◌, subst, arith}
-use Rattle.flash_rule.specs.World.{sector_word}
-use Rattle.flash_rule.specs.declared.view.View.{View}
+use Rattle.flash_rule.specs.{World.sector_word, declared.view.View.View, Plays.Spared, BroomPlays.Named}
 use Rattle.flash_rule.specs.Seats.{carried, host_of, lent_note, home, giver, given_note}
-use Rattle.flash_rule.specs.Plays.{Spared}
-use Rattle.flash_rule.specs.BroomPlays.{Named}
 use Rattle.flash_table.specs.Flash.{broom_view, note_view, view_of}
-use Rattle.broom.specs.Ready.{view_of_broom}
-use Rattle.broom.specs.Meeting.{StoodTold, page_in}
-use Rattle.broom.proofs.Tying.{named_broom, named_pass, lent, stood_guest, stood_given, stood}
+use Rattle.broom.specs.{Ready.view_of_broom, Meeting.StoodTold, Meeting.page_in}
+use Rattle.broom.proofs.{Tying.named_broom, Tying.named_pass, Tying.lent, Tying.stood_guest, Tying.stood_given, Tying.stood, meeting.stand.Goals.After-get_word}
 use Rattle.broom.proofs.meeting.stand.Goals as goal
-use Rattle.broom.proofs.meeting.stand.Goals.{After-get_word}
 
 pub take_in-requires-clause-lent : goal.take_in-requires-clause-lent
 take_in-requires-clause-lent c = lent (view_of_broom c.args.broom.now) (note_view c.broom_lend-note.result) c.broom_lend-note.ensures.note.0

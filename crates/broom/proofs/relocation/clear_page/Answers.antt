@@ -1,21 +1,13 @@
 use Rattle.std.proofs.Common.{◌≡◌, ℕ, ◌+◌, ◌<◌, MatchBool, Some, sym, refl, ap, ◌∙◌, subst}
-use Rattle.geometry.specs.Geometry.{pages_of}
-use Rattle.geometry.specs.MapWords.{FitsMap, map_word}
-use Rattle.geometry.specs.Limits.{Numbers}
-use Rattle.flash_rule.specs.declared.facts.Source.{Source}
-use Rattle.flash_rule.specs.declared.view.View.{View}
-use Rattle.flash_rule.specs.Rule.{IsValue}
-use Rattle.flash_rule.specs.BroomPlays.{Moved}
-use Rattle.flash_table.specs.declared.broom_seat.BroomBlocks.{BroomBlocks}
-use Rattle.flash_table.specs.declared.broom_seat.ReclaimedBlock.{ReclaimedBlock}
-use Rattle.flash_table.specs.declared.pass.OpenBlock.{OpenBlock}
+use Rattle.geometry.specs.{Geometry.pages_of, Limits.Numbers, MapWords.FitsMap, MapWords.map_word}
+use Rattle.flash_rule.specs.{declared.facts.Source.Source, declared.view.View.View, Rule.IsValue, BroomPlays.Moved}
+use Rattle.flash_table.specs.declared.{broom_seat.BroomBlocks.BroomBlocks, broom_seat.ReclaimedBlock.ReclaimedBlock, pass.OpenBlock.OpenBlock}
 use Rattle.flash_table.specs.Flash.{broom_view, own_blocks, geometry_of}
 use Rattle.broom.specs.Relocating.{IsSweeping, Sweeps, FoundLive, Copied, room_left}
 use Rattle.broom.proofs.Sweeping.{page_fits, sweeps_on}
 use Rattle.broom.proofs.Clearing.{dead_cleared, opened_some, opened_sweeps, copy_fits, moved_callers, live_cleared}
-use Rattle.broom.proofs.relocation.clear_page.Given.{Over}
+use Rattle.broom.proofs.relocation.clear_page.{Given.Over, Goals.After-open_destination, Goals.After-copy_page-copy, Goals.After-move_to-moved}
 use Rattle.broom.proofs.relocation.clear_page.Goals as goal
-use Rattle.broom.proofs.relocation.clear_page.Goals.{After-open_destination, After-copy_page-copy, After-move_to-moved}
 
 -- the page is live, and is the source
 live : (g : Over) (c : After-open_destination g) → FoundLive (broom_view c.args.seat.now) c.args.page c.in-Some.sector (broom_view c.live_sector.new.seat)
@@ -33,8 +25,7 @@ sweeping : (g : Over) (c : After-open_destination g) (x : ReclaimedBlock) → Sw
 sweeping g c x h =
     let f = c.args.flash.now in
     let there = c.live_sector.ensures.sweeps x h in
-    opened_sweeps f c.live_sector.new.seat c.open_destination.new.seat c.open_destination.ensures.told x
-    (c.open_destination.ensures.broom f there.seat) there
+    opened_sweeps f c.live_sector.new.seat c.open_destination.new.seat c.open_destination.ensures.told x (c.open_destination.ensures.broom f there.seat) there
 
 source_is : (g : Over) (c : After-open_destination g)
     → (broom_view c.open_destination.new.seat).source ≡ Some (record { page = c.args.page; stamp = c.in-Some.sector; value = Some (live g c).value })
@@ -42,8 +33,7 @@ source_is g c = ap (λ (v : View). v.source) c.open_destination.ensures.told.vie
 
 pub copy_page-copy-requires-clause-sweeps : goal.copy_page-copy-requires-clause-sweeps
 copy_page-copy-requires-clause-sweeps g c =
-    let at = (goal.at.copy_page-copy-requires-clause-sweeps g c).After-open_destination in
-    let t = c.requires.next in (t.0, sweeping g at t.0 t.1, t.2)
+    let t = c.requires.next in (t.0, sweeping g ((goal.at.copy_page-copy-requires-clause-sweeps g c).After-open_destination) t.0 t.1, t.2)
 
 pub copy_page-copy-requires-clause-destination : goal.copy_page-copy-requires-clause-destination
 copy_page-copy-requires-clause-destination g c = destination g (goal.at.copy_page-copy-requires-clause-destination g c).After-open_destination
@@ -74,9 +64,8 @@ move_to-moved-requires-clause-broom g c = let t = c.requires.next in
 
 pub move_to-moved-requires-clause-sector : goal.move_to-moved-requires-clause-sector
 move_to-moved-requires-clause-sector g c =
-    let l = live g (goal.at.move_to-moved-requires-clause-sector g c).After-open_destination in
     let numbers = c.requires.next.1.seat.numbers in
-    subst (λ (z : Numbers). c.in-Some.sector < z.sectors) numbers l.low
+    subst (λ (z : Numbers). c.in-Some.sector < z.sectors) numbers (live g (goal.at.move_to-moved-requires-clause-sector g c).After-open_destination).low
 
 pub move_to-moved-requires-clause-fits : goal.move_to-moved-requires-clause-fits
 move_to-moved-requires-clause-fits g c =
@@ -120,13 +109,11 @@ moved_sweeps g c x h =
 
 pub close_if_full-requires-clause-sweeps : goal.close_if_full-requires-clause-sweeps
 close_if_full-requires-clause-sweeps g c =
-    let at = (goal.at.close_if_full-requires-clause-sweeps g c).After-move_to-moved in
-    let t = c.requires.next in (t.0, moved_sweeps g at t.0 t.1)
+    let t = c.requires.next in (t.0, moved_sweeps g ((goal.at.close_if_full-requires-clause-sweeps g c).After-move_to-moved) t.0 t.1)
 
 pub close_if_full-requires-clause-destination : goal.close_if_full-requires-clause-destination
 close_if_full-requires-clause-destination g c =
-    let at = (goal.at.close_if_full-requires-clause-destination g c).After-open_destination in
-    let d = destination g at in (
+    let d = destination g ((goal.at.close_if_full-requires-clause-destination g c).After-open_destination) in (
       record d.0 { written = d.0.written + 1 },
       ap (λ (x : BroomBlocks). x.destination) (c.move_to-moved.ensures.blocks ∙ c.copy_page-copy.ensures.blocks d.0 d.1),
     )
@@ -138,17 +125,15 @@ returns-in_default-clause-told g c =
 
 pub returns-clause-told : goal.returns-clause-told
 returns-clause-told g c =
-    let f = c.args.flash.now in
     let moved = (goal.at.returns-clause-told g c).After-move_to-moved in
-    let at = (goal.at.After-move_to-moved g moved).After-copy_page-copy in
     let opened = (goal.at.After-move_to-moved g moved).After-open_destination in
     let d = destination g opened in
     let h = c.requires.next in
     let t = the_move g moved in
     let room = (sweeping g opened h.0 h.1).destination d.0 d.1 in
-    live_cleared f c.args.seat.now c.live_sector.new.seat c.open_destination.new.seat c.copy_page-copy.new.seat c.move_to-moved.new.broom
+    live_cleared c.args.flash.now c.args.seat.now c.live_sector.new.seat c.open_destination.new.seat c.copy_page-copy.new.seat c.move_to-moved.new.broom
     c.close_if_full.new.seat c.args.page c.in-Some.sector (live g opened) c.live_sector.ensures.blocks
-    c.open_destination.ensures.told d.0 room.room d.1 c.copy_page-copy.result (the_copy g at)
+    c.open_destination.ensures.told d.0 room.room d.1 c.copy_page-copy.result (the_copy g ((goal.at.After-move_to-moved g moved).After-copy_page-copy))
     (c.copy_page-copy.ensures.blocks d.0 d.1) t.0 c.move_to-moved.result t.1 t.2 c.move_to-moved.ensures.blocks c.close_if_full.ensures.told
 
 pub returns-clause-sweeps : goal.returns-clause-sweeps

@@ -1,11 +1,10 @@
+use Rattle.broom.proofs.{Leaving.can_close, relocation.close_if_full.Goals.In-Some, relocation.close_if_full.Goals.After-pages}
 use Rattle.std.proofs.Common.{◌≡◌, Some, sym, ap, ◌∙◌, arith}
 use Rattle.geometry.specs.Geometry.{pages_of}
 use Rattle.flash_rule.specs.Views.{without}
-use Rattle.flash_table.specs.declared.broom_seat.BroomBlocks.{BroomBlocks}
-use Rattle.flash_table.specs.Flash.{broom_view, own_blocks, geometry_of}
-use Rattle.broom.proofs.Clearing.{close_can, closed_tidied, closed_sweeps, left_tidied, left_sweeps}
+use Rattle.flash_table.specs.{declared.broom_seat.BroomBlocks.BroomBlocks, Flash.broom_view, Flash.own_blocks, Flash.geometry_of}
+use Rattle.broom.proofs.Clearing.{closed_tidied, closed_sweeps, left_tidied, left_sweeps}
 use Rattle.broom.proofs.relocation.close_if_full.Goals as goal
-use Rattle.broom.proofs.relocation.close_if_full.Goals.{In-Some, After-pages}
 
 opened : (c : In-Some) → (own_blocks c.args.seat.now).destination ≡ Some c.in-Some.destination
 opened c = ap (λ (x : BroomBlocks). x.destination) (sym c.blocks-2.ensures) ∙ c.in-Some.is
@@ -17,7 +16,7 @@ pub close_destination-requires-clause-settled : goal.close_destination-requires-
 close_destination-requires-clause-settled c =
     let is = opened (goal.at.close_destination-requires-clause-settled c).In-Some in
     let g = c.requires.sweeps.1 in
-    (c.in-Some.destination, is, close_can c.args.flash.now c.args.seat.now c.in-Some.destination is g.filed, (g.destination c.in-Some.destination is).low)
+    (c.in-Some.destination, is, can_close c.args.seat.now g.filed c.in-Some.destination is, (g.destination c.in-Some.destination is).low)
 
 pub returns-then-destination-pages-clause-told : goal.returns-then-destination-pages-clause-told
 returns-then-destination-pages-clause-told c =

@@ -1,19 +1,14 @@
 use Rattle.std.proofs.Common.{◌≡◌, ℕ, ◌+◌, List, Some, sym, refl, ap, ◌∙◌, subst, arith}
 use Rattle.geometry.specs.Geometry.{numbers_of, pages_of, words_of}
-use Rattle.flash_rule.specs.declared.facts.Source.{Source}
-use Rattle.flash_rule.specs.declared.view.View.{View}
+use Rattle.flash_rule.specs.{declared.facts.Source.Source, declared.view.View.View, Plays.next_page}
 use Rattle.flash_rule.proofs.Owning.{some_same}
-use Rattle.flash_rule.specs.Plays.{next_page}
-use Rattle.flash_table.specs.Owning.{owned_of}
-use Rattle.flash_table.specs.declared.pass.OpenBlock.{OpenBlock}
-use Rattle.flash_table.specs.declared.broom_seat.BroomBlocks.{BroomBlocks}
-use Rattle.flash_table.specs.Flash.{broom_view, own_blocks, geometry_of}
+use Rattle.flash_table.specs.{Owning.owned_of, Flash.broom_view, Flash.own_blocks, Flash.geometry_of}
+use Rattle.flash_table.specs.declared.{pass.OpenBlock.OpenBlock, broom_seat.BroomBlocks.BroomBlocks}
 use Rattle.flash_table.proofs.Told.{starts_same}
-use Rattle.broom.specs.Ready.{HasRoom}
-use Rattle.broom.specs.Relocating.{Copied}
+use Rattle.broom.specs.{Ready.HasRoom, Relocating.Copied}
 use Rattle.broom.proofs.Copying.{Filling, filling_none, filling_can, filling_same, filling_more, put_work, filled_can, copied, copied_sweeps}
-use Rattle.broom.proofs.relocation.copy_page.Goals as goal
 use Rattle.broom.proofs.relocation.copy_page.Goals.{In-Some, In-loop-i, After-get_source_word-word, After-loop-i, After-put_copy_word-2}
+use Rattle.broom.proofs.relocation.copy_page.Goals as goal
 
 -- the destination, with the room that it has
 opened : (c : In-Some) → (own_blocks c.args.seat.now).destination ≡ Some c.in-Some.destination
@@ -52,8 +47,7 @@ read : (c : After-get_source_word-word) (o : OpenBlock) → (own_blocks c.args.s
     → Filling c.args.flash.now (broom_view c.args.seat.now) (own_blocks c.args.seat.now) o value c.loop-i.i c.get_source_word-word.new.broom
 read c o there value is =
     let got = c.get_source_word-word.ensures in
-    filling_same c.args.flash.now (broom_view c.args.seat.now)
-    (own_blocks c.args.seat.now) o value c.loop-i.i c.loop-i.seat c.get_source_word-word.new.broom
+    filling_same c.args.flash.now (broom_view c.args.seat.now) (own_blocks c.args.seat.now) o value c.loop-i.i c.loop-i.seat c.get_source_word-word.new.broom
     (c.loop-i.invariant o there value is) got.broom got.same got.blocks
 
 pub put_copy_word-requires-clause-next : goal.put_copy_word-requires-clause-next
@@ -75,12 +69,11 @@ put_copy_word-requires-clause-next c =
 
 pub put_copy_word-requires-clause-start : goal.put_copy_word-requires-clause-start
 put_copy_word-requires-clause-start c o is =
-    let p = c.in-Some.destination in
     let t = c.requires.source in
     let here = opened (goal.at.put_copy_word-requires-clause-start c).In-Some in
-    let h = read (goal.at.put_copy_word-requires-clause-start c).After-get_source_word-word p here t.0 t.1 in
-    starts_same (numbers_of (geometry_of c.args.flash.now)) c.page_start-start.result p o
-    (own_blocks c.get_source_word-word.new.broom).destination c.page_start-start.ensures (ap (λ (x : BroomBlocks). x.destination) h.kept ∙ h.opened) is
+    let h = read (goal.at.put_copy_word-requires-clause-start c).After-get_source_word-word c.in-Some.destination here t.0 t.1 in
+    starts_same (numbers_of (geometry_of c.args.flash.now)) c.page_start-start.result c.page_start-start.ensures
+    (ap (λ (x : BroomBlocks). x.destination) h.kept ∙ h.opened) is
 
 pub loop-i-preserved : goal.loop-i-preserved
 loop-i-preserved c o there value is =
@@ -137,15 +130,13 @@ put_copy_word-requires-2-clause-next c =
 
 pub put_copy_word-requires-2-clause-start : goal.put_copy_word-requires-2-clause-start
 put_copy_word-requires-2-clause-start c o is =
-    let p = c.in-Some.destination in
     let t = c.requires.source in
     let h = full (goal.at.put_copy_word-requires-2-clause-start c).After-loop-i t.0 t.1 in
-    starts_same (numbers_of (geometry_of c.args.flash.now)) c.page_start-start.result p o
-    (own_blocks c.loop-i.seat).destination c.page_start-start.ensures (ap (λ (x : BroomBlocks). x.destination) h.kept ∙ h.opened) is
+    starts_same (numbers_of (geometry_of c.args.flash.now)) c.page_start-start.result c.page_start-start.ensures
+    (ap (λ (x : BroomBlocks). x.destination) h.kept ∙ h.opened) is
 
 pub count_copy-requires-clause-filled : goal.count_copy-requires-clause-filled
 count_copy-requires-clause-filled c =
-    let f = c.args.flash.now in
     let at = (goal.at.count_copy-requires-clause-filled c).After-put_copy_word-2 in
     let o = c.in-Some.destination in
     let t = c.requires.source in
@@ -155,7 +146,7 @@ count_copy-requires-clause-filled c =
       o,
       put_work o c.loop-i.seat c.args.sector,
       ap (λ (x : BroomBlocks). x.destination) (put.blocks ∙ h.kept) ∙ h.opened,
-      filled_can f (broom_view c.args.seat.now) (own_blocks c.args.seat.now) o t.0 c.args.sector c.loop-i.seat c.put_copy_word-2.new.broom h
+      filled_can c.args.flash.now (broom_view c.args.seat.now) (own_blocks c.args.seat.now) o t.0 c.args.sector c.loop-i.seat c.put_copy_word-2.new.broom h
           (stamped at t.0 t.1) put.broom put.blocks,
       r.room,
       r.low,
@@ -201,5 +192,4 @@ returns-clause-sweeps c x g =
     let here = ap (λ (x : BroomBlocks). x.destination) (put.blocks ∙ h.kept) ∙ h.opened in
     let counted = c.count_copy.ensures.counted p (put_work p c.loop-i.seat c.args.sector) here can in
     copied_sweeps f (broom_view c.args.seat.now) (own_blocks c.args.seat.now) p t.0 c.args.sector c.loop-i.seat c.put_copy_word-2.new.broom h now
-    put.broom put.blocks c.count_copy.new.broom counted x c.args.seat.now g refl refl
-    c.count_copy.ensures.broom (c.count_copy.ensures.blocks p here)
+    put.broom put.blocks c.count_copy.new.broom counted x c.args.seat.now g refl refl c.count_copy.ensures.broom (c.count_copy.ensures.blocks p here)

@@ -1,6 +1,5 @@
 use Rattle.std.proofs.Common.{◌≡◌, ℕ, Some, List}
-use Rattle.flash_table.specs.Flash.{broom_view, own_blocks}
-use Rattle.flash_table.specs.declared.pass.OpenBlock.{OpenBlock}
+use Rattle.flash_table.specs.{Flash.broom_view, Flash.own_blocks, declared.pass.OpenBlock.OpenBlock}
 use Rattle.broom.proofs.Copying.{Filling}
 use Rattle.broom.proofs.relocation.copy_page.Given as goal
 

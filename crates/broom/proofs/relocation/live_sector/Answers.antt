@@ -1,16 +1,12 @@
 use Rattle.std.proofs.Common.{◌≡◌, ◌+◌, None, Some, sym, ap, ◌∙◌, subst, arith}
-use Rattle.geometry.specs.Geometry.{pages_of, sectors_of}
-use Rattle.geometry.specs.Limits.{Numbers}
-use Rattle.geometry.specs.MapWords.{FitsMap}
+use Rattle.geometry.specs.{Geometry.pages_of, Geometry.sectors_of, Limits.Numbers, MapWords.FitsMap}
 use Rattle.flash_rule.specs.declared.view.View.{View}
-use Rattle.flash_table.specs.Flash.{broom_view, geometry_of}
-use Rattle.flash_table.specs.declared.broom_seat.ReclaimedBlock.{ReclaimedBlock}
-use Rattle.broom.specs.Emptying.{victim_page}
-use Rattle.broom.specs.Relocating.{Sweeps, Relocated}
-use Rattle.broom.proofs.Sweeping.{Untouched, untouched_source, relocated_source, sweeps_on, page_fits, stamp_dead, callers_same}
-use Rattle.broom.proofs.Sweeping.{look_callers, look_live, look_dead, found_dead_then, found_live_then}
-use Rattle.broom.proofs.relocation.live_sector.Goals as goal
+use Rattle.flash_table.specs.{Flash.broom_view, Flash.geometry_of, declared.broom_seat.ReclaimedBlock.ReclaimedBlock}
+use Rattle.broom.specs.{Emptying.victim_page, Relocating.Sweeps, Relocating.Relocated}
+use Rattle.broom.proofs.Sweeping.{Untouched, untouched_source, relocated_source, sweeps_on, page_fits, stamp_dead, callers_same, look_callers, look_live}
+use Rattle.broom.proofs.Sweeping.{look_dead, found_dead_then, found_live_then}
 use Rattle.broom.proofs.relocation.live_sector.Goals.{After-sectors, After-found}
+use Rattle.broom.proofs.relocation.live_sector.Goals as goal
 
 -- the numbers of the seat are the device's
 sectors_are : (c : After-sectors) → (broom_view c.args.seat.now).numbers.sectors ≡ c.sectors.result
@@ -63,15 +59,11 @@ alone c = let v = broom_view c.args.seat.now in
 
 sweeping : (c : After-found) (x : ReclaimedBlock) → Sweeps c.args.flash.now c.args.seat.now x → Sweeps c.args.flash.now c.broom_look-named.new.broom x
 sweeping c x h =
-    let v = broom_view c.args.seat.now in
-    let w = broom_view c.get_stamp-stamp.new.broom in
     let y = broom_view c.broom_look-named.new.broom in
-    let e = source_is c in
     let look = c.broom_look-named.ensures in
     sweeps_on c.args.flash.now (pages_of (geometry_of c.args.flash.now)) c.args.seat.now c.broom_look-named.new.broom x h look.broom
-    (look.blocks ∙ c.get_stamp-stamp.ensures.blocks)
-    (ap (λ (z : View). z.work) look.named.changed ∙ ap (λ (z : View). z.work) e)
-    (look_callers w y c.get_stamp-stamp.result c.broom_look-named.result look.named)
+    (look.blocks ∙ c.get_stamp-stamp.ensures.blocks) (ap (λ (z : View). z.work) look.named.changed ∙ ap (λ (z : View). z.work) (source_is c))
+    (look_callers (broom_view c.get_stamp-stamp.new.broom) y c.get_stamp-stamp.result c.broom_look-named.result look.named)
 
 pub returns-then-found-clause-told : goal.returns-then-found-clause-told
 returns-then-found-clause-told c =
@@ -94,14 +86,13 @@ returns-then-found-clause-sweeps c = sweeping (goal.at.returns-then-found-clause
 pub returns-else-found-clause-told : goal.returns-else-found-clause-told
 returns-else-found-clause-told c =
     let at = (goal.at.returns-else-found-clause-told c).After-found in
-    let v = broom_view c.args.seat.now in
     let w = broom_view c.get_stamp-stamp.new.broom in
     let y = broom_view c.broom_look-named.new.broom in
     let e = source_is at in
     let t = c.requires.next in
     let fits = subst FitsMap (sym t.2.0)
     (page_fits c.args.flash.now (pages_of (geometry_of c.args.flash.now)) c.args.seat.now t.0 c.args.page.page t.1 t.2.1) in
-    found_dead_then v w y c.args.page (began at) (ap (λ (z : View). z.cleared) e) (alone at)
+    found_dead_then (broom_view c.args.seat.now) w y c.args.page (began at) (ap (λ (z : View). z.cleared) e) (alone at)
     (look_dead w y c.get_stamp-stamp.result c.broom_look-named.result c.broom_look-named.ensures.named c.args.page
     (ap (λ (z : View). z.source) e) c.broom_look-named.ensures.fits fits c.if-found.ensures)
 

@@ -1,14 +1,11 @@
 use Rattle.std.proofs.Common.{◌≡◌, ℕ, ◌+◌, ◌≤◌, sym, refl, ap, ◌∙◌, subst, arith}
 use Rattle.geometry.specs.Geometry.{pages_of}
-use Rattle.flash_table.specs.declared.broom_seat.BroomBlocks.{BroomBlocks}
-use Rattle.flash_table.specs.declared.broom_seat.ReclaimedBlock.{ReclaimedBlock}
+use Rattle.flash_table.specs.declared.broom_seat.{BroomBlocks.BroomBlocks, ReclaimedBlock.ReclaimedBlock}
 use Rattle.flash_table.specs.Flash.{broom_view, own_blocks, geometry_of}
-use Rattle.broom.specs.Emptying.{HasEmptied, count_if}
-use Rattle.broom.specs.Relocating.{Sweeps, room_left}
+use Rattle.broom.specs.{Emptying.HasEmptied, Emptying.count_if, Relocating.Sweeps, Relocating.room_left}
 use Rattle.broom.proofs.Clearing.{clearing_none, clearing_more, same_victim}
-use Rattle.broom.proofs.relocation.relocate.Given.{Over}
+use Rattle.broom.proofs.relocation.relocate.{Given.Over, Goals.In-Draining, Goals.then-clear_page, Goals.else-clear_page}
 use Rattle.broom.proofs.relocation.relocate.Goals as goal
-use Rattle.broom.proofs.relocation.relocate.Goals.{In-Draining, then-clear_page, else-clear_page}
 
 -- a block that the broom sweeps is the one that the code found
 is_victim : (g : Over) (c : In-Draining g) (x : ReclaimedBlock) → Sweeps c.args.flash.now c.args.seat.now x → x ≡ c.in-Draining.victim
@@ -36,8 +33,7 @@ loop-page-preserved g c =
     let more =
     λ (sum : c.if-clear_page.copied ≡ c.loop-page.copied + count_if c.clear_page.result).
     clearing_more f (broom_view c.args.seat.now) (own_blocks c.args.seat.now) c.in-Draining.victim c.loop-page.page c.loop-page.copied
-    c.if-clear_page.copied c.clear_page.result c.loop-page.seat c.clear_page.new.seat h
-    (told.sweeps c.in-Draining.victim h.sweeps) told.told sum in
+    c.if-clear_page.copied c.clear_page.result c.loop-page.seat c.clear_page.new.seat h (told.sweeps c.in-Draining.victim h.sweeps) told.told sum in
     elim c.if-clear_page.branch [
       | then-clear_page w ↦ more (let one : count_if c.clear_page.result ≡ 1 = ap count_if w.if-clear_page.true in let e = w.copied-is in omega arith)
       | else-clear_page w ↦ more (let none : count_if c.clear_page.result ≡ 0 = ap count_if w.if-clear_page.false in let e = w.copied-is in omega arith)

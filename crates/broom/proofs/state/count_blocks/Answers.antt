@@ -2,7 +2,7 @@ use Rattle.std.proofs.Common.{◌≡◌, ◌∙◌, ◌+◌, sym, ap, subst, ari
 use Rattle.geometry.specs.Geometry.{blocks_of}
 use Rattle.flash_table.specs.Flash.{geometry_of, device}
 use Rattle.broom.specs.Counting.{FitsOneMore}
-use Rattle.broom.proofs.StateCounts.{LoadedBelow, has_room, loaded_below_none, loaded_below_more, loaded_below_all}
+use Rattle.broom.proofs.StateCounts.{LoadedBelow, has_room, loaded_below_none, loaded_below_more}
 use Rattle.broom.proofs.state.count_blocks.Goals as goal
 
 pub loop-block-init : goal.loop-block-init

@@ -1,15 +1,12 @@
-use Rattle.std.proofs.Common.{◌≡◌, ℕ, ◌<◌, ◌⊎◌, inl, inr, Bool, true, false, List, refl, sym, ap, ◌∙◌, arith, get_or, set}
-use Rattle.std.proofs.lemmas.List.{set-get_or}
+use Rattle.std.proofs.Common.{◌≡◌, ◌⊎◌, inl, inr, true, false, refl, sym, ap, ◌∙◌, arith}
 use Rattle.geometry.specs.Greedy.{IsClosed}
 use Rattle.flash_rule.specs.declared.view.View.{View}
 use Rattle.flash_table.specs.Flash.{broom_view, device}
 use Rattle.broom.specs.Loading.{HasState}
-use Rattle.broom.proofs.Loading.{loaded_changes}
+use Rattle.broom.proofs.{Loading.loaded_changes, Renewing.rested_loaded, Unmarking.ready_unmarked, Unmarking.ready_loaded}
 use Rattle.broom.proofs.Marking.{marks_loaded, marks_reloaded, mark_read, same_state}
-use Rattle.broom.proofs.Renewing.{rested_loaded}
-use Rattle.broom.proofs.Unmarking.{ready_unmarked, ready_loaded}
-use Rattle.broom.proofs.state.load_state.Goals as goal
 use Rattle.broom.proofs.state.load_state.Goals.{else-index-via-then-index+else-pack, else-index-via-else-index}
+use Rattle.broom.proofs.state.load_state.Goals as goal
 
 pub returns-then-pack-clause-ready : goal.returns-then-pack-clause-ready
 returns-then-pack-clause-ready c =

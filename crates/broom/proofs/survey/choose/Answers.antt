@@ -1,19 +1,13 @@
 use Rattle.std.proofs.Common.{◌≡◌, ℕ, List, Bool, length, sym, ap, ◌∙◌, subst, arith}
 use Rattle.std.specs.Vec.{with_items}
 use Rattle.std.proofs.lemmas.List.{with_items_is}
-use Rattle.geometry.specs.Geometry.{blocks_of}
-use Rattle.geometry.specs.Greedy.{greedy_of}
-use Rattle.geometry.specs.declared.pin_word.PinWord.{PinWord}
+use Rattle.geometry.specs.{Geometry.blocks_of, Greedy.greedy_of, declared.pin_word.PinWord.PinWord}
 use Rattle.flash_rule.specs.declared.view.View.{View}
 use Rattle.flash_table.specs.Flash.{broom_view, geometry_of, device}
-use Rattle.broom.specs.declared.broom.Broom.{Broom}
-use Rattle.broom.specs.Ready.{IsReady, AreMarked, view_of_broom}
-use Rattle.broom.specs.Surveying.{PagesCounted}
-use Rattle.broom.proofs.Choosing.{chooses, rested_surveyed}
-use Rattle.broom.proofs.Marking.{marks_surveyed, marks_kept}
-use Rattle.broom.proofs.Ranks.{forgotten}
+use Rattle.broom.specs.{declared.broom.Broom.Broom, Surveying.PagesCounted, Ready.IsReady, Ready.AreMarked, Ready.view_of_broom}
+use Rattle.broom.proofs.{Choosing.chooses, Choosing.rested_surveyed, Marking.marks_surveyed, Marking.marks_kept}
+use Rattle.broom.proofs.{Ranks.forgotten, survey.choose.Goals.After-forget}
 use Rattle.broom.proofs.survey.choose.Goals as goal
-use Rattle.broom.proofs.survey.choose.Goals.{After-forget}
 
 -- the broom with what the survey found
 abbrev after : After-forget → Broom

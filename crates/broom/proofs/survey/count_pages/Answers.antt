@@ -1,12 +1,11 @@
 use Rattle.std.proofs.Common.{◌≡◌, ℕ, [], ◌<◌, ◌∷◌, ◌++◌, List, None, Some, length, sym, ap, ◌∙◌, subst, arith}
 use Rattle.std.proofs.lemmas.Grind.{common_steps}
-use Rattle.geometry.specs.Geometry.{sectors_of}
-use Rattle.geometry.specs.Limits.{Numbers}
+use Rattle.geometry.specs.{Geometry.sectors_of, Limits.Numbers}
 use Rattle.broom.specs.declared.broom.TheConstants.{NOT_LOADED}
 use Rattle.flash_table.specs.Flash.{broom_view, own_blocks, geometry_of}
 use Rattle.broom.proofs.Counting.{Counts, counted_none, counted_more, counts_empty, counts_other, counts_live, counted_all, generation_at, look_within}
-use Rattle.broom.proofs.survey.count_pages.Goals as goal
 use Rattle.broom.proofs.survey.count_pages.Goals.{In-Some, then-states-block, else-states-block}
+use Rattle.broom.proofs.survey.count_pages.Goals as goal
 
 pub loop-sector-init : goal.loop-sector-init
 loop-sector-init c = counted_none c.args.flash.now c.args.seat.now c.args.states.now c.fill.new.self

@@ -1,14 +1,10 @@
 use Rattle.std.proofs.Common.{◌≡◌, ℕ, Option, Some, IfSome, sym, ap, ◌∙◌, subst, arith, get_or}
-use Rattle.std.proofs.lemmas.Grind.{common_steps}
-use Rattle.std.proofs.lemmas.List.{get_or_default}
-use Rattle.geometry.specs.Geometry.{pages_of}
-use Rattle.geometry.specs.Limits.{Numbers}
+use Rattle.std.proofs.lemmas.{Grind.common_steps, List.get_or_default}
+use Rattle.geometry.specs.{Geometry.pages_of, Limits.Numbers}
 use Rattle.geometry.proofs.GreedyLemmas.{greedy_of-closed}
-use Rattle.broom.specs.Ready.{view_of_broom}
-use Rattle.broom.specs.Told.{next_of, counts_kept}
-use Rattle.broom.proofs.Choosing.{next_low}
+use Rattle.broom.specs.{Ready.view_of_broom, Told.next_of, Told.counts_kept}
+use Rattle.broom.proofs.{Choosing.next_low, survey.gains.Goals.In-Some}
 use Rattle.broom.proofs.survey.gains.Goals as goal
-use Rattle.broom.proofs.survey.gains.Goals.{In-Some}
 
 next_is : (c : In-Some) → Some c.in-Some.victim ≡ next_of c.args.broom.now
 next_is c = sym c.in-Some.is ∙ c.requires.next

@@ -1,7 +1,6 @@
 use Rattle.std.proofs.Common.{◌∙◌}
 use Rattle.broom.specs.Told.{NextTold}
-use Rattle.broom.proofs.Keeping.{still_queued, still_at}
-use Rattle.broom.proofs.Turning.{drained_none, drained_one}
+use Rattle.broom.proofs.{Keeping.still_queued, Keeping.still_at, Turning.drained_none, Turning.drained_one}
 use Rattle.broom.proofs.turns.drain_next_one.Goals as goal
 
 pub returns-in_default : goal.returns-in_default

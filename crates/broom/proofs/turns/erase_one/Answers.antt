@@ -1,6 +1,5 @@
 use Rattle.std.proofs.Common.{◌<◌, ◌∙◌, subst}
-use Rattle.broom.proofs.Keeping.{still_queued, still_at}
-use Rattle.broom.proofs.Turning.{erased_one, pinned_one}
+use Rattle.broom.proofs.{Keeping.still_queued, Keeping.still_at, Turning.erased_one, Turning.pinned_one}
 use Rattle.broom.proofs.turns.erase_one.Goals as goal
 
 pub returns-in_default-answer : goal.returns-in_default-answer

@@ -1,8 +1,5 @@
-use Rattle.std.proofs.Common.{◌≡◌, sym, ap, ◌∙◌, subst, arith}
-use Rattle.std.proofs.lemmas.Grind.{common_steps}
-use Rattle.flash_rule.specs.World.{sector_word}
-use Rattle.flash_rule.specs.declared.view.View.{View}
-use Rattle.flash_rule.specs.Plays.{Looked}
+use Rattle.std.proofs.{Common.◌≡◌, Common.sym, Common.ap, Common.◌∙◌, Common.subst, Common.arith, lemmas.Grind.common_steps}
+use Rattle.flash_rule.specs.{World.sector_word, Plays.Looked, declared.view.View.View}
 use Rattle.flash_rule.specs.Seats.{host_of, lent_note, home, lender, given_note}
 use Rattle.flash_table.specs.Flash.{view_of, note_view}
 use Rattle.host.specs.Told.{MetTold}
@@ -42,9 +39,8 @@ returns-clause-told c =
     let looked = subst (λ (x : View). Looked x 0 (sector_word c.look.result) w) hosted c.look.ensures.told in
     let came : view_of c.come_home.new.pass ≡ home (lender v') (given_note w) =
     c.come_home.ensures.told ∙ (λ i. home (c.lend-note.ensures.told i) (c.give_back-note.ensures.note.0 i)) in
-    let again = subst (λ (x : View). Looked x 0 (sector_word c.look-2.result) u) came c.look-2.ensures.told in
     let t = told v v' w _ c.requires.first.rested.pass.role c.requires.second.rested.pass.role looked u _ c.requires.first.rested.alone
-    c.requires.second.rested.whole again in
+    c.requires.second.rested.whole (subst (λ (x : View). Looked x 0 (sector_word c.look-2.result) u) came c.look-2.ensures.told) in
     subst (λ (x : View). MetTold v v' x u) (sym c.give_back-note.ensures.told) t
 
 pub returns-clause-first : goal.returns-clause-first

@@ -1,14 +1,10 @@
 use Rattle.std.proofs.Common.{◌≡◌, sym, ap, ◌∙◌, subst}
-use Rattle.flash_rule.specs.World.{sector_word}
-use Rattle.flash_rule.specs.declared.view.View.{View}
-use Rattle.flash_rule.specs.Plays.{Looked, Spared}
+use Rattle.flash_rule.specs.{World.sector_word, declared.view.View.View, Plays.Looked, Plays.Spared}
 use Rattle.flash_rule.specs.Seats.{carried, giver, host_of, lent_note, home, given_note}
 use Rattle.flash_table.specs.Flash.{view_of, note_view}
-use Rattle.host.specs.Holding.{page_of, pass_of}
-use Rattle.host.specs.Told.{MetHolding}
-use Rattle.host.proofs.Meetings.{lent, holds_guest, holds_given, met_holding}
+use Rattle.host.specs.{Holding.page_of, Holding.pass_of, Told.MetHolding}
+use Rattle.host.proofs.{Meetings.lent, Meetings.holds_guest, Meetings.holds_given, Meetings.met_holding, meeting.meet_holding.Goals.After-get_word}
 use Rattle.host.proofs.meeting.meet_holding.Goals as goal
-use Rattle.host.proofs.meeting.meet_holding.Goals.{After-get_word}
 
 pub take_in-requires-clause-lent : goal.take_in-requires-clause-lent
 take_in-requires-clause-lent c = lent (view_of c.args.other.now) (note_view c.lend-note.result) c.lend-note.ensures.note.0

@@ -1,8 +1,7 @@
 use Rattle.std.proofs.Common.{sym, ap, ◌∙◌}
 use Rattle.flash_table.specs.Flash.{view_of}
-use Rattle.host.proofs.Meetings.{nothing_left, closed}
+use Rattle.host.proofs.{Meetings.nothing_left, Meetings.closed, meeting.retire.Goals.then-is_some, meeting.retire.Goals.else-is_some}
 use Rattle.host.proofs.meeting.retire.Goals as goal
-use Rattle.host.proofs.meeting.retire.Goals.{then-is_some, else-is_some}
 
 pub returns : goal.returns
 returns c = elim c.if-is_some.branch [

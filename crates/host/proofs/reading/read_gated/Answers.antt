@@ -1,5 +1,4 @@
-use Rattle.std.proofs.Common.{arith, rules}
-use Rattle.std.proofs.lemmas.Grind.{common_steps}
+use Rattle.std.proofs.{Common.arith, Common.rules, lemmas.Grind.common_steps}
 use Rattle.host.proofs.reading.read_gated.Goals as goal
 
 pub returns-clause-pass : goal.returns-clause-pass

@@ -1,12 +1,8 @@
 use Rattle.std.proofs.Common.{◌≡◌, ◌∙◌, ap, sym, arith, rules, subst}
 use mathlib.Core.Logic.{dite}
 use native.Mathlib.Decide.{ℕ_discrete}
-use Rattle.geometry.specs.Geometry.{words_of}
-use Rattle.geometry.specs.PageBytes.{word_of}
-use Rattle.flash_rule.specs.declared.view.View.{View}
-use Rattle.flash_rule.specs.World.{data_word}
-use Rattle.flash_rule.specs.declared.facts.Pin.TheVariants.{Accepted}
-use Rattle.flash_rule.specs.Plays.{Spared}
+use Rattle.geometry.specs.{Geometry.words_of, PageBytes.word_of}
+use Rattle.flash_rule.specs.{declared.view.View.View, declared.facts.Pin.TheVariants.Accepted, World.data_word, Plays.Spared}
 use Rattle.flash_table.specs.Flash.{geometry_of, view_of}
 use Rattle.host.proofs.ReadingPages.{pinned_same, value_read}
 use Rattle.host.proofs.searching.read_page.Goals as goal

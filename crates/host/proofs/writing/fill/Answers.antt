@@ -1,15 +1,12 @@
 use Rattle.std.proofs.Common.{◌≡◌, ◌<◌, Some, sym, ap, ◌∙◌, subst, arith}
-use Rattle.geometry.specs.Geometry.{numbers_of, blocks_of, pages_of, words_of}
-use Rattle.geometry.specs.declared.map_word.MapWord.{MapWord}
+use Rattle.geometry.specs.{Geometry.numbers_of, Geometry.blocks_of, Geometry.pages_of, Geometry.words_of, declared.map_word.MapWord.MapWord}
 use Rattle.flash_rule.specs.Plays.{next_page}
-use Rattle.flash_table.specs.Owning.{owned_of}
-use Rattle.flash_table.specs.declared.pass.OpenBlock.{OpenBlock}
-use Rattle.flash_table.specs.Flash.{view_of, opened_of, geometry_of}
+use Rattle.flash_table.specs.{Owning.owned_of, declared.pass.OpenBlock.OpenBlock, Flash.view_of, Flash.opened_of, Flash.geometry_of}
 use Rattle.flash_table.proofs.Told.{same_block, starts_same}
 use Rattle.host.specs.Filling.{Filled}
 use Rattle.host.proofs.WritingSteps.{Filling, filling_none, filling_can, filling_more, word_is, filled_can, filled, put_work}
-use Rattle.host.proofs.writing.fill.Goals as goal
 use Rattle.host.proofs.writing.fill.Goals.{In-Some, After-loop-i}
+use Rattle.host.proofs.writing.fill.Goals as goal
 
 opened : (c : In-Some) → opened_of c.args.pass.now ≡ Some c.in-Some.opened
 opened c = sym c.opened.ensures ∙ c.in-Some.is
@@ -21,7 +18,7 @@ room c =
     let f = c.args.flash.now in
     let t = c.requires.room in
     let P : OpenBlock → Type 0 = λ x. (x.block < blocks_of (geometry_of f)) × (x.written < pages_of (geometry_of f)) in
-    subst P (same_block t.0 c.in-Some.opened (opened_of c.args.pass.now) t.1 (opened c)) (t.2, t.3)
+    subst P (same_block t.1 (opened c)) (t.2, t.3)
 
 pub page_start-start-requires-clause-block : goal.page_start-start-requires-clause-block
 page_start-start-requires-clause-block c = (room (goal.at.page_start-start-requires-clause-block c).In-Some).0
@@ -55,10 +52,8 @@ put_word-requires-clause-next c =
 
 pub put_word-requires-clause-start : goal.put_word-requires-clause-start
 put_word-requires-clause-start c o is =
-    let f = c.args.flash.now in
-    let p = c.in-Some.opened in
-    let h = c.loop-i.invariant p (opened (goal.at.put_word-requires-clause-start c).In-Some) in
-    starts_same (numbers_of (geometry_of f)) c.page_start-start.result p o (opened_of c.loop-i.pass) c.page_start-start.ensures h.opened is
+    let h = c.loop-i.invariant c.in-Some.opened (opened (goal.at.put_word-requires-clause-start c).In-Some) in
+    starts_same (numbers_of (geometry_of c.args.flash.now)) c.page_start-start.result c.page_start-start.ensures h.opened is
 
 -- all words of the value stand in the page
 full : (c : After-loop-i) (o : OpenBlock) → opened_of c.args.pass.now ≡ Some o
@@ -91,10 +86,8 @@ put_word-requires-2-clause-next c =
 
 pub put_word-requires-2-clause-start : goal.put_word-requires-2-clause-start
 put_word-requires-2-clause-start c o is =
-    let f = c.args.flash.now in
-    let p = c.in-Some.opened in
-    let h = c.loop-i.invariant p (opened (goal.at.put_word-requires-2-clause-start c).In-Some) in
-    starts_same (numbers_of (geometry_of f)) c.page_start-start.result p o (opened_of c.loop-i.pass) c.page_start-start.ensures h.opened is
+    let h = c.loop-i.invariant c.in-Some.opened (opened (goal.at.put_word-requires-2-clause-start c).In-Some) in
+    starts_same (numbers_of (geometry_of c.args.flash.now)) c.page_start-start.result c.page_start-start.ensures h.opened is
 
 pub count-requires-clause-filled : goal.count-requires-clause-filled
 count-requires-clause-filled c =
@@ -119,12 +112,11 @@ returns-clause-filled c o is =
     let here = opened (goal.at.returns-clause-filled c).In-Some in
     let h = full (goal.at.returns-clause-filled c).After-loop-i p here in
     let told = c.put_word-2.ensures.told p h.opened in
-    let now = c.put_word-2.ensures.opened ∙ h.opened in
     let can = filled_can f (view_of c.args.pass.now) p c.args.bytes.now c.args.sector c.loop-i.pass c.put_word-2.new.pass h told c.put_word-2.ensures.opened in
-    let counted = c.count.ensures.told p (put_work p c.loop-i.pass c.args.sector) now can in
+    let counted = c.count.ensures.told p (put_work p c.loop-i.pass c.args.sector) (c.put_word-2.ensures.opened ∙ h.opened) can in
     let done = filled f (view_of c.args.pass.now) p c.args.bytes.now c.args.sector c.loop-i.pass c.put_word-2.new.pass h told
     (view_of c.count.new.pass) counted c.requires.page c.type_inv.bytes in
-    let same = same_block p o (opened_of c.args.pass.now) here is in
+    let same = same_block here is in
     let page : OpenBlock → MapWord = λ x. next_page (owned_of x) in
     let P : OpenBlock → Type 0 = λ x. Filled (view_of c.args.pass.now) x c.args.sector c.args.bytes.now (page p) (view_of c.count.new.pass) in subst P same done
 

@@ -1,6 +1,5 @@
 use Rattle.std.proofs.Common.{◌≡◌, Some}
-use Rattle.flash_table.specs.Flash.{view_of, opened_of}
-use Rattle.flash_table.specs.declared.pass.OpenBlock.{OpenBlock}
+use Rattle.flash_table.specs.{Flash.view_of, Flash.opened_of, declared.pass.OpenBlock.OpenBlock}
 use Rattle.host.proofs.WritingSteps.{Filling}
 use Rattle.host.proofs.writing.fill.Given as goal
 

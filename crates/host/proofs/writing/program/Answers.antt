@@ -1,11 +1,9 @@
 use Rattle.std.proofs.Common.{sym, ap, ◌∙◌, subst, is_some}
-use Rattle.flash_table.specs.declared.pass.OpenBlock.{OpenBlock}
-use Rattle.flash_table.specs.declared.pass.Pass.{Pass}
-use Rattle.flash_table.specs.Flash.{view_of, opened_of}
+use Rattle.flash_table.specs.{declared.pass.OpenBlock.OpenBlock, declared.pass.Pass.Pass, Flash.view_of, Flash.opened_of}
 use Rattle.host.specs.Filling.{Starts}
 use Rattle.host.proofs.WritingCalls.{not_some, some_open, starts_open, starts_taken}
-use Rattle.host.proofs.writing.program.Goals as goal
 use Rattle.host.proofs.writing.program.Goals.{else-is_none-via-then-is_none+else-not-take_lowest, else-is_none-via-else-is_none}
+use Rattle.host.proofs.writing.program.Goals as goal
 
 pub returns-clause-filled : goal.returns-clause-filled
 returns-clause-filled c =

@@ -1,14 +1,10 @@
 use Rattle.std.proofs.Common.{ℕ, subst}
-use Rattle.geometry.specs.History.{WriteNew}
-use Rattle.geometry.specs.declared.answer.Was.{Was}
-use Rattle.flash_table.specs.Flash.{view_of}
-use Rattle.flash_table.specs.Steps.{HasNumber}
-use Rattle.host.specs.Ready.{IsReady}
-use Rattle.host.specs.Told.{WroteNew}
+use Rattle.geometry.specs.{History.WriteNew, declared.answer.Was.Was}
+use Rattle.flash_table.specs.{Flash.view_of, Steps.HasNumber}
+use Rattle.host.specs.{Ready.IsReady, Told.WroteNew}
 use Rattle.host.proofs.WritingCalls.{exchanged_settled, write_done, write_ready}
-use Rattle.host.proofs.writing_new.write_new_gated.Given.{Over}
+use Rattle.host.proofs.writing_new.write_new_gated.{Given.Over, Goals.After-close_if_full}
 use Rattle.host.proofs.writing_new.write_new_gated.Goals as goal
-use Rattle.host.proofs.writing_new.write_new_gated.Goals.{After-close_if_full}
 
 pub close_if_full-requires-clause-settled : goal.close_if_full-requires-clause-settled
 close_if_full-requires-clause-settled g c =

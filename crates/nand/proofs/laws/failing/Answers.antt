@@ -3,6 +3,6 @@ use Rattle.nand.proofs.laws.failing.Goals as goal
 
 pub returns-clause-reopens : goal.returns-clause-reopens
 returns-clause-reopens c old new u updates v held sectors fails = ⊎_elim
-    (λ before. let written = before.0.written 3 0 8 5 v held in omega (arith, written.2, sectors))
-    (λ after. let written = after.0.written 3 0 8 5 v held in omega (arith, written.2, sectors))
+    (λ before. let written = before.readable.written 3 0 8 5 v held in omega (arith, written.2, sectors))
+    (λ after. let written = after.readable.written 3 0 8 5 v held in omega (arith, written.2, sectors))
     fails.reopens

@@ -1,6 +1,6 @@
-use Rattle.std.proofs.Common.{◌≡◌, ◌∙◌, ⊎_elim, ◌<◌, ℕ, true, false, [], ◌∷◌, refl, sym, ap, arith}
+use Rattle.std.proofs.Common.{◌≡◌, ◌∙◌, ⊎_elim, ◌<◌, ℕ, zero, suc, true, false, [], ◌∷◌, refl, sym, ap, arith}
 use Rattle.std.proofs.lemmas.Bool.{cases_eq, false≢true}
-use Rattle.nand.specs.Numbers.{chip_block, is_marked}
+use Rattle.nand.specs.Numbers.{chip_block, good_before, is_marked}
 use Rattle.nand.proofs.Orders.{other_chip_block}
 use Rattle.nand.proofs.laws.orders.Goals as goal
 
@@ -25,6 +25,13 @@ returns-clause-every c numbers bad is = (is.to 1, is.within 1 (omega arith), is.
 pub returns-clause-lies : goal.returns-clause-lies
 returns-clause-lies c numbers bad is = is.lies 1 (omega arith)
 
+all_good : (n : ℕ) → good_before [] n ≡ n
+all_good zero = refl
+all_good (suc n) = omega (arith, all_good n)
+
+pub returns-clause-ranked : goal.returns-clause-ranked
+returns-clause-ranked c numbers is = sym (all_good (chip_block numbers 1)) ∙ is.ranked 1 (omega arith)
+
 pub returns-clause-in_order : goal.returns-clause-in_order
 returns-clause-in_order c = record {
   to = λ b. b;
@@ -33,6 +40,7 @@ returns-clause-in_order c = record {
   within = λ b lt. lt;
   lies = λ c lt. lt;
   good = λ c lt. refl;
+  ranked = λ c lt. all_good c;
   others = λ c le lt. absurd (omega (arith, le, lt));
   rest = λ c le. refl;
 }

@@ -1,5 +1,4 @@
-use Rattle.std.proofs.Common.{Some}
-use Rattle.std.proofs.lemmas.List.Elements.{All-pop}
+use Rattle.std.proofs.{Common.Some, lemmas.List.Elements.All-pop}
 use Rattle.volume.specs.Brooms.{IsBroomReady}
 use Rattle.shared_acceptance.proofs.actor_setup.next_broom.Goals as goal
 

@@ -1,5 +1,4 @@
-use Rattle.std.proofs.Common.{Some}
-use Rattle.std.proofs.lemmas.List.Elements.{All-pop}
+use Rattle.std.proofs.{Common.Some, lemmas.List.Elements.All-pop}
 use Rattle.host.specs.Ready.{IsReady}
 use Rattle.volume.specs.Volume.{flash_of}
 use Rattle.shared_acceptance.proofs.actor_setup.next_host.Goals as goal

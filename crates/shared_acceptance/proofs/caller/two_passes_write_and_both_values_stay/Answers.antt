@@ -1,6 +1,5 @@
 use Rattle.std.proofs.Common.{ap, ◌∙◌}
-use Rattle.geometry.specs.Geometry.{hosts_of, sectors_of}
-use Rattle.geometry.specs.Limits.{Numbers}
+use Rattle.geometry.specs.{Geometry.hosts_of, Geometry.sectors_of, Limits.Numbers}
 use Rattle.shared_acceptance.proofs.caller.two_passes_write_and_both_values_stay.Goals as goal
 
 pub two_writers-requires-clause-hosts : goal.two_writers-requires-clause-hosts

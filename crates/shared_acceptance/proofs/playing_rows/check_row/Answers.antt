@@ -1,7 +1,5 @@
 use Rattle.std.proofs.Common.{◌*◌, refl, ap, ◌∙◌}
-use Rattle.geometry.specs.Geometry.{page_bytes_of, words_of}
-use Rattle.geometry.specs.Limits.{Numbers}
-use Rattle.geometry.specs.declared.limits.TheConstants.{WORD_BYTES}
+use Rattle.geometry.specs.{Geometry.page_bytes_of, Geometry.words_of, Limits.Numbers, declared.limits.TheConstants.WORD_BYTES}
 use Rattle.shared_acceptance.proofs.playing_rows.check_row.Goals as goal
 
 pub play-passes-requires-clause-home : goal.play-passes-requires-clause-home

@@ -1,8 +1,5 @@
-use Rattle.std.proofs.Common.{◌≡◌, ◌*◌, ◌<◌, ℕ, sym, ap, ◌∙◌, arith}
-use Rattle.std.proofs.lemmas.List.Elements.{All-set}
-use Rattle.geometry.specs.Geometry.{sectors_of, page_bytes_of}
-use Rattle.geometry.specs.Limits.{Numbers}
-use Rattle.geometry.specs.declared.limits.TheConstants.{WORD_BYTES}
+use Rattle.std.proofs.{Common.◌≡◌, Common.◌*◌, Common.◌<◌, Common.ℕ, Common.sym, Common.ap, Common.◌∙◌, Common.arith, lemmas.List.Elements.All-set}
+use Rattle.geometry.specs.{Geometry.sectors_of, Geometry.page_bytes_of, Limits.Numbers, declared.limits.TheConstants.WORD_BYTES}
 use Rattle.host.specs.Ready.{IsReady}
 use Rattle.volume.specs.Volume.{flash_of}
 use Rattle.shared_acceptance.proofs.sizes.the_largest_device_is_opened_and_closed.Goals as goal
@@ -11,8 +8,7 @@ below : (n : ℕ) → n ≡ 1048576 → 1048575 < n
 below n e = omega arith
 
 pub write-requires-clause-sector : goal.write-requires-clause-sector
-write-requires-clause-sector g c =
-    below _ (ap sectors_of c.in_ok-volume.ensures.geometry ∙ ap (λ (z : Numbers). z.sectors) c.in_ok-geometry.ensures.given)
+write-requires-clause-sector g c = below _ (ap sectors_of c.in_ok-volume.ensures.geometry ∙ ap (λ (z : Numbers). z.sectors) c.in_ok-geometry.ensures.given)
 
 pub write-requires-clause-page : goal.write-requires-clause-page
 write-requires-clause-page g c =

@@ -1,11 +1,7 @@
 use Rattle.std.proofs.Common.{rules, ◌≡◌, sym, ap, ◌∙◌, arith}
-use Rattle.geometry.specs.Geometry.{endurance_of}
-use Rattle.geometry.specs.Limits.{Numbers}
-use Rattle.geometry.specs.PinWords.{pin_word}
-use Rattle.geometry.specs.declared.pin_word.Phase.TheVariants.{Drained}
+use Rattle.geometry.specs.{Geometry.endurance_of, Limits.Numbers, PinWords.pin_word, declared.pin_word.Phase.TheVariants.Drained}
 use Rattle.flash_rule.specs.declared.view.View.{View}
-use Rattle.flash_table.specs.declared.broom_seat.BroomBlocks.{BroomBlocks}
-use Rattle.flash_table.specs.declared.broom_seat.Reclaiming.TheVariants.{Nothing}
+use Rattle.flash_table.specs.declared.broom_seat.{BroomBlocks.BroomBlocks, Reclaiming.TheVariants.Nothing}
 use Rattle.flash_table.specs.Flash.{broom_view, own_blocks, geometry_of}
 use Rattle.broom.proofs.Renewing.{was_wiped, its, did_retire, rested_retired}
 use Rattle.shared_acceptance.proofs.Rested.{rested_loaded}
@@ -55,8 +51,7 @@ returns-clause-seat c =
     let drained : p.phase ≡ Drained = search rules in
     let loaded : own_blocks c.load_state-state.new.broom ≡ own_blocks s = c.load_state-state.ensures.blocks in
     let wiped = was_wiped f s c.load_state-state.new.broom c.condemn.new.broom t c.args.block p c.requires.seat c.load_state-state.ensures.fits
-    drained (omega arith) c.load_state-state.ensures.loaded loaded
-    c.if-not-condemn.ensures.condemned c.wipe_all.ensures.wiped c.wipe_all.ensures.blocks in
+    drained (omega arith) c.load_state-state.ensures.loaded loaded c.if-not-condemn.ensures.condemned c.wipe_all.ensures.wiped c.wipe_all.ensures.blocks in
     let endures : c.endurance.result ≡ (broom_view s).numbers.endurance =
     c.endurance.ensures.value ∙ (ap endurance_of c.geometry.ensures ∙ ap (λ (z : Numbers). z.endurance) (sym c.requires.seat.seat.numbers)) in
     let done = did_retire s t u c.args.block p wiped (c.if-state-endurance.false ∙ endures)

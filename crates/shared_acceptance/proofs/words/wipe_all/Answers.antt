@@ -1,14 +1,13 @@
 use Rattle.std.proofs.Common.{◌≡◌, ◌+◌, ◌*◌, sym, ap, ◌∙◌, arith}
 use Rattle.geometry.specs.Geometry.{pages_of, words_of}
 use Rattle.flash_rule.specs.declared.view.View.{View}
-use Rattle.flash_table.specs.declared.broom_seat.BroomBlocks.{BroomBlocks}
-use Rattle.flash_table.specs.declared.broom_seat.Reclaiming.TheVariants as reclaiming
-use Rattle.flash_table.specs.Erasing.{IsErasing, words_in_block}
+use Rattle.flash_table.specs.{declared.broom_seat.BroomBlocks.BroomBlocks, Erasing.IsErasing, Erasing.words_in_block}
 use Rattle.flash_table.specs.Flash.{broom_view, own_blocks, geometry_of, device}
 use Rattle.flash_table.proofs.ToldErasing.{of_erased, begins_same}
 use Rattle.broom.proofs.Wiping.{wiped_none, wiped_more, still_erases}
-use Rattle.shared_acceptance.proofs.words.wipe_all.Goals as goal
 use Rattle.shared_acceptance.proofs.words.wipe_all.Goals.{In-Erasing}
+use Rattle.flash_table.specs.declared.broom_seat.Reclaiming.TheVariants as reclaiming
+use Rattle.shared_acceptance.proofs.words.wipe_all.Goals as goal
 
 -- the block that the seat erases
 its : (c : In-Erasing) → (own_blocks c.args.seat.now).reclaiming ≡ reclaiming.Erasing c.in-Erasing.erased
@@ -16,11 +15,9 @@ its c = ap (λ (x : BroomBlocks). x.reclaiming) (sym c.blocks-2.ensures) ∙ c.i
 
 pub page_start-start-requires-clause-block : goal.page_start-start-requires-clause-block
 page_start-start-requires-clause-block c =
-    let f = c.args.flash.now in
-    let s = c.args.seat.now in
     let o = c.requires.erasing in
     let is = its (goal.at.page_start-start-requires-clause-block c).In-Erasing in
-    (of_erased f s c.requires.seat (λ x. IsErasing f s x) c.in-Erasing.erased is o.0 o.1.its o.1).low
+    (of_erased c.requires.seat (λ x. IsErasing c.args.flash.now c.args.seat.now x) c.in-Erasing.erased is o.0 o.1.its o.1).low
 
 pub page_start-start-requires-clause-page : goal.page_start-start-requires-clause-page
 page_start-start-requires-clause-page c = c.args.flash.now.geometry.in_limits.pages_low
@@ -37,9 +34,8 @@ wipe-requires-clause-next c = sym (ap (λ (v : View). v.wiped) c.loop-i.invarian
 
 pub wipe-requires-clause-start : goal.wipe-requires-clause-start
 wipe-requires-clause-start c o is =
-    let here = its (goal.at.wipe-requires-clause-start c).In-Erasing in
-    begins_same (device c.args.flash.now) c.page_start-start.result c.in-Erasing.erased o (own_blocks c.loop-i.seat).reclaiming
-    c.page_start-start.ensures (ap (λ (x : BroomBlocks). x.reclaiming) c.loop-i.invariant.blocks ∙ here) is
+    begins_same (device c.args.flash.now) c.page_start-start.result
+    c.page_start-start.ensures (ap (λ (x : BroomBlocks). x.reclaiming) c.loop-i.invariant.blocks ∙ (its (goal.at.wipe-requires-clause-start c).In-Erasing)) is
 
 pub loop-i-preserved : goal.loop-i-preserved
 loop-i-preserved c =

@@ -1,18 +1,11 @@
-use Rattle.std.proofs.Common.{◌≡◌, ℕ, List, length, sym, ap, ◌∙◌, subst, arith}
+use Rattle.std.proofs.{Common.◌≡◌, Common.ℕ, Common.List, Common.length, Common.sym, Common.ap, Common.◌∙◌, Common.subst, Common.arith, lemmas.List.length-map}
 use Rattle.std.specs.Arc.{arc_value}
-use Rattle.std.proofs.lemmas.List.{length-map}
 use Rattle.geometry.specs.Geometry.{hosts_of}
-use Rattle.rounds.specs.declared.answer_list.Answers.{Answers}
-use Rattle.volume.specs.declared.volume.Volume.{Volume}
-use Rattle.volume.specs.Volume.{flash_of}
+use Rattle.rounds.specs.{declared.answer_list.Answers.Answers, Plans.ends_of}
+use Rattle.volume.specs.{declared.volume.Volume.Volume, Volume.flash_of}
 use Rattle.flash_table.specs.Flash.{geometry_of}
-use Rattle.rounds.specs.Plans.{ends_of}
-use Rattle.workers.specs.Served.{AreAtRunStart}
-use Rattle.workers.specs.Workers.{answers_kept}
-use Rattle.workers.specs.Runs.{HasBegun}
-use Rattle.workers.proofs.Ended.{all_paged, all_played}
-use Rattle.workers.proofs.Collected.{collected_long}
-use Rattle.workers.proofs.Serving.{all_served}
+use Rattle.workers.specs.{Served.AreAtRunStart, Runs.HasBegun, Workers.answers_kept}
+use Rattle.workers.proofs.{Ended.all_paged, Ended.all_played, Collected.collected_long, Serving.all_served}
 use Rattle.workers.proofs.commands.play_commands.Goals as goal
 
 pub fold_collectors-requires-clause-room : goal.fold_collectors-requires-clause-room
@@ -50,10 +43,9 @@ returns-clause-pages g c =
 
 pub returns-clause-brooms : goal.returns-clause-brooms
 returns-clause-brooms g c =
-    let volume = c.deref-2.result.now in
     let before = c.in_ok-volume.team.collectors.items in
     let after = c.in_ok-team.team.collectors.items in
-    all_served volume c.args.geometry.now c.args.drains before after c.fold_collectors.new.ends.items
+    all_served c.deref-2.result.now c.args.geometry.now c.args.drains before after c.fold_collectors.new.ends.items
     (ap (λ (v : Volume). geometry_of (flash_of v)) c.deref-2.ensures ∙ c.in_ok-volume.ensures.geometry)
     (collected_long before after c.in_ok-team.ensures.collected ∙ c.in_ok-volume.ensures.collectors)
     (subst (λ (v : Volume). AreAtRunStart v c.args.drains 0 before) (sym c.deref-2.ensures) c.in_ok-volume.ensures.first) c.in_ok-team.ensures.collected

@@ -1,27 +1,17 @@
 use Rattle.std.proofs.Common.{◌≡◌, ℕ, All, List, Some, length, sym, ap, ◌∙◌, subst, arith}
-use Rattle.std.specs.Prelude.{slice_get}
-use Rattle.std.specs.Arc.{arc_value}
+use Rattle.std.specs.{Prelude.slice_get, Arc.arc_value}
 use Rattle.std.proofs.lemmas.List.{length-map}
-use Rattle.geometry.specs.Geometry.{hosts_of}
-use Rattle.geometry.specs.declared.geometry.Geometry.{Geometry}
-use Rattle.flash_table.specs.declared.pass.Pass.{Pass}
-use Rattle.flash_table.specs.Flash.{view_of, device, geometry_of, first_view}
+use Rattle.geometry.specs.{Geometry.hosts_of, declared.geometry.Geometry.Geometry}
+use Rattle.flash_table.specs.{declared.pass.Pass.Pass, Flash.view_of, Flash.device, Flash.geometry_of, Flash.first_view}
 use Rattle.host.specs.Ready.{IsReady}
 use Rattle.broom.specs.declared.broom.Broom.{Broom}
 use Rattle.trace.specs.declared.commands.Command.{Command}
-use Rattle.volume.specs.declared.volume.Volume.{Volume}
-use Rattle.volume.specs.Brooms.{IsBroomReady, IsUnused}
-use Rattle.volume.specs.Volume.{flash_of}
+use Rattle.volume.specs.{declared.volume.Volume.Volume, Volume.flash_of, Brooms.IsBroomReady, Brooms.IsUnused}
 use Rattle.rounds.specs.Plans.{ends_of}
-use Rattle.workers.specs.declared.worker.Worker.{Worker}
-use Rattle.workers.specs.declared.collector.Collector.{Collector}
-use Rattle.workers.specs.Meetings.{IsAt}
-use Rattle.workers.specs.Runs.{AreManned, HasBegun}
-use Rattle.workers.specs.Served.{AreAtRunStart, HasCountedNone}
+use Rattle.workers.specs.declared.{worker.Worker.Worker, collector.Collector.Collector}
+use Rattle.workers.specs.{Meetings.IsAt, Runs.AreManned, Runs.HasBegun, Served.AreAtRunStart, Served.HasCountedNone}
 use Rattle.workers.specs.Shares.{HasFitShare, IsOwner, with_commands, work_in}
-use Rattle.workers.proofs.Counting.{zero_plus}
-use Rattle.workers.proofs.Serving.{all_first}
-use Rattle.workers.proofs.Openings.{begun, manned, row_count, rows_doable}
+use Rattle.workers.proofs.{Counting.zero_plus, Serving.all_first, Openings.begun, Openings.manned, Openings.row_count, Openings.rows_doable}
 use Rattle.workers.proofs.dealing.deal.Goals as goal
 
 pub make_shares-requires : goal.make_shares-requires
@@ -103,9 +93,8 @@ returns-clause-geometry c = ap (λ (v : Volume). geometry_of (flash_of v)) c.int
 
 pub returns-clause-collectors : goal.returns-clause-collectors
 returns-clause-collectors c =
-    let same = ap (length {A = Collector}) c.in_ok-new.ensures.collectors in
     let brooms = ap (length {A = Broom}) c.into_parts-volume.ensures.brooms in
-    same ∙ (c.seat_collectors.ensures.count ∙ (brooms ∙ c.in_ok-unseated.ensures.collecting))
+    (ap (length {A = Collector}) c.in_ok-new.ensures.collectors) ∙ (c.seat_collectors.ensures.count ∙ (brooms ∙ c.in_ok-unseated.ensures.collecting))
 
 pub returns-clause-begun : goal.returns-clause-begun
 returns-clause-begun c =

@@ -1,11 +1,8 @@
-use Rattle.std.proofs.Common.{length, refl, sym, ap, subst, arith}
-use Rattle.std.proofs.lemmas.Grind.{common_steps}
+use Rattle.std.proofs.{Common.length, Common.refl, Common.sym, Common.ap, Common.subst, Common.arith, lemmas.Grind.common_steps}
 use Rattle.broom.specs.declared.broom.Broom.{Broom}
-use Rattle.volume.specs.declared.volume.Volume.{Volume}
-use Rattle.volume.specs.Brooms.{IsBroomReady}
+use Rattle.volume.specs.{declared.volume.Volume.Volume, Brooms.IsBroomReady}
 use Rattle.volume.proofs.FreshBrooms.{taken}
-use Rattle.workers.specs.Served.{HasCountedNone, broom_of}
-use Rattle.workers.specs.Shares.{IsOwner}
+use Rattle.workers.specs.{Served.HasCountedNone, Served.broom_of, Shares.IsOwner}
 use Rattle.workers.proofs.Dealt.{moved_in, pushed_all}
 use Rattle.workers.proofs.dealing.seat_collectors.Goals as goal
 

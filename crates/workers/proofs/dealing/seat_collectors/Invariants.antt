@@ -1,7 +1,6 @@
 use Rattle.std.proofs.Common.{◌≡◌, ◌+◌, ◌≤◌, ◌++◌, All, length, map, vec_len, vec_capacity}
 use Rattle.volume.specs.Brooms.{IsBroomReady}
-use Rattle.workers.specs.Served.{HasCountedNone, broom_of}
-use Rattle.workers.specs.Shares.{IsOwner}
+use Rattle.workers.specs.{Served.HasCountedNone, Served.broom_of, Shares.IsOwner}
 use Rattle.workers.proofs.dealing.seat_collectors.Given as goal
 
 abbrev pub invariant-loop-broom : goal.invariant-loop-broom

@@ -1,14 +1,9 @@
-use Rattle.std.proofs.Common.{length, sym, ap, ◌∙◌, subst, arith}
-use Rattle.std.proofs.lemmas.Grind.{common_steps}
-use Rattle.flash_table.specs.declared.pass.Pass.{Pass}
-use Rattle.flash_table.specs.Flash.{geometry_of}
+use Rattle.std.proofs.{Common.length, Common.sym, Common.ap, Common.◌∙◌, Common.subst, Common.arith, lemmas.Grind.common_steps}
+use Rattle.flash_table.specs.{declared.pass.Pass.Pass, Flash.geometry_of}
 use Rattle.host.specs.Ready.{IsReady}
-use Rattle.volume.specs.declared.volume.Volume.{Volume}
-use Rattle.volume.specs.Volume.{flash_of}
+use Rattle.volume.specs.{declared.volume.Volume.Volume, Volume.flash_of}
 use Rattle.volume.proofs.FreshBrooms.{taken}
-use Rattle.workers.specs.declared.worker.Worker.{Worker}
-use Rattle.workers.specs.declared.share.Share.{Share}
-use Rattle.workers.specs.Meetings.{IsAt}
+use Rattle.workers.specs.{declared.worker.Worker.Worker, declared.share.Share.Share, Meetings.IsAt}
 use Rattle.workers.specs.Shares.{HasFitShare, HasPlayedNone, IsOwner, work_in, work_of}
 use Rattle.workers.proofs.Dealt.{moved, moved_in, pushed_all}
 use Rattle.workers.proofs.dealing.seat_workers.Goals as goal

@@ -1,8 +1,6 @@
 use Rattle.std.proofs.Common.{◌≡◌, List, [], ◌∷◌, length, sym, ap, ◌∙◌, subst, append-nil, append_assoc, arith}
 use Rattle.std.proofs.lemmas.List.{nil_from_length}
-use Rattle.workers.specs.declared.collector.Collector.{Collector}
-use Rattle.workers.specs.declared.collector_end.CollectorEnd.{CollectorEnd}
-use Rattle.workers.specs.Folding.{HasFolded, HaveFolded}
+use Rattle.workers.specs.{declared.collector.Collector.Collector, declared.collector_end.CollectorEnd.CollectorEnd, Folding.HasFolded, Folding.HaveFolded}
 use Rattle.workers.proofs.leaving.fold_collectors.Goals as goal
 
 pub loop-collector-preserved : goal.loop-collector-preserved

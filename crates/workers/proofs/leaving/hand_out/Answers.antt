@@ -1,5 +1,4 @@
-use Rattle.std.proofs.Common.{arith}
-use Rattle.std.proofs.lemmas.Grind.{common_steps}
+use Rattle.std.proofs.{Common.arith, lemmas.Grind.common_steps}
 use Rattle.workers.proofs.leaving.hand_out.Goals as goal
 
 pub loop-worker-init : goal.loop-worker-init

@@ -1,5 +1,4 @@
-use Rattle.std.proofs.Common.{All, subst}
-use Rattle.std.proofs.lemmas.List.Elements.{All-head, All-tail}
+use Rattle.std.proofs.{Common.All, Common.subst, lemmas.List.Elements.All-head, lemmas.List.Elements.All-tail}
 use Rattle.workers.specs.Meetings.{IsAt}
 use Rattle.workers.proofs.Meeting.{same_at, all_same_at, workers_met, workers_seated, rests_met}
 use Rattle.workers.proofs.meetings.meet_all.Goals as goal

@@ -2,8 +2,7 @@ use Rattle.std.proofs.Common.{◌≡◌, ◌<◌, arith, refl, ◌∙◌, get_or
 use Rattle.std.proofs.lemmas.List.{get_or_default, length-map}
 use Rattle.volume.specs.Volume.{flash_of}
 use Rattle.volume.proofs.Looks.{begins, met_each}
-use Rattle.workers.specs.declared.worker.Worker.{Worker}
-use Rattle.workers.specs.Meetings.{passes_of}
+use Rattle.workers.specs.{declared.worker.Worker.Worker, Meetings.passes_of}
 use Rattle.workers.proofs.Meeting.{ready_at, all_ready, same_at, all_same_at, meets_more, rests_kept}
 use Rattle.workers.proofs.meetings.meet_others.Goals as goal
 
@@ -45,8 +44,7 @@ loop-other-preserved c =
     record {
       met =
           meets_more volume c.args.first.now.pass (passes_of c.args.others.now) i c.loop-other.first.pass now.pass row x x' c.loop-other.invariant.met
-          there low c.meet_two.ensures.told
-          (ready_at volume now at_now) (ready_at volume x' at_x);
+          there low c.meet_two.ensures.told (ready_at volume now at_now) (ready_at volume x' at_x);
       first = c.meet_two.ensures.first ∙ c.loop-other.invariant.first;
       others = rests_kept row i x x' there low c.meet_two.ensures.second ∙ c.loop-other.invariant.others;
     }

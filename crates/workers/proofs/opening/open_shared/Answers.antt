@@ -1,5 +1,4 @@
-use Rattle.std.proofs.Common.{sym, subst, arith}
-use Rattle.std.proofs.lemmas.Grind.{common_steps}
+use Rattle.std.proofs.{Common.sym, Common.subst, Common.arith, lemmas.Grind.common_steps}
 use Rattle.volume.specs.declared.volume.Volume.{Volume}
 use Rattle.workers.specs.Dealing.{AreNew, AreReady}
 use Rattle.workers.proofs.opening.open_shared.Goals as goal

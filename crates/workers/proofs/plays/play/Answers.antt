@@ -1,12 +1,9 @@
 use Rattle.std.proofs.Common.{◌≡◌, ◌<◌, length, map, take, get_or, ap, subst, ◌∙◌, arith}
-use Rattle.std.proofs.lemmas.List.{length-set, take_all}
-use Rattle.std.proofs.lemmas.List.Elements.{All-set}
+use Rattle.std.proofs.lemmas.List.{length-set, take_all, Elements.All-set}
 use Rattle.std.specs.Vec.{with_items}
 use Rattle.flash_table.specs.Flash.{view_of, geometry_of}
 use Rattle.volume.specs.Volume.{flash_of}
-use Rattle.rounds.specs.Lines.{said}
-use Rattle.rounds.specs.Playing.{Played}
-use Rattle.rounds.specs.declared.answer.Answer.{Answer}
+use Rattle.rounds.specs.{Lines.said, Playing.Played, declared.answer.Answer.Answer}
 use Rattle.workers.specs.Playable.{HasPage}
 use Rattle.workers.proofs.Lines.{playing_none, playing_lent, playing_end, lent_page}
 use Rattle.workers.proofs.plays.play.Goals as goal
@@ -36,7 +33,6 @@ returns-clause-played g c =
     let answers = c.loop-i.answers in
     let past = c.loop-i-test.false in
     let all : map said (take c.loop-i.i answers) ≡ map said answers = ap (map said) (take_all c.loop-i.i answers (omega (arith, c.loop-i.invariant.1))) in
-    λ t role.
-    subst (λ l. Played t c.args.patience (view_of c.args.pass.now) c.args.lines.now l (view_of c.loop-i.pass)) all
+    λ t role. subst (λ l. Played t c.args.patience (view_of c.args.pass.now) c.args.lines.now l (view_of c.loop-i.pass)) all
     (playing_end c.args.volume.now c.args.patience c.args.pass.now c.loop-i.pass c.args.lines.now c.loop-i.i
     (map said (take c.loop-i.i answers)) c.loop-i.invariant.0 (omega arith) t role)

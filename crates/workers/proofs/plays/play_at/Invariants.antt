@@ -4,5 +4,4 @@ use Rattle.workers.proofs.Adding.{Adding}
 use Rattle.workers.proofs.plays.play_at.Given as goal
 
 abbrev pub invariant-loop-i : goal.invariant-loop-i
-invariant-loop-i g l =
-    Adding l.volume l.patience l.fn.pass (lines_at l.commands l.places) l.fn.answers l.i l.pass l.answers × (l.i ≤ length l.places)
+invariant-loop-i g l = Adding l.volume l.patience l.fn.pass (lines_at l.commands l.places) l.fn.answers l.i l.pass l.answers × (l.i ≤ length l.places)

@@ -1,8 +1,5 @@
 use Rattle.std.proofs.Common.{◌≡◌, ℕ, List, sym, ap, subst}
-use Rattle.geometry.specs.Sectors.{Answers}
-use Rattle.geometry.specs.History.{held}
-use Rattle.geometry.specs.Geometry.{sectors_of}
-use Rattle.geometry.specs.Limits.{Numbers}
+use Rattle.geometry.specs.{Sectors.Answers, Geometry.sectors_of, History.held, Limits.Numbers}
 use Rattle.flash_table.specs.Flash.{view_of, geometry_of}
 use Rattle.trace.specs.declared.commands.Op.{Op}
 use Rattle.volume.specs.Volume.{flash_of}
@@ -26,11 +23,10 @@ returns-in-Read-clause-played g c t role =
 
 pub returns-in-Write-clause-played : goal.returns-in-Write-clause-played
 returns-in-Write-clause-played g c t role =
-    let line = c.args.line.now in
     let kind = c.write_patiently.result in
     let bytes = c.copy_into.new.out in
     let P : Op × List ℕ → Type 0 =
-    λ x. PlayedLine t c.args.patience (view_of c.args.pass.now) x.0 line.sector x.1 kind bytes (is_full kind) (view_of c.write_patiently.new.pass) in
+    λ x. PlayedLine t c.args.patience (view_of c.args.pass.now) x.0 c.args.line.now.sector x.1 kind bytes (is_full kind) (view_of c.write_patiently.new.pass) in
     subst P (λ i. (sym c.in-Write.is i, c.copy_into.ensures i)) (c.write_patiently.ensures.played t role)
 
 pub returns-in-New-clause-played : goal.returns-in-New-clause-played

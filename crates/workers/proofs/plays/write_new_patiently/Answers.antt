@@ -19,11 +19,10 @@ returns-in-Ok-clause-played g c t role =
 pub returns-in-Err-Written-clause-played : goal.returns-in-Err-Written-clause-played
 returns-in-Err-Written-clause-played g c t role =
     let waited = c.loop-refused.invariant.1 in
-    let now = ap (λ (v : View). v.role) waited.changed ∙ role in
     let wrote = rw c.in-Err-Written.field-0-is at c.in-Err-Written.ensures.wrote in
     write_line op.New WriteNew a_new_write t c.args.patience c.loop-refused.refused (view_of c.args.pass.now) (view_of c.loop-refused.pass)
     (view_of c.write_new_gated.new.pass) c.args.sector c.args.bytes.now c.args.bytes.now was.Written kind.Written
-    c.loop-refused.pass.opened c.loop-refused.pass.owns c.loop-refused-test.true waited (wrote t now) refl
+    c.loop-refused.pass.opened c.loop-refused.pass.owns c.loop-refused-test.true waited (wrote t (ap (λ (v : View). v.role) waited.changed ∙ role)) refl
 
 pub loop-refused-init : goal.loop-refused-init
 loop-refused-init g c = (c.requires.pass, waited_none (view_of c.args.pass.now), omega arith)

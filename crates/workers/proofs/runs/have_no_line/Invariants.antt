@@ -1,6 +1,5 @@
 use Rattle.std.proofs.Common.{ℕ, ◌<◌, length, get_or}
-use Rattle.workers.specs.declared.worker.Worker.{Worker}
-use Rattle.workers.specs.Workers.{IsIdle}
+use Rattle.workers.specs.{declared.worker.Worker.Worker, Workers.IsIdle}
 use Rattle.workers.proofs.runs.have_no_line.Given as goal
 
 abbrev pub invariant-loop-worker : goal.invariant-loop-worker

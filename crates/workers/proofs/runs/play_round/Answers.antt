@@ -1,11 +1,8 @@
 use Rattle.std.proofs.Common.{List, length, sym, ap, ◌∙◌, subst}
-use Rattle.workers.specs.declared.worker.Worker.{Worker}
-use Rattle.workers.specs.Runs.{AreManned}
-use Rattle.workers.proofs.Lent.{lent_all}
-use Rattle.workers.proofs.Manned.{played_long, manned_played, manned_met}
-use Rattle.workers.proofs.runs.play_round.Given.{Over}
+use Rattle.workers.specs.{declared.worker.Worker.Worker, Runs.AreManned}
+use Rattle.workers.proofs.{Lent.lent_all, Manned.played_long, Manned.manned_played, Manned.manned_met}
+use Rattle.workers.proofs.runs.play_round.{Given.Over, Goals.After-deref_mut}
 use Rattle.workers.proofs.runs.play_round.Goals as goal
-use Rattle.workers.proofs.runs.play_round.Goals.{After-deref_mut}
 
 -- the workers that are lent to the meeting have played, and are manned
 manned_here : (g : Over) (c : After-deref_mut g) → AreManned c.args.volume.now c.deref_mut.result.now

@@ -1,6 +1,5 @@
 use Rattle.std.proofs.Common.{◌≡◌, ◌+◌, ◌∷◌, suc, drop, get_or, subst, arith}
-use Rattle.std.proofs.Math.Seq.{drop-cons}
-use Rattle.std.proofs.lemmas.List.{drop_all}
+use Rattle.std.proofs.{Math.Seq.drop-cons, lemmas.List.drop_all}
 use Rattle.workers.proofs.Looping.{RunState, state_begins, state_next, state_ends}
 use Rattle.workers.proofs.Collected.{all_collected_none, all_collected_then, collected_long}
 use Rattle.workers.proofs.runs.play_rounds.Goals as goal
@@ -39,8 +38,6 @@ loop-i-preserved g c =
 
 pub returns-clause-run : goal.returns-clause-run
 returns-clause-run g c trace begun =
-    let ends = c.args.ends.now in
-    let past = c.loop-i-test.false in
     state_ends c.args.volume.now c.args.patience trace c.args.team.workers.items c.loop-i.team.workers.items c.loop-i.invariant.manned
     (subst (λ l. RunState c.args.volume.now c.args.patience trace c.args.team.workers.items l c.loop-i.team.workers.items)
-    (drop_all c.loop-i.i ends past) (c.loop-i.invariant.run trace begun))
+    (drop_all c.loop-i.i c.args.ends.now c.loop-i-test.false) (c.loop-i.invariant.run trace begun))

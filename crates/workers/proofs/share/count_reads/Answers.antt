@@ -1,15 +1,12 @@
-use Rattle.std.proofs.Common.{◌≡◌, ℕ, suc, ◌+◌, ◌*◌, ◌<◌, ◌++◌, [], ◌∷◌, List, get_or, length}
-use Rattle.std.proofs.Common.{take, sym, refl, ap, ◌∙◌, arith, add-zero, mul-suc}
-use Rattle.std.proofs.lemmas.List.{map_push, take_more}
-use Rattle.std.proofs.lemmas.Option.{get_or_from_slice_get}
-use Rattle.trace.specs.declared.commands.Command.{Command}
-use Rattle.trace.specs.declared.commands.Op.{Op}
-use Rattle.trace.specs.declared.commands.Op.TheVariants as op
+use Rattle.std.proofs.Common.{◌≡◌, ℕ, suc, ◌+◌, ◌*◌, ◌<◌, ◌++◌, [], ◌∷◌, List, get_or, length, take, sym, refl, ap, ◌∙◌, arith, add-zero, mul-suc}
+use Rattle.std.proofs.lemmas.{List.map_push, List.take_more, Option.get_or_from_slice_get}
+use Rattle.trace.specs.declared.commands.{Command.Command, Op.Op}
 use Rattle.rounds.specs.Answers.{space_for, space_of}
 use Rattle.rounds.proofs.Spaces.{space_of-append}
 use Rattle.workers.specs.Playable.{lines_at, no_line}
-use Rattle.workers.proofs.share.count_reads.Goals as goal
 use Rattle.workers.proofs.share.count_reads.Goals.{in-Read, in_default}
+use Rattle.trace.specs.declared.commands.Op.TheVariants as op
+use Rattle.workers.proofs.share.count_reads.Goals as goal
 
 -- the lines at one place more
 lines_more : (cs : List Command) (places : List ℕ) (i : ℕ) → i < length places

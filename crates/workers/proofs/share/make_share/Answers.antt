@@ -3,8 +3,7 @@ use Rattle.std.specs.Arc.{arc_value}
 use Rattle.trace.specs.declared.commands.Command.{Command}
 use Rattle.rounds.specs.Answers.{HasSpace, page_size_of, space_of}
 use Rattle.workers.proofs.Lines.{count_lines}
-use Rattle.workers.specs.Playable.{lines_at}
-use Rattle.workers.specs.Dealing.{IsFit}
+use Rattle.workers.specs.{Playable.lines_at, Dealing.IsFit}
 use Rattle.workers.proofs.share.make_share.Goals as goal
 
 pub count_reads-reads-requires : goal.count_reads-reads-requires
@@ -24,13 +23,12 @@ returns-clause-fit c =
     subst (λ (x : List Command × List ℕ). space_of (page_size_of answers) (lines_at x.0 x.1) ≡ page_size_of answers * reads)
     (λ i. (c.deref.ensures i, c.deref-2.ensures.value i))
     (c.count_reads-reads.ensures (page_size_of answers)) in
-    let bytes = ap (λ (n : ℕ). n * reads) (sym new.page) ∙ sym space in
     subst (λ (lines : List Command). IsFit c.args.geometry.now lines places answers c.in_ok-vec.field-0.items) (sym c.in_ok-try_clone.ensures)
     (record {
       doable = c.requires;
       none = new.none;
       page = new.page ∙ c.page_bytes.ensures;
-      space = subst (λ (x : ℕ × ℕ). HasSpace answers x.0 x.1) (λ i. (long i, bytes i)) new.space;
+      space = subst (λ (x : ℕ × ℕ). HasSpace answers x.0 x.1) (λ i. (long i, (ap (λ (n : ℕ). n * reads) (sym new.page) ∙ sym space) i)) new.space;
       paged = sym c.in_ok-vec.field-0.ok.0 ∙ (c.in_ok-vec.ensures.len ∙ c.page_bytes-2.ensures);
     })
 

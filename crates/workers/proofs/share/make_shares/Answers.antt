@@ -1,12 +1,9 @@
 use Rattle.std.proofs.Common.{ℕ, ◌++◌, All, length, map, sym, ap, subst, arith}
-use Rattle.std.specs.Prelude.{Vec}
-use Rattle.std.specs.Arc.{arc_value}
-use Rattle.std.specs.Global.{Global}
+use Rattle.std.specs.{Prelude.Vec, Arc.arc_value, Global.Global}
 use Rattle.std.proofs.lemmas.List.Elements.{All-nil}
 use Rattle.volume.proofs.FreshBrooms.{taken}
 use Rattle.rounds.specs.Plans.{items_of}
-use Rattle.workers.specs.Dealing.{AreDoable}
-use Rattle.workers.specs.Shares.{HasFitShare, work_in, with_commands}
+use Rattle.workers.specs.{Dealing.AreDoable, Shares.HasFitShare, Shares.work_in, Shares.with_commands}
 use Rattle.workers.proofs.Dealt.{moved, pushed_all}
 use Rattle.workers.proofs.share.make_shares.Goals as goal
 
@@ -26,8 +23,7 @@ loop-row-init c =
 
 pub make_share-requires : goal.make_share-requires
 make_share-requires c =
-    let cs = arc_value c.args.commands.now in
-    (taken (λ row. AreDoable c.args.geometry.now cs (items_of row)) c.in-Some.row c.pop_front.new.self.items c.loop-row.rows.items
+    (taken (λ row. AreDoable c.args.geometry.now (arc_value c.args.commands.now) (items_of row)) c.in-Some.row c.pop_front.new.self.items c.loop-row.rows.items
     c.in-Some.ensures.items c.loop-row.invariant.doable).0
 
 pub loop-row-preserved : goal.loop-row-preserved

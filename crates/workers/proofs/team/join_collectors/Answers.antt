@@ -1,9 +1,7 @@
 use Rattle.std.proofs.Common.{◌≡◌, List, [], ◌∷◌, refl, sym, ◌∙◌, subst, map, append-nil, append_assoc, arith}
 use Rattle.std.proofs.lemmas.List.{nil_from_length}
-use Rattle.workers.specs.declared.collector.Collector.{Collector}
-use Rattle.workers.specs.declared.broom_thread.BroomThread.{BroomThread}
-use Rattle.workers.specs.Collecting.{HaveCollected}
-use Rattle.workers.specs.BroomThreads.{given_to}
+use Rattle.workers.specs.declared.{collector.Collector.Collector, broom_thread.BroomThread.BroomThread}
+use Rattle.workers.specs.{Collecting.HaveCollected, BroomThreads.given_to}
 use Rattle.workers.proofs.team.join_collectors.Goals as goal
 
 pub returns-clause-collected : goal.returns-clause-collected

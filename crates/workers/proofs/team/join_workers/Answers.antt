@@ -1,8 +1,6 @@
 use Rattle.std.proofs.Common.{◌≡◌, List, [], ◌∷◌, refl, sym, ◌∙◌, subst, map, append-nil, append_assoc, arith}
 use Rattle.std.proofs.lemmas.List.{nil_from_length}
-use Rattle.workers.specs.declared.worker.Worker.{Worker}
-use Rattle.workers.specs.declared.tasks.Task.{Task}
-use Rattle.workers.specs.Tasks.{asked, WerePlayed}
+use Rattle.workers.specs.{declared.worker.Worker.Worker, declared.tasks.Task.Task, Tasks.asked, Tasks.WerePlayed}
 use Rattle.workers.proofs.team.join_workers.Goals as goal
 
 pub returns-clause-played : goal.returns-clause-played

@@ -1,6 +1,5 @@
 use Rattle.std.proofs.Common.{◌≡◌, ◌+◌, ◌++◌, List, deque_capacity, deque_len, map}
-use Rattle.workers.specs.declared.worker.Worker.{Worker}
-use Rattle.workers.specs.Tasks.{asked, WerePlayed}
+use Rattle.workers.specs.{declared.worker.Worker.Worker, Tasks.asked, Tasks.WerePlayed}
 use Rattle.workers.proofs.team.join_workers.Given as goal
 
 abbrev pub invariant-loop-task : goal.invariant-loop-task

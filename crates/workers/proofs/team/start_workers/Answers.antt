@@ -1,5 +1,4 @@
-use Rattle.std.proofs.Common.{arith}
-use Rattle.std.proofs.lemmas.Grind.{common_steps}
+use Rattle.std.proofs.{Common.arith, lemmas.Grind.common_steps}
 use Rattle.workers.proofs.team.start_workers.Goals as goal
 
 pub loop-gate-preserved : goal.loop-gate-preserved

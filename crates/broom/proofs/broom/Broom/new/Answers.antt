@@ -1,11 +1,9 @@
 use Rattle.std.proofs.Common.{◌≡◌, Bool, List, length, sym, ap, ◌∙◌, subst, arith}
 use Rattle.std.proofs.lemmas.List.{length-replicate}
-use Rattle.geometry.specs.Geometry.{blocks_of}
+use Rattle.geometry.specs.{Geometry.blocks_of, Greedy.IsClosed}
 use Rattle.flash_table.specs.Flash.{broom_view, geometry_of, device}
 use Rattle.broom.specs.Ready.{AreMarked}
-use Rattle.geometry.specs.Greedy.{IsClosed}
-use Rattle.broom.proofs.Marking.{no_marks, none_marked}
-use Rattle.broom.proofs.Ranks.{begun}
+use Rattle.broom.proofs.{Marking.no_marks, Marking.none_marked, Ranks.begun}
 use Rattle.broom.proofs.broom.Broom.new.Goals as goal
 
 pub returns-clause-ready : goal.returns-clause-ready

@@ -1,6 +1,5 @@
 use Rattle.std.proofs.Common.{◌≡◌, ◌%◌, ◌<◌, ◌∙◌, ap, sym, arith, get_or, length}
-use Rattle.std.proofs.lemmas.Grind.{common_steps}
-use Rattle.std.proofs.lemmas.List.{get_or_default}
+use Rattle.std.proofs.lemmas.{Grind.common_steps, List.get_or_default}
 use Rattle.geometry.specs.Greedy.{IsClosed}
 use Rattle.broom.specs.declared.ranking.TheConstants.{ONE_PAGE}
 use Rattle.broom.proofs.Ranks.{ranked_first, ranked_none}

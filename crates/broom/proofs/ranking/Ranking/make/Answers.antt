@@ -1,5 +1,4 @@
-use Rattle.std.proofs.Common.{arith}
-use Rattle.std.proofs.lemmas.List.Sorted.{IsNonDecreasingBy-from_sort}
+use Rattle.std.proofs.{Common.arith, lemmas.List.Sorted.IsNonDecreasingBy-from_sort}
 use Rattle.broom.proofs.Ranks.{keys_ranked}
 use Rattle.broom.proofs.ranking.Ranking.make.Goals as goal
 

@@ -1,34 +1,15 @@
-use Rattle.std.proofs.Common.{ap, ◌∙◌, subst, arith}
-use Rattle.flash_rule.specs.declared.view.View.{View}
+use Rattle.flash_table.proofs.{Asking.of_broom, HereBrooms.broom_look_here, ToldBrooms.unpacked}
+use Rattle.std.proofs.{Common.subst}
 use Rattle.flash_rule.specs.BroomPlays.{Named}
 use Rattle.flash_table.specs.Flash.{broom_view}
-use Rattle.flash_table.proofs.Asking.{of_broom}
-use Rattle.flash_table.proofs.Rows.{just_now}
-use Rattle.flash_table.proofs.HereBrooms.{broom_look_here}
-use Rattle.flash_table.proofs.ToldBrooms.{stays_broom, unpacked}
-use Rattle.std.proofs.lemmas.Grind.{common_steps}
 use Rattle.flash_table.proofs.flash.Flash.broom_look.Goals as goal
 
 pub load-found-requires : goal.load-found-requires
 load-found-requires c =
-    let s = c.args.broom.now in broom_look_here c.args.self.now s.seat (of_broom c.args.self.now s c.requires.broom) c.args.sector c.requires.sector
-
-pub invariant_of-broom : goal.invariant_of-broom
-invariant_of-broom c =
-    let s = c.args.broom.now in
-    record { bare = c.load-found.ensures.2.0 ∙ s.bare; owns = just_now _ _ _ (ap (λ (w : View). w.owns) c.load-found.ensures.2.1.changed) s.owns }
+    let s = c.args.broom.now in broom_look_here (of_broom c.requires.broom) c.args.sector c.requires.sector
 
 pub returns-clause-named : goal.returns-clause-named
 returns-clause-named c =
     let told = c.load-found.ensures.2.1 in
     let word = unpacked c.unpack.result c.load-found.result c.unpack.ensures.some c.unpack.ensures.none (λ some. let t = told.page some in (t.0, t.2)) in
     subst (λ n. Named (broom_view c.args.broom.now) c.args.sector n c.load-found.new.seat.me.0) word told
-
-pub returns-clause-broom : goal.returns-clause-broom
-returns-clause-broom c =
-    let changed = c.load-found.ensures.2.1.changed in
-    stays_broom c.args.self.now c.args.broom.now _ c.requires.broom c.load-found.ensures.0 (ap (λ (w : View). w.role) changed)
-    (ap (λ (w : View). w.numbers) changed)
-
-pub returns-clause-fits : goal.returns-clause-fits
-returns-clause-fits c = grind (arith, common_steps)

@@ -1,12 +1,5 @@
-use Rattle.std.proofs.Common.{refl}
-use Rattle.flash_table.proofs.Asking.{of_broom}
-use Rattle.flash_table.proofs.Here.{take_in_here}
+use Rattle.flash_table.proofs.{Asking.of_broom, Here.take_in_here}
 use Rattle.flash_table.proofs.flash.Flash.broom_take_in.Goals as goal
 
 pub join_seat-requires : goal.join_seat-requires
-join_seat-requires c =
-    let s = c.args.broom.now in
-    take_in_here c.args.self.now s.seat (of_broom c.args.self.now s c.requires.broom) c.args.note c.requires.note c.requires.lent c.requires.whole
-
-pub returns-clause-blocks : goal.returns-clause-blocks
-returns-clause-blocks c = refl
+join_seat-requires c = take_in_here (of_broom c.requires.broom) c.args.note c.requires.note c.requires.lent c.requires.whole

@@ -1,31 +1,22 @@
+use Rattle.flash_table.proofs.{Asking.whose, Asking.of_broom, HereBrooms.claim_here, Rows.just_now, Blocks.claimed_just}
 use Rattle.std.proofs.Common.{ap, sym, ◌∙◌}
-use Rattle.flash_rule.specs.declared.view.View.{View}
 use Rattle.flash_rule.specs.BroomPlays.{Claimed}
-use Rattle.flash_table.specs.Flash.{broom_view, own_blocks}
-use Rattle.flash_table.specs.declared.broom_seat.ReclaimedBlock.{ReclaimedBlock}
-use Rattle.flash_table.proofs.Asking.{of_broom}
-use Rattle.flash_table.proofs.Rows.{just_now}
-use Rattle.flash_table.proofs.HereBrooms.{claim_here}
-use Rattle.flash_table.proofs.Blocks.{claimed_just}
+use Rattle.flash_table.specs.{Flash.broom_view, Flash.own_blocks, declared.broom_seat.ReclaimedBlock.ReclaimedBlock}
+use Rattle.flash_table.proofs.flash.Flash.claim.Goals.{After-compare_exchange-found}
 use Rattle.flash_table.proofs.ToldBrooms.{is_a_broom, stays_broom, claim_can, claimed_view}
 use Rattle.flash_table.proofs.flash.Flash.claim.Goals as goal
-use Rattle.flash_table.proofs.flash.Flash.claim.Goals.{After-compare_exchange-found}
 
 pub compare_exchange-found-requires : goal.compare_exchange-found-requires
 compare_exchange-found-requires c =
-    let f = c.args.self.now in
-    let s = c.args.broom.now in
-    let can = claim_can f s c.requires.broom c.args.block c.args.state c.requires.block c.requires.state c.requires.loaded c.requires.at_rest in
-    claim_here f s.seat (of_broom f s c.requires.broom) c.pin_at-word.result c.args.block c.pack-expected.result c.args.state c.requires.block
-    c.pin_at-word.ensures c.pack-expected.ensures (is_a_broom f s c.requires.broom) can
+    let can = claim_can c.requires.broom c.args.block c.args.state c.requires.block c.requires.state c.requires.loaded c.requires.at_rest in
+    claim_here (of_broom c.requires.broom) c.args.block c.pack-expected.result c.args.state c.requires.block
+    c.pin_at-word.ensures c.pack-expected.ensures (is_a_broom c.requires.broom) can
 
 claimed : (c : After-compare_exchange-found)
     → Claimed (broom_view c.args.broom.now) c.args.block c.args.state c.compare_exchange-found.result c.compare_exchange-found.new.seat.me.0
 claimed c =
-    let f = c.args.self.now in
-    let s = c.args.broom.now in
-    let can = claim_can f s c.requires.broom c.args.block c.args.state c.requires.block c.requires.state c.requires.loaded c.requires.at_rest in
-    claimed_view f s c.requires.broom c.compare_exchange-found.result c.compare_exchange-found.new.seat.me c.pin_at-word.result c.args.block
+    let can = claim_can c.requires.broom c.args.block c.args.state c.requires.block c.requires.state c.requires.loaded c.requires.at_rest in
+    claimed_view c.requires.broom c.args.block
     c.pack-expected.result c.args.state can c.pin_at-word.ensures c.pack-expected.ensures c.compare_exchange-found.ensures.2
 
 -- ---- the claim was lost
@@ -34,7 +25,7 @@ invariant_of-broom c =
     let s = c.args.broom.now in
     let told = claimed (goal.at.invariant_of-broom c).After-compare_exchange-found in
     let changed = told.lost (λ is. c.if-found-expected.true (is ∙ sym c.pack-expected.ensures)) in
-    record { bare = c.compare_exchange-found.ensures.2.0 ∙ s.bare; owns = just_now _ _ _ (ap (λ (w : View). w.owns) changed) s.owns }
+    record { bare = c.compare_exchange-found.ensures.2.0 ∙ s.bare; owns = just_now changed s.owns }
 
 pub returns-then-found-expected-clause-claimed : goal.returns-then-found-expected-clause-claimed
 returns-then-found-expected-clause-claimed c =
@@ -44,9 +35,7 @@ returns-then-found-expected-clause-claimed c =
 pub returns-then-found-expected-clause-broom : goal.returns-then-found-expected-clause-broom
 returns-then-found-expected-clause-broom c =
     let told = claimed (goal.at.returns-then-found-expected-clause-broom c).After-compare_exchange-found in
-    let changed = told.lost (λ is. c.if-found-expected.true (is ∙ sym c.pack-expected.ensures)) in
-    stays_broom c.args.self.now c.args.broom.now _ c.requires.broom c.compare_exchange-found.ensures.0 (ap (λ (w : View). w.role) changed)
-    (ap (λ (w : View). w.numbers) changed)
+    stays_broom c.requires.broom c.compare_exchange-found.ensures.0 (ap whose (told.lost (λ is. c.if-found-expected.true (is ∙ sym c.pack-expected.ensures))))
 
 -- ---- the block is the broom's victim
 pub invariant_of-broom-2 : goal.invariant_of-broom-2
@@ -57,8 +46,7 @@ invariant_of-broom-2 c =
     let now : ReclaimedBlock = record { block = c.args.block; generation = c.args.state.generation; written = c.args.state.written } in
     record {
       bare = c.compare_exchange-found.ensures.2.0 ∙ s.bare;
-      owns = just_now _ _ _ (ap (λ (w : View). w.owns) (told.won is))
-          (claimed_just (own_blocks s) (broom_view s).owns s.owns now c.requires.at_rest (told.fresh is));
+      owns = just_now (told.won is) (claimed_just (own_blocks s) s.owns now c.requires.at_rest (told.fresh is));
     }
 
 pub returns-clause-claimed : goal.returns-clause-claimed
@@ -67,7 +55,5 @@ returns-clause-claimed c =
 
 pub returns-clause-broom : goal.returns-clause-broom
 returns-clause-broom c =
-    let told = claimed (goal.at.returns-clause-broom c).After-compare_exchange-found in
-    let changed = told.won (c.if-found-expected.false ∙ c.pack-expected.ensures) in
-    stays_broom c.args.self.now c.args.broom.now _ c.requires.broom c.compare_exchange-found.ensures.0 (ap (λ (w : View). w.role) changed)
-    (ap (λ (w : View). w.numbers) changed)
+    let changed = (claimed (goal.at.returns-clause-broom c).After-compare_exchange-found).won (c.if-found-expected.false ∙ c.pack-expected.ensures) in
+    stays_broom c.requires.broom c.compare_exchange-found.ensures.0 (ap whose changed)

@@ -1,29 +1,21 @@
+use Rattle.flash_table.proofs.{Asking.whose, Asking.of_pass, Here.close_here, flash.Flash.close.Goals.After-fetch_add}
 use Rattle.std.proofs.Common.{◌≡◌, ap, ◌∙◌}
 use Rattle.flash_rule.specs.declared.view.View.{View}
-use Rattle.flash_table.specs.Flash.{view_of}
-use Rattle.flash_table.specs.GivingUp.{closed_pass}
-use Rattle.flash_table.specs.Owning.{owned_of}
-use Rattle.flash_table.proofs.Asking.{of_pass}
-use Rattle.flash_table.proofs.Here.{close_here}
+use Rattle.flash_table.specs.{Flash.view_of, Owning.owned_of, GivingUp.closed_pass}
 use Rattle.flash_table.proofs.Told.{stays_pass, close_can, close_view, pass_closed}
 use Rattle.flash_table.proofs.flash.Flash.close.Goals as goal
-use Rattle.flash_table.proofs.flash.Flash.close.Goals.{After-fetch_add}
 
 pub fetch_add-requires : goal.fetch_add-requires
 fetch_add-requires c =
-    let f = c.args.self.now in
-    let p = c.args.pass.now in
-    let can = close_can f.geometry (view_of p) p.opened c.in-Some.opened c.in-Some.is c.requires.settled in
-    close_here f p.seat (of_pass f p c.requires.pass) c.pin_at-word.result (owned_of c.in-Some.opened) can.1 c.pin_at-word.ensures can.0
+    let can = close_can c.args.self.now.geometry (view_of c.args.pass.now) c.in-Some.is c.requires.settled in
+    close_here (of_pass c.requires.pass) (owned_of c.in-Some.opened) can.1 c.pin_at-word.ensures can.0
 
 closed : (c : After-fetch_add) → c.fetch_add.new.seat.me.0 ≡ closed_pass (view_of c.args.pass.now) c.args.pass.now.opened
 closed c =
-    let f = c.args.self.now in
     let p = c.args.pass.now in
     let o = c.in-Some.opened in
-    let can = close_can f.geometry (view_of p) p.opened o c.in-Some.is c.requires.settled in
-    pass_closed p o c.in-Some.is c.fetch_add.new.seat.me.0 (close_view f p.seat (of_pass f p c.requires.pass) c.fetch_add.result c.fetch_add.new.seat.me
-    c.pin_at-word.result o can.0 c.pin_at-word.ensures c.fetch_add.ensures.2)
+    let can = close_can c.args.self.now.geometry (view_of p) c.in-Some.is c.requires.settled in
+    pass_closed p o c.in-Some.is c.fetch_add.new.seat.me.0 (close_view (of_pass c.requires.pass) o can.0 c.pin_at-word.ensures c.fetch_add.ensures.2)
 
 pub invariant_of-pass : goal.invariant_of-pass
 invariant_of-pass c = record {
@@ -35,7 +27,4 @@ pub returns-clause-told : goal.returns-clause-told
 returns-clause-told c = closed (goal.at.returns-clause-told c).After-fetch_add
 
 pub returns-clause-pass : goal.returns-clause-pass
-returns-clause-pass c =
-    let changed = closed (goal.at.returns-clause-pass c).After-fetch_add in
-    stays_pass c.args.self.now c.args.pass.now _ c.requires.pass c.fetch_add.ensures.0 (ap (λ (w : View). w.role) changed)
-    (ap (λ (w : View). w.numbers) changed)
+returns-clause-pass c = stays_pass c.requires.pass c.fetch_add.ensures.0 (ap whose (closed (goal.at.returns-clause-pass c).After-fetch_add))

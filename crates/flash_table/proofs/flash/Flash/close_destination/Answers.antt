@@ -1,51 +1,31 @@
+use Rattle.flash_table.proofs.{Asking.whose, Asking.of_broom, Rows.just_now, Here.close_here, flash.Flash.close_destination.Goals.After-fetch_add}
 use Rattle.std.proofs.Common.{◌≡◌, ap, ◌∙◌}
-use Rattle.flash_rule.specs.declared.view.View.{View}
-use Rattle.flash_table.specs.Flash.{broom_view, own_blocks}
-use Rattle.flash_table.specs.GivingUp.{left_closed}
-use Rattle.flash_table.specs.Owning.{owned_of}
-use Rattle.flash_table.proofs.Asking.{of_broom}
-use Rattle.flash_table.proofs.Here.{close_here}
-use Rattle.flash_table.proofs.Blocks.{closed_just}
-use Rattle.flash_table.proofs.Rows.{just_now}
-use Rattle.flash_table.proofs.Told.{same_block, close_can, close_view}
-use Rattle.flash_table.proofs.ToldBrooms.{stays_broom}
+use Rattle.flash_table.specs.{Flash.broom_view, Flash.own_blocks, GivingUp.left_closed, Owning.owned_of}
+use Rattle.flash_table.proofs.{ToldBrooms.stays_broom, Blocks.closed_just, Told.same_block, Told.close_can, Told.close_view}
 use Rattle.flash_table.proofs.flash.Flash.close_destination.Goals as goal
-use Rattle.flash_table.proofs.flash.Flash.close_destination.Goals.{After-fetch_add}
 
 pub fetch_add-requires : goal.fetch_add-requires
 fetch_add-requires c =
-    let f = c.args.self.now in
-    let s = c.args.broom.now in
-    let can = close_can f.geometry (broom_view s) (own_blocks s).destination c.in-Some.opened c.in-Some.is c.requires.settled in
-    close_here f s.seat (of_broom f s c.requires.broom) c.pin_at-word.result (owned_of c.in-Some.opened) can.1 c.pin_at-word.ensures can.0
+    let can = close_can c.args.self.now.geometry (broom_view c.args.broom.now) c.in-Some.is c.requires.settled in
+    close_here (of_broom c.requires.broom) (owned_of c.in-Some.opened) can.1 c.pin_at-word.ensures can.0
 
 closed : (c : After-fetch_add) → c.fetch_add.new.seat.me.0 ≡ left_closed (broom_view c.args.broom.now) c.in-Some.opened
 closed c =
-    let f = c.args.self.now in
-    let s = c.args.broom.now in
-    let o = c.in-Some.opened in
-    let can = close_can f.geometry (broom_view s) (own_blocks s).destination o c.in-Some.is c.requires.settled in
-    close_view f s.seat (of_broom f s c.requires.broom) c.fetch_add.result c.fetch_add.new.seat.me c.pin_at-word.result o can.0 c.pin_at-word.ensures
-    c.fetch_add.ensures.2
+    let can = close_can c.args.self.now.geometry (broom_view c.args.broom.now) c.in-Some.is c.requires.settled in
+    close_view (of_broom c.requires.broom) c.in-Some.opened can.0 c.pin_at-word.ensures c.fetch_add.ensures.2
 
 pub invariant_of-broom : goal.invariant_of-broom
 invariant_of-broom c =
     let s = c.args.broom.now in
-    let changed = closed (goal.at.invariant_of-broom c).After-fetch_add in
     record {
       bare = c.fetch_add.ensures.2.0 ∙ s.bare;
-      owns = just_now _ _ _ (ap (λ (w : View). w.owns) changed)
-          (closed_just (own_blocks s) (broom_view s).owns s.owns c.in-Some.opened c.in-Some.is);
+      owns = just_now (closed (goal.at.invariant_of-broom c).After-fetch_add) (closed_just (own_blocks s) s.owns c.in-Some.is);
     }
 
 pub returns-clause-closed : goal.returns-clause-closed
 returns-clause-closed c o is =
-    let s = c.args.broom.now in
     closed (goal.at.returns-clause-closed c).After-fetch_add
-    ∙ ap (left_closed (broom_view s)) (same_block c.in-Some.opened o (own_blocks s).destination c.in-Some.is is)
+    ∙ ap (left_closed (broom_view c.args.broom.now)) (same_block c.in-Some.is is)
 
 pub returns-clause-broom : goal.returns-clause-broom
-returns-clause-broom c =
-    let changed = closed (goal.at.returns-clause-broom c).After-fetch_add in
-    stays_broom c.args.self.now c.args.broom.now _ c.requires.broom c.fetch_add.ensures.0 (ap (λ (w : View). w.role) changed)
-    (ap (λ (w : View). w.numbers) changed)
+returns-clause-broom c = stays_broom c.requires.broom c.fetch_add.ensures.0 (ap whose (closed (goal.at.returns-clause-broom c).After-fetch_add))

@@ -1,40 +1,29 @@
+use Rattle.flash_table.proofs.{Asking.whose, Asking.of_broom, HereErasing.condemn_here}
 use Rattle.std.proofs.Common.{sym, refl, ap, ◌∙◌}
-use Rattle.flash_rule.specs.declared.view.View.{View}
 use Rattle.flash_rule.specs.BroomPlays.{Condemned}
-use Rattle.flash_table.specs.Flash.{broom_view, own_blocks}
-use Rattle.flash_table.specs.declared.broom_seat.ReclaimedBlock.{ReclaimedBlock}
-use Rattle.flash_table.proofs.Asking.{of_broom}
-use Rattle.flash_table.proofs.HereErasing.{condemn_here}
-use Rattle.flash_table.proofs.Blocks.{condemned_just}
-use Rattle.flash_table.proofs.Rows.{just_now}
-use Rattle.flash_table.proofs.ToldBrooms.{is_a_broom, stays_broom}
-use Rattle.flash_table.proofs.ToldErasing.{can_condemn, condemned}
+use Rattle.flash_table.specs.{Flash.broom_view, Flash.own_blocks, declared.broom_seat.ReclaimedBlock.ReclaimedBlock}
+use Rattle.flash_table.proofs.{Rows.just_now, Blocks.condemned_just, ToldBrooms.is_a_broom, ToldBrooms.stays_broom}
+use Rattle.flash_table.proofs.{ToldErasing.can_condemn, ToldErasing.condemned, flash.Flash.condemn.Goals.After-compare_exchange-found}
 use Rattle.flash_table.proofs.flash.Flash.condemn.Goals as goal
-use Rattle.flash_table.proofs.flash.Flash.condemn.Goals.{After-compare_exchange-found}
 
 pub compare_exchange-found-requires : goal.compare_exchange-found-requires
 compare_exchange-found-requires c =
-    let f = c.args.self.now in
-    let s = c.args.broom.now in
-    condemn_here f s.seat (of_broom f s c.requires.broom) c.pin_at-word.result c.args.block c.pack-old.result c.args.expected c.requires.block
-    c.pin_at-word.ensures c.pack-old.ensures (is_a_broom f s c.requires.broom)
-    (can_condemn f s c.requires.broom c.args.block c.args.expected c.requires.rested c.requires.block c.requires.expected)
+    condemn_here (of_broom c.requires.broom) c.args.block c.pack-old.result c.args.expected c.requires.block
+    c.pin_at-word.ensures c.pack-old.ensures (is_a_broom c.requires.broom)
+    (can_condemn c.requires.broom c.args.block c.args.expected c.requires.rested c.requires.block c.requires.expected)
 
 its : (c : After-compare_exchange-found)
     → Condemned (broom_view c.args.broom.now) c.args.block c.args.expected c.compare_exchange-found.result c.compare_exchange-found.new.seat.me.0
 its c =
-    let f = c.args.self.now in
-    let s = c.args.broom.now in
-    let can = can_condemn f s c.requires.broom c.args.block c.args.expected c.requires.rested c.requires.block c.requires.expected in
-    condemned f s c.requires.broom c.compare_exchange-found.result c.compare_exchange-found.new.seat.me c.pin_at-word.result c.args.block
-    c.pack-old.result c.args.expected c.pin_at-word.ensures c.pack-old.ensures can c.compare_exchange-found.ensures.2
+    let can = can_condemn c.requires.broom c.args.block c.args.expected c.requires.rested c.requires.block c.requires.expected in
+    condemned c.requires.broom c.args.block c.pack-old.result c.args.expected c.pin_at-word.ensures c.pack-old.ensures can c.compare_exchange-found.ensures.2
 
 -- ---- its word wasn't the one expected
 pub invariant_of-broom : goal.invariant_of-broom
 invariant_of-broom c =
     let s = c.args.broom.now in
     let changed = (its (goal.at.invariant_of-broom c).After-compare_exchange-found).busy (λ is. c.if-found-old.true (is ∙ sym c.pack-old.ensures)) in
-    record { bare = c.compare_exchange-found.ensures.2.0 ∙ s.bare; owns = just_now _ _ _ (ap (λ (w : View). w.owns) changed) s.owns }
+    record { bare = c.compare_exchange-found.ensures.2.0 ∙ s.bare; owns = just_now changed s.owns }
 
 pub returns-then-found-old-clause-condemned : goal.returns-then-found-old-clause-condemned
 returns-then-found-old-clause-condemned c =
@@ -44,9 +33,7 @@ returns-then-found-old-clause-condemned c =
 pub returns-then-found-old-clause-broom : goal.returns-then-found-old-clause-broom
 returns-then-found-old-clause-broom c =
     let told = its (goal.at.returns-then-found-old-clause-broom c).After-compare_exchange-found in
-    let changed = told.busy (λ is. c.if-found-old.true (is ∙ sym c.pack-old.ensures)) in
-    stays_broom c.args.self.now c.args.broom.now _ c.requires.broom c.compare_exchange-found.ensures.0 (ap (λ (w : View). w.role) changed)
-    (ap (λ (w : View). w.numbers) changed)
+    stays_broom c.requires.broom c.compare_exchange-found.ensures.0 (ap whose (told.busy (λ is. c.if-found-old.true (is ∙ sym c.pack-old.ensures))))
 
 -- ---- the block is the broom's to erase
 pub invariant_of-broom-2 : goal.invariant_of-broom-2
@@ -57,17 +44,14 @@ invariant_of-broom-2 c =
     let o : ReclaimedBlock = record { block = c.args.block; generation = c.args.expected.generation; written = c.args.expected.written } in
     record {
       bare = c.compare_exchange-found.ensures.2.0 ∙ s.bare;
-      owns = just_now _ _ _ (ap (λ (w : View). w.owns) (told.won is))
-          (condemned_just (own_blocks s) (broom_view s).owns s.owns o c.requires.rested (told.fresh is));
+      owns = just_now (told.won is) (condemned_just (own_blocks s) s.owns o c.requires.rested (told.fresh is));
     }
 
 pub returns-clause-condemned : goal.returns-clause-condemned
 returns-clause-condemned c =
-    let told = its (goal.at.returns-clause-condemned c).After-compare_exchange-found in
-    record { changed = told.won (c.if-found-old.false ∙ c.pack-old.ensures); blocks = refl }
+    record { changed = (its (goal.at.returns-clause-condemned c).After-compare_exchange-found).won (c.if-found-old.false ∙ c.pack-old.ensures); blocks = refl }
 
 pub returns-clause-broom : goal.returns-clause-broom
 returns-clause-broom c =
     let changed = (its (goal.at.returns-clause-broom c).After-compare_exchange-found).won (c.if-found-old.false ∙ c.pack-old.ensures) in
-    stays_broom c.args.self.now c.args.broom.now _ c.requires.broom c.compare_exchange-found.ensures.0 (ap (λ (w : View). w.role) changed)
-    (ap (λ (w : View). w.numbers) changed)
+    stays_broom c.requires.broom c.compare_exchange-found.ensures.0 (ap whose changed)

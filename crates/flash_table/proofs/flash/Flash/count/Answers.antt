@@ -1,24 +1,15 @@
+use Rattle.flash_table.proofs.{Asking.whose, Asking.of_pass, Here.count_here, flash.Flash.count.Goals.After-fetch_add}
 use Rattle.std.proofs.Common.{◌≡◌, ◌+◌, ◌∷◌, ◌++◌, [], Some, ap, ◌∙◌}
-use Rattle.flash_rule.specs.declared.facts.Work.{Work}
-use Rattle.flash_rule.specs.declared.view.View.{View}
-use Rattle.flash_rule.specs.Plays.{CanCount}
+use Rattle.flash_rule.specs.{declared.facts.Work.Work, declared.view.View.View, Plays.CanCount}
 use Rattle.geometry.specs.TableOrder.{pin_index}
-use Rattle.flash_table.specs.Flash.{device, view_of}
-use Rattle.flash_table.specs.Owning.{owned_of}
-use Rattle.flash_table.specs.declared.pass.OpenBlock.{OpenBlock}
-use Rattle.flash_table.proofs.Asking.{of_pass}
-use Rattle.flash_table.proofs.Here.{count_here}
+use Rattle.flash_table.specs.{Flash.device, Flash.view_of, Owning.owned_of, declared.pass.OpenBlock.OpenBlock}
 use Rattle.flash_table.proofs.Told.{same_block, stays_pass, count_can, count_view, pass_counted}
 use Rattle.flash_table.proofs.flash.Flash.count.Goals as goal
-use Rattle.flash_table.proofs.flash.Flash.count.Goals.{After-fetch_add}
 
 pub fetch_add-requires : goal.fetch_add-requires
 fetch_add-requires c =
-    let f = c.args.self.now in
-    let p = c.args.pass.now in
-    let o = c.in-Some.opened in
-    let can = count_can f.geometry (view_of p) p.opened o c.in-Some.is c.requires.filled in
-    count_here f p.seat (of_pass f p c.requires.pass) c.pin_at-word.result (owned_of o) can.0 can.3 c.pin_at-word.ensures can.1
+    let can = count_can c.args.self.now.geometry (view_of c.args.pass.now) c.in-Some.is c.requires.filled in
+    count_here (of_pass c.requires.pass) (owned_of c.in-Some.opened) can.0 can.3 c.pin_at-word.ensures can.1
 
 counted : (c : After-fetch_add) (o : OpenBlock) (x : Work) → c.args.pass.now.opened ≡ Some o → CanCount (view_of c.args.pass.now) (owned_of o) x
     → c.fetch_add.new.seat.me.0 ≡ record (view_of c.args.pass.now) {
@@ -26,17 +17,14 @@ counted : (c : After-fetch_add) (o : OpenBlock) (x : Work) → c.args.pass.now.o
       owns = owned_of (record o { written = o.written + 1 }) ∷ [];
     }
 counted c o x is can =
-    let f = c.args.self.now in
-    let p = c.args.pass.now in
-    let same = same_block c.in-Some.opened o p.opened c.in-Some.is is in
-    pass_counted p o is c.fetch_add.new.seat.me.0 x.page
-    (count_view f p.seat (of_pass f p c.requires.pass) c.fetch_add.result c.fetch_add.new.seat.me c.pin_at-word.result o x can
-    (c.pin_at-word.ensures ∙ ap (λ (y : OpenBlock). pin_index (device f) y.block) same) c.fetch_add.ensures.2)
+    pass_counted c.args.pass.now o is c.fetch_add.new.seat.me.0 x.page
+    (count_view (of_pass c.requires.pass) o x can
+    (c.pin_at-word.ensures ∙ ap (λ (y : OpenBlock). pin_index (device c.args.self.now) y.block) (same_block c.in-Some.is is)) c.fetch_add.ensures.2)
 
 pub invariant_of-pass : goal.invariant_of-pass
 invariant_of-pass c =
     let p = c.args.pass.now in
-    let can = count_can c.args.self.now.geometry (view_of p) p.opened c.in-Some.opened c.in-Some.is c.requires.filled in
+    let can = count_can c.args.self.now.geometry (view_of p) c.in-Some.is c.requires.filled in
     let changed = counted (goal.at.invariant_of-pass c).After-fetch_add c.in-Some.opened can.0 c.in-Some.is can.1 in
     record { bare = c.fetch_add.ensures.2.0 ∙ p.bare; owns = ap (λ (w : View). w.owns) changed }
 
@@ -45,8 +33,6 @@ returns-clause-told c = counted (goal.at.returns-clause-told c).After-fetch_add
 
 pub returns-clause-pass : goal.returns-clause-pass
 returns-clause-pass c =
-    let f = c.args.self.now in
-    let p = c.args.pass.now in
-    let can = count_can f.geometry (view_of p) p.opened c.in-Some.opened c.in-Some.is c.requires.filled in
+    let can = count_can c.args.self.now.geometry (view_of c.args.pass.now) c.in-Some.is c.requires.filled in
     let changed = counted (goal.at.returns-clause-pass c).After-fetch_add c.in-Some.opened can.0 c.in-Some.is can.1 in
-    stays_pass f p _ c.requires.pass c.fetch_add.ensures.0 (ap (λ (w : View). w.role) changed) (ap (λ (w : View). w.numbers) changed)
+    stays_pass c.requires.pass c.fetch_add.ensures.0 (ap whose changed)

@@ -1,29 +1,16 @@
+use Rattle.flash_table.proofs.{Asking.whose, Asking.of_broom, Rows.just_now, Here.count_here, Told.same_block, Told.count_can, Told.count_view}
 use Rattle.std.proofs.Common.{◌≡◌, ◌+◌, ◌∷◌, ◌++◌, [], Some, refl, ap, ◌∙◌}
 use Rattle.geometry.specs.TableOrder.{pin_index}
-use Rattle.flash_rule.specs.declared.facts.Work.{Work}
-use Rattle.flash_rule.specs.declared.view.View.{View}
-use Rattle.flash_rule.specs.Plays.{CanCount}
-use Rattle.flash_rule.specs.Views.{with_owned}
-use Rattle.flash_table.specs.Flash.{device, broom_view, own_blocks}
-use Rattle.flash_table.specs.Owning.{owned_of}
-use Rattle.flash_table.specs.declared.pass.OpenBlock.{OpenBlock}
-use Rattle.flash_table.specs.declared.broom_seat.BroomBlocks.{BroomBlocks}
-use Rattle.flash_table.proofs.Asking.{of_broom}
-use Rattle.flash_table.proofs.Here.{count_here}
-use Rattle.flash_table.proofs.Blocks.{counted_just}
-use Rattle.flash_table.proofs.Rows.{just_now}
-use Rattle.flash_table.proofs.Told.{same_block, count_can, count_view}
-use Rattle.flash_table.proofs.ToldBrooms.{stays_broom}
+use Rattle.flash_rule.specs.{declared.facts.Work.Work, Plays.CanCount, Views.with_owned}
+use Rattle.flash_table.specs.{Flash.device, Flash.broom_view, Flash.own_blocks, Owning.owned_of}
+use Rattle.flash_table.specs.declared.{pass.OpenBlock.OpenBlock}
+use Rattle.flash_table.proofs.{ToldBrooms.stays_broom, Blocks.counted_just, flash.Flash.count_copy.Goals.After-fetch_add}
 use Rattle.flash_table.proofs.flash.Flash.count_copy.Goals as goal
-use Rattle.flash_table.proofs.flash.Flash.count_copy.Goals.{After-fetch_add}
 
 pub fetch_add-requires : goal.fetch_add-requires
 fetch_add-requires c =
-    let f = c.args.self.now in
-    let s = c.args.broom.now in
-    let o = c.in-Some.opened in
-    let can = count_can f.geometry (broom_view s) (own_blocks s).destination o c.in-Some.is c.requires.filled in
-    count_here f s.seat (of_broom f s c.requires.broom) c.pin_at-word.result (owned_of o) can.0 can.3 c.pin_at-word.ensures can.1
+    let can = count_can c.args.self.now.geometry (broom_view c.args.broom.now) c.in-Some.is c.requires.filled in
+    count_here (of_broom c.requires.broom) (owned_of c.in-Some.opened) can.0 can.3 c.pin_at-word.ensures can.1
 
 counted : (c : After-fetch_add) (o : OpenBlock) (x : Work) → (own_blocks c.args.broom.now).destination ≡ Some o
     → CanCount (broom_view c.args.broom.now) (owned_of o) x
@@ -32,37 +19,25 @@ counted : (c : After-fetch_add) (o : OpenBlock) (x : Work) → (own_blocks c.arg
       owns = with_owned (owned_of (record o { written = o.written + 1 })) (broom_view c.args.broom.now).owns;
     }
 counted c o x is can =
-    let f = c.args.self.now in
-    let s = c.args.broom.now in
-    let same = same_block c.in-Some.opened o (own_blocks s).destination c.in-Some.is is in
-    count_view f s.seat (of_broom f s c.requires.broom) c.fetch_add.result c.fetch_add.new.seat.me c.pin_at-word.result o x can
-    (c.pin_at-word.ensures ∙ ap (λ (y : OpenBlock). pin_index (device f) y.block) same) c.fetch_add.ensures.2
+    count_view (of_broom c.requires.broom) o x can
+    (c.pin_at-word.ensures ∙ ap (λ (y : OpenBlock). pin_index (device c.args.self.now) y.block) (same_block c.in-Some.is is)) c.fetch_add.ensures.2
 
 pub invariant_of-broom : goal.invariant_of-broom
 invariant_of-broom c =
     let s = c.args.broom.now in
     let o = c.in-Some.opened in
-    let can = count_can c.args.self.now.geometry (broom_view s) (own_blocks s).destination o c.in-Some.is c.requires.filled in
-    let changed = counted (goal.at.invariant_of-broom c).After-fetch_add o can.0 c.in-Some.is can.1 in
+    let can = count_can c.args.self.now.geometry (broom_view s) c.in-Some.is c.requires.filled in
     record {
       bare = c.fetch_add.ensures.2.0 ∙ s.bare;
-      owns = just_now _ _ _ (ap (λ (w : View). w.owns) changed)
-          (counted_just (own_blocks s) (broom_view s).owns s.owns o (record o { written = o.written + 1 }) c.in-Some.is refl);
+      owns = just_now (counted (goal.at.invariant_of-broom c).After-fetch_add o can.0 c.in-Some.is can.1)
+          (counted_just (own_blocks s) s.owns (record o { written = o.written + 1 }) c.in-Some.is refl);
     }
 
 pub returns-clause-counted : goal.returns-clause-counted
 returns-clause-counted c = counted (goal.at.returns-clause-counted c).After-fetch_add
 
-pub returns-clause-blocks : goal.returns-clause-blocks
-returns-clause-blocks c o is =
-    let s = c.args.broom.now in
-    let same = same_block c.in-Some.opened o (own_blocks s).destination c.in-Some.is is in
-    let P : OpenBlock → BroomBlocks = λ y. record (own_blocks s) { destination = Some (record y { written = y.written + 1 }) } in ap P same
-
 pub returns-clause-broom : goal.returns-clause-broom
 returns-clause-broom c =
-    let f = c.args.self.now in
-    let s = c.args.broom.now in
-    let can = count_can f.geometry (broom_view s) (own_blocks s).destination c.in-Some.opened c.in-Some.is c.requires.filled in
+    let can = count_can c.args.self.now.geometry (broom_view c.args.broom.now) c.in-Some.is c.requires.filled in
     let changed = counted (goal.at.returns-clause-broom c).After-fetch_add c.in-Some.opened can.0 c.in-Some.is can.1 in
-    stays_broom f s _ c.requires.broom c.fetch_add.ensures.0 (ap (λ (w : View). w.role) changed) (ap (λ (w : View). w.numbers) changed)
+    stays_broom c.requires.broom c.fetch_add.ensures.0 (ap whose changed)

@@ -1,51 +1,34 @@
+use Rattle.flash_table.proofs.{Asking.whose, Asking.of_broom, HereBrooms.drain_here}
 use Rattle.std.proofs.Common.{◌≡◌, ap, ◌∙◌}
 use Rattle.geometry.specs.declared.pin_word.Phase.TheVariants.{Victim}
-use Rattle.flash_rule.specs.declared.view.View.{View}
-use Rattle.flash_table.specs.GivingUp.{left_drained}
-use Rattle.flash_table.specs.Flash.{broom_view, own_blocks}
-use Rattle.flash_table.specs.Owning.{reclaimed_as}
-use Rattle.flash_table.proofs.Asking.{of_broom}
-use Rattle.flash_table.proofs.HereBrooms.{drain_here}
-use Rattle.flash_table.proofs.Blocks.{drained_just}
-use Rattle.flash_table.proofs.Rows.{just_now}
+use Rattle.flash_table.specs.{GivingUp.left_drained, Owning.reclaimed_as, Flash.broom_view, Flash.own_blocks}
+use Rattle.flash_table.proofs.{Rows.just_now, Blocks.drained_just, flash.Flash.drain.Goals.After-fetch_add}
 use Rattle.flash_table.proofs.ToldBrooms.{stays_broom, draining_same, drain_can, drained_view}
 use Rattle.flash_table.proofs.flash.Flash.drain.Goals as goal
-use Rattle.flash_table.proofs.flash.Flash.drain.Goals.{After-fetch_add}
 
 pub fetch_add-requires : goal.fetch_add-requires
 fetch_add-requires c =
-    let f = c.args.self.now in
-    let s = c.args.broom.now in
     let o = c.in-Draining.victim in
-    let can = drain_can f s c.requires.broom o c.in-Draining.is c.requires.emptied in
-    drain_here f s.seat (of_broom f s c.requires.broom) c.pin_at-word.result (reclaimed_as Victim o) can.0 c.pin_at-word.ensures can.1
+    let can = drain_can c.requires.broom o c.in-Draining.is c.requires.emptied in
+    drain_here (of_broom c.requires.broom) (reclaimed_as Victim o) can.0 c.pin_at-word.ensures can.1
 
 drained : (c : After-fetch_add) → c.fetch_add.new.seat.me.0 ≡ left_drained (broom_view c.args.broom.now) c.in-Draining.victim
 drained c =
-    let f = c.args.self.now in
-    let s = c.args.broom.now in
     let o = c.in-Draining.victim in
-    let can = drain_can f s c.requires.broom o c.in-Draining.is c.requires.emptied in
-    drained_view f s c.requires.broom c.fetch_add.result c.fetch_add.new.seat.me c.pin_at-word.result o can.1 c.pin_at-word.ensures c.fetch_add.ensures.2
+    drained_view c.requires.broom o (drain_can c.requires.broom o c.in-Draining.is c.requires.emptied).1 c.pin_at-word.ensures c.fetch_add.ensures.2
 
 pub invariant_of-broom : goal.invariant_of-broom
 invariant_of-broom c =
     let s = c.args.broom.now in
-    let changed = drained (goal.at.invariant_of-broom c).After-fetch_add in
     record {
       bare = c.fetch_add.ensures.2.0 ∙ s.bare;
-      owns = just_now _ _ _ (ap (λ (w : View). w.owns) changed)
-          (drained_just (own_blocks s) (broom_view s).owns s.owns c.in-Draining.victim c.in-Draining.is);
+      owns = just_now (drained (goal.at.invariant_of-broom c).After-fetch_add) (drained_just (own_blocks s) s.owns c.in-Draining.is);
     }
 
 pub returns-clause-drained : goal.returns-clause-drained
 returns-clause-drained c e is =
-    let s = c.args.broom.now in
     drained (goal.at.returns-clause-drained c).After-fetch_add
-    ∙ ap (left_drained (broom_view s)) (draining_same c.in-Draining.victim e (own_blocks s).reclaiming c.in-Draining.is is)
+    ∙ ap (left_drained (broom_view c.args.broom.now)) (draining_same c.in-Draining.is is)
 
 pub returns-clause-broom : goal.returns-clause-broom
-returns-clause-broom c =
-    let changed = drained (goal.at.returns-clause-broom c).After-fetch_add in
-    stays_broom c.args.self.now c.args.broom.now _ c.requires.broom c.fetch_add.ensures.0 (ap (λ (w : View). w.role) changed)
-    (ap (λ (w : View). w.numbers) changed)
+returns-clause-broom c = stays_broom c.requires.broom c.fetch_add.ensures.0 (ap whose (drained (goal.at.returns-clause-broom c).After-fetch_add))

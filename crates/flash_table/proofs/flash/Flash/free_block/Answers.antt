@@ -1,51 +1,33 @@
+use Rattle.flash_table.proofs.{Asking.whose, Asking.of_broom, Rows.just_now, Blocks.erased_just}
 use Rattle.std.proofs.Common.{◌≡◌, ap, ◌∙◌, arith}
-use Rattle.flash_rule.specs.declared.view.View.{View}
-use Rattle.flash_table.specs.Flash.{broom_view, own_blocks}
-use Rattle.flash_table.specs.GivingUp.{left_free}
-use Rattle.flash_table.proofs.Asking.{of_broom}
-use Rattle.flash_table.proofs.HereErasing.{freed_here}
-use Rattle.flash_table.proofs.Blocks.{erased_just}
-use Rattle.flash_table.proofs.Rows.{just_now}
-use Rattle.flash_table.proofs.ToldBrooms.{stays_broom}
+use Rattle.flash_table.specs.{Flash.broom_view, Flash.own_blocks, GivingUp.left_free}
+use Rattle.flash_table.proofs.{ToldBrooms.stays_broom, HereErasing.freed_here, flash.Flash.free_block.Goals.After-fetch_add}
 use Rattle.flash_table.proofs.ToldErasing.{same_erased, live_on, can_renew, freed_view}
 use Rattle.flash_table.proofs.flash.Flash.free_block.Goals as goal
-use Rattle.flash_table.proofs.flash.Flash.free_block.Goals.{After-fetch_add}
 
 pub fetch_add-requires : goal.fetch_add-requires
 fetch_add-requires c =
-    let f = c.args.self.now in
-    let s = c.args.broom.now in
     let o = c.in-Erasing.erased in
-    let t = live_on f s c.requires.broom o c.in-Erasing.is c.requires.wiped in
-    freed_here f s.seat (of_broom f s c.requires.broom) c.pin_at-word.result _ _ t.erases.low c.pin_at-word.ensures
-    (omega (arith, c.freed.ensures)) (can_renew f s c.requires.broom o t)
+    let t = live_on c.requires.broom o c.in-Erasing.is c.requires.wiped in
+    freed_here (of_broom c.requires.broom) _ _ t.erases.low c.pin_at-word.ensures (omega (arith, c.freed.ensures)) (can_renew c.requires.broom o t)
 
 freed : (c : After-fetch_add) → c.fetch_add.new.seat.me.0 ≡ left_free (broom_view c.args.broom.now) c.in-Erasing.erased
 freed c =
-    let f = c.args.self.now in
-    let s = c.args.broom.now in
     let o = c.in-Erasing.erased in
-    freed_view f s c.requires.broom c.fetch_add.result c.fetch_add.new.seat.me c.pin_at-word.result c.freed.result o
-    (live_on f s c.requires.broom o c.in-Erasing.is c.requires.wiped) c.pin_at-word.ensures c.fetch_add.ensures.2
+    freed_view c.requires.broom c.freed.result o (live_on c.requires.broom o c.in-Erasing.is c.requires.wiped) c.pin_at-word.ensures c.fetch_add.ensures.2
 
 pub invariant_of-broom : goal.invariant_of-broom
 invariant_of-broom c =
     let s = c.args.broom.now in
-    let changed = freed (goal.at.invariant_of-broom c).After-fetch_add in
     record {
       bare = c.fetch_add.ensures.2.0 ∙ s.bare;
-      owns = just_now _ _ _ (ap (λ (w : View). w.owns) changed)
-          (erased_just (own_blocks s) (broom_view s).owns s.owns c.in-Erasing.erased c.in-Erasing.is);
+      owns = just_now (freed (goal.at.invariant_of-broom c).After-fetch_add) (erased_just (own_blocks s) s.owns c.in-Erasing.is);
     }
 
 pub returns-clause-freed : goal.returns-clause-freed
 returns-clause-freed c x is =
-    let s = c.args.broom.now in
     freed (goal.at.returns-clause-freed c).After-fetch_add
-    ∙ ap (left_free (broom_view s)) (same_erased (own_blocks s).reclaiming c.in-Erasing.erased x c.in-Erasing.is is)
+    ∙ ap (left_free (broom_view c.args.broom.now)) (same_erased c.in-Erasing.is is)
 
 pub returns-clause-broom : goal.returns-clause-broom
-returns-clause-broom c =
-    let changed = freed (goal.at.returns-clause-broom c).After-fetch_add in
-    stays_broom c.args.self.now c.args.broom.now _ c.requires.broom c.fetch_add.ensures.0 (ap (λ (w : View). w.role) changed)
-    (ap (λ (w : View). w.numbers) changed)
+returns-clause-broom c = stays_broom c.requires.broom c.fetch_add.ensures.0 (ap whose (freed (goal.at.returns-clause-broom c).After-fetch_add))

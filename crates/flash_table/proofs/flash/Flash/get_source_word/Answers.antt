@@ -1,41 +1,21 @@
+use Rattle.flash_table.proofs.{Asking.of_broom, HereBrooms.source_here}
 use Rattle.std.proofs.Common.{◌+◌, ◌<◌, ap, sym, ◌∙◌, subst}
-use Rattle.geometry.specs.TableOrder.{page_index}
-use Rattle.geometry.specs.declared.map_word.MapWord.{MapWord}
-use Rattle.flash_rule.specs.declared.facts.Source.{Source}
-use Rattle.flash_rule.specs.Plays.{Sitter}
-use Rattle.flash_table.specs.Flash.{device, broom_view}
-use Rattle.flash_table.proofs.Asking.{of_broom}
-use Rattle.flash_table.proofs.Rows.{just_now}
-use Rattle.flash_table.proofs.HereBrooms.{source_here}
-use Rattle.flash_table.proofs.ToldBrooms.{stays_broom, source_same, source_value}
+use Rattle.geometry.specs.{TableOrder.page_index, declared.map_word.MapWord.MapWord}
+use Rattle.flash_rule.specs.{declared.facts.Source.Source}
+use Rattle.flash_table.specs.Flash.{device}
+use Rattle.flash_table.proofs.ToldBrooms.{source_same, source_value}
 use Rattle.flash_table.proofs.flash.Flash.get_source_word.Goals as goal
 
 pub load-requires : goal.load-requires
 load-requires c =
     let f = c.args.self.now in
-    let s = c.args.broom.now in
     let t = c.requires.source in
-    source_here f s.seat (of_broom f s c.requires.broom) (c.args.start + c.args.i) t.0 c.args.i
-    (subst (λ (p : MapWord). p.block < (device f).blocks) (sym t.2) c.requires.block)
+    source_here (of_broom c.requires.broom) t.0 c.args.i (subst (λ (p : MapWord). p.block < (device f).blocks) (sym t.2) c.requires.block)
     (subst (λ (p : MapWord). p.page < (device f).pages) (sym t.2) c.requires.page) c.requires.word
     (ap (λ n. n + c.args.i) c.requires.start ∙ (λ j. page_index (device f) (sym t.2 j).block (sym t.2 j).page + c.args.i)) t.1
 
-pub invariant_of-broom : goal.invariant_of-broom
-invariant_of-broom c =
-    let s = c.args.broom.now in
-    record { bare = ap (λ (m : Sitter). m.1) c.load.ensures.2.0 ∙ s.bare; owns = just_now _ _ _ (ap (λ (m : Sitter). m.0.owns) c.load.ensures.2.0) s.owns }
-
 pub returns-clause-value : goal.returns-clause-value
 returns-clause-value c x value is live =
-    let f = c.args.self.now in
-    let s = c.args.broom.now in
     let t = c.requires.source in
-    let same = source_same x t.0 (broom_view s).source is t.1 in
-    source_value f s c.requires.broom c.load.result c.load.new.seat.me (c.args.start + c.args.i) c.args.i c.args.page x value is
-    (ap (λ (y : Source). y.page) same ∙ t.2) live c.requires.word (ap (λ n. n + c.args.i) c.requires.start) c.load.ensures.2
-
-pub returns-clause-broom : goal.returns-clause-broom
-returns-clause-broom c =
-    let same = c.load.ensures.2.0 in
-    stays_broom c.args.self.now c.args.broom.now _ c.requires.broom c.load.ensures.0 (ap (λ (m : Sitter). m.0.role) same)
-    (ap (λ (m : Sitter). m.0.numbers) same)
+    source_value c.requires.broom c.args.i c.args.page x value is
+    (ap (λ (y : Source). y.page) (source_same is t.1) ∙ t.2) live c.requires.word (ap (λ n. n + c.args.i) c.requires.start) c.load.ensures.2

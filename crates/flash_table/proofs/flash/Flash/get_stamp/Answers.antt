@@ -1,68 +1,46 @@
+use Rattle.flash_table.proofs.{Asking.whose, Asking.of_broom, Rows.just_now, HereBrooms.stamp_here, flash.Flash.get_stamp.Goals.After-load}
 use Rattle.std.proofs.Common.{◌≡◌, ◌+◌, ◌<◌, ℕ, ap, ◌∙◌, subst}
-use Rattle.geometry.specs.Geometry.{blocks_of}
-use Rattle.geometry.specs.TableOrder.{page_index}
-use Rattle.geometry.specs.declared.pin_word.Phase.TheVariants.{Victim}
-use Rattle.flash_rule.specs.declared.view.View.{View}
+use Rattle.geometry.specs.{Geometry.blocks_of, TableOrder.page_index, declared.pin_word.Phase.TheVariants.Victim}
 use Rattle.flash_rule.specs.BroomPlays.{GotStamp}
-use Rattle.flash_table.specs.Flash.{device, broom_view, own_blocks, geometry_of}
-use Rattle.flash_table.specs.Owning.{reclaimed_as}
-use Rattle.flash_table.specs.Steps.{IsOfVictim}
-use Rattle.flash_table.specs.declared.broom_seat.BroomSeat.{BroomSeat}
-use Rattle.flash_table.specs.declared.broom_seat.ReclaimedBlock.{ReclaimedBlock}
-use Rattle.flash_table.specs.declared.broom_seat.Reclaiming.TheVariants as reclaiming
-use Rattle.flash_table.specs.declared.flash.Flash.{Flash}
-use Rattle.flash_table.proofs.Asking.{of_broom}
-use Rattle.flash_table.proofs.Rows.{just_now}
-use Rattle.flash_table.proofs.HereBrooms.{stamp_here}
+use Rattle.flash_table.specs.{Flash.device, Flash.broom_view, Flash.own_blocks, Flash.geometry_of, Owning.reclaimed_as, Steps.IsOfVictim}
+use Rattle.flash_table.specs.declared.{broom_seat.BroomSeat.BroomSeat, broom_seat.ReclaimedBlock.ReclaimedBlock, flash.Flash.Flash}
 use Rattle.flash_table.proofs.ToldBrooms.{stays_broom, of_draining, draining_same, stamp_can, stamp_view, stamp_changed}
+use Rattle.flash_table.specs.declared.broom_seat.Reclaiming.TheVariants as reclaiming
 use Rattle.flash_table.proofs.flash.Flash.get_stamp.Goals as goal
-use Rattle.flash_table.proofs.flash.Flash.get_stamp.Goals.{After-load}
 
 written : (f : Flash) (s : BroomSeat) (o : ReclaimedBlock) (page : ℕ) → (own_blocks s).reclaiming ≡ reclaiming.Draining o
     → IsOfVictim (geometry_of f) (own_blocks s) page → (o.block < blocks_of (geometry_of f)) × (page < o.written)
 written f s o page is = of_draining (λ (y : ReclaimedBlock). (y.block < blocks_of (geometry_of f)) × (page < y.written)) (own_blocks s).reclaiming o is
 
-pub page_word_at-place-requires-clause-block : goal.page_word_at-place-requires-clause-block
-page_word_at-place-requires-clause-block c =
-    (written c.args.self.now c.args.broom.now c.in-Draining.victim c.args.page c.in-Draining.is c.requires.next).0
-
 pub load-requires : goal.load-requires
 load-requires c =
     let f = c.args.self.now in
-    let s = c.args.broom.now in
     let o = c.in-Draining.victim in
-    let its = written f s o c.args.page c.in-Draining.is c.requires.next in
+    let its = written f c.args.broom.now o c.args.page c.in-Draining.is c.requires.next in
     let at : c.page_word_at-place.result ≡ page_index (device f) o.block c.args.page + (device f).words =
     c.page_word_at-place.ensures ∙ ap (λ i. page_index (device f) o.block c.args.page + i) c.words.ensures.value in
-    stamp_here f s.seat (of_broom f s c.requires.broom) c.page_word_at-place.result (reclaimed_as Victim o) its.0
-    (subst (λ k. k < (device f).pages) c.requires.cleared c.requires.page)
+    stamp_here (of_broom c.requires.broom) (reclaimed_as Victim o) its.0 (subst (λ k. k < (device f).pages) c.requires.cleared c.requires.page)
     (at ∙ ap (λ k. page_index (device f) o.block k + (device f).words) c.requires.cleared)
-    (stamp_can f s c.requires.broom o c.args.page c.in-Draining.is its.1 c.requires.cleared)
+    (stamp_can c.requires.broom o c.args.page c.in-Draining.is its.1 c.requires.cleared)
 
 got : (c : After-load) → GotStamp (broom_view c.args.broom.now) (reclaimed_as Victim c.in-Draining.victim) c.load.result c.load.new.seat.me.0
 got c =
     let f = c.args.self.now in
-    let s = c.args.broom.now in
     let o = c.in-Draining.victim in
-    let its = written f s o c.args.page c.in-Draining.is c.requires.next in
-    let can = stamp_can f s c.requires.broom o c.args.page c.in-Draining.is its.1 c.requires.cleared in
-    stamp_view f s c.requires.broom c.load.result c.load.new.seat.me c.page_word_at-place.result c.args.page o can c.requires.cleared
+    let its = written f c.args.broom.now o c.args.page c.in-Draining.is c.requires.next in
+    stamp_view c.requires.broom c.args.page o (stamp_can c.requires.broom o c.args.page c.in-Draining.is its.1 c.requires.cleared) c.requires.cleared
     (c.page_word_at-place.ensures ∙ ap (λ i. page_index (device f) o.block c.args.page + i) c.words.ensures.value) c.load.ensures.2
 
 pub invariant_of-broom : goal.invariant_of-broom
 invariant_of-broom c =
     let s = c.args.broom.now in
-    let changed = stamp_changed _ _ _ _ (got (goal.at.invariant_of-broom c).After-load) in
-    record { bare = c.load.ensures.2.0 ∙ s.bare; owns = just_now _ _ _ (ap (λ (w : View). w.owns) changed) s.owns }
+    record { bare = c.load.ensures.2.0 ∙ s.bare; owns = just_now (stamp_changed _ _ _ _ (got (goal.at.invariant_of-broom c).After-load)) s.owns }
 
 pub returns-clause-stamp : goal.returns-clause-stamp
 returns-clause-stamp c e is =
-    let s = c.args.broom.now in
-    let same = draining_same c.in-Draining.victim e (own_blocks s).reclaiming c.in-Draining.is is in
-    subst (λ (y : ReclaimedBlock). GotStamp (broom_view s) (reclaimed_as Victim y) c.load.result c.load.new.seat.me.0) same
+    let same = draining_same c.in-Draining.is is in
+    subst (λ (y : ReclaimedBlock). GotStamp (broom_view c.args.broom.now) (reclaimed_as Victim y) c.load.result c.load.new.seat.me.0) same
     (got (goal.at.returns-clause-stamp c).After-load)
 
 pub returns-clause-broom : goal.returns-clause-broom
-returns-clause-broom c =
-    let changed = stamp_changed _ _ _ _ (got (goal.at.returns-clause-broom c).After-load) in
-    stays_broom c.args.self.now c.args.broom.now _ c.requires.broom c.load.ensures.0 (ap (λ (w : View). w.role) changed) (ap (λ (w : View). w.numbers) changed)
+returns-clause-broom c = stays_broom c.requires.broom c.load.ensures.0 (ap whose (stamp_changed _ _ _ _ (got (goal.at.returns-clause-broom c).After-load)))

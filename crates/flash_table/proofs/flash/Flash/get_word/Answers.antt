@@ -1,12 +1,7 @@
-use Rattle.std.proofs.Common.{◌≡◌, ◌+◌, ℕ, ap, refl}
-use Rattle.geometry.specs.Geometry.{numbers_of}
-use Rattle.geometry.specs.TableOrder.{page_index}
-use Rattle.geometry.specs.declared.map_word.MapWord.{MapWord}
-use Rattle.flash_table.specs.declared.flash.Flash.{Flash}
-use Rattle.flash_table.specs.Flash.{geometry_of}
-use Rattle.flash_table.proofs.Asking.{of_pass}
-use Rattle.flash_table.proofs.Here.{get_here}
-use Rattle.flash_table.proofs.Told.{get_value}
+use Rattle.std.proofs.Common.{◌≡◌, ◌+◌, ℕ, ap}
+use Rattle.geometry.specs.{Geometry.numbers_of, TableOrder.page_index, declared.map_word.MapWord.MapWord}
+use Rattle.flash_table.specs.{declared.flash.Flash.Flash, Flash.geometry_of}
+use Rattle.flash_table.proofs.{Asking.of_pass, Here.get_here, Told.get_value}
 use Rattle.flash_table.proofs.flash.Flash.get_word.Goals as goal
 
 -- the word's place, by the place at which the page's words begin
@@ -16,19 +11,13 @@ word_place f page start i = ap (λ n. n + i)
 
 pub load-requires : goal.load-requires
 load-requires c =
-    let f = c.args.self.now in
-    let p = c.args.pass.now in
-    get_here f p.seat (of_pass f p c.requires.pass) (c.args.start + c.args.i) c.args.page c.args.i c.requires.block c.requires.page c.requires.word
-    (word_place f c.args.page c.args.start c.args.i c.requires.start) c.requires.pinned
+    get_here (of_pass c.requires.pass) c.args.page c.args.i c.requires.block c.requires.page c.requires.word
+    (word_place c.args.self.now c.args.page c.args.start c.args.i c.requires.start) c.requires.pinned
 
 pub returns-clause-told : goal.returns-clause-told
 returns-clause-told c value pin =
     let at = word_place c.args.self.now c.args.page c.args.start c.args.i c.requires.start in
-    get_value c.args.self.now c.args.pass.now c.requires.pass c.load.result c.load.new.seat.me (c.args.start + c.args.i) c.args.i c.args.page value pin
-    c.requires.word at c.load.ensures.2
+    get_value c.requires.pass (c.args.start + c.args.i) c.args.i c.args.page value pin c.requires.word at c.load.ensures.2
 
 pub returns-clause-spared : goal.returns-clause-spared
 returns-clause-spared c value carried pin copy = c.load.ensures.2.2 c.args.page value carried pin copy
-
-pub returns-clause-opened : goal.returns-clause-opened
-returns-clause-opened c = refl

@@ -1,29 +1,17 @@
-use Rattle.std.proofs.Common.{◌≡◌, ◌+◌, Some, refl, ap, ◌∙◌}
-use Rattle.flash_rule.specs.declared.view.View.{View}
+use Rattle.flash_table.proofs.{Asking.whose, Asking.of_broom, Rows.just_now, Blocks.kept_just}
+use Rattle.std.proofs.Common.{◌≡◌, ◌+◌, refl, ap, ◌∙◌}
 use Rattle.flash_rule.specs.Views.{with_owned}
-use Rattle.flash_table.specs.Flash.{broom_view, own_blocks}
-use Rattle.flash_table.specs.declared.broom_seat.ReclaimedBlock.{ReclaimedBlock}
-use Rattle.flash_table.specs.declared.broom_seat.BroomBlocks.{BroomBlocks}
-use Rattle.flash_table.specs.declared.broom_seat.Reclaiming.TheVariants as reclaiming
-use Rattle.flash_table.specs.declared.pass.OpenBlock.{OpenBlock}
-use Rattle.flash_table.specs.Owning.{owned_of}
-use Rattle.flash_table.proofs.Asking.{of_broom}
-use Rattle.flash_table.proofs.HereErasing.{kept_here}
-use Rattle.flash_table.proofs.Blocks.{kept_just}
-use Rattle.flash_table.proofs.Rows.{just_now}
-use Rattle.flash_table.proofs.ToldBrooms.{stays_broom}
+use Rattle.flash_table.specs.{Flash.broom_view, Flash.own_blocks, Owning.owned_of}
+use Rattle.flash_table.specs.declared.{broom_seat.ReclaimedBlock.ReclaimedBlock, pass.OpenBlock.OpenBlock}
+use Rattle.flash_table.proofs.{ToldBrooms.stays_broom, HereErasing.kept_here, flash.Flash.keep_block.Goals.After-fetch_add}
 use Rattle.flash_table.proofs.ToldErasing.{same_erased, live_on, can_renew, kept_view}
 use Rattle.flash_table.proofs.flash.Flash.keep_block.Goals as goal
-use Rattle.flash_table.proofs.flash.Flash.keep_block.Goals.{After-fetch_add}
 
 pub fetch_add-requires : goal.fetch_add-requires
 fetch_add-requires c =
-    let f = c.args.self.now in
-    let s = c.args.broom.now in
     let o = c.in-Erasing.erased in
-    let t = live_on f s c.requires.broom o c.in-Erasing.is c.requires.wiped in
-    kept_here f s.seat (of_broom f s c.requires.broom) c.pin_at-word.result c.kept.result _ t.erases.low c.pin_at-word.ensures c.kept.ensures
-    (can_renew f s c.requires.broom o t)
+    let t = live_on c.requires.broom o c.in-Erasing.is c.requires.wiped in
+    kept_here (of_broom c.requires.broom) c.kept.result _ t.erases.low c.pin_at-word.ensures c.kept.ensures (can_renew c.requires.broom o t)
 
 -- the block in its next generation
 abbrev renewed : ReclaimedBlock → OpenBlock
@@ -34,38 +22,23 @@ kept : (c : After-fetch_add)
       owns = with_owned (owned_of (renewed c.in-Erasing.erased)) (broom_view c.args.broom.now).owns;
     }
 kept c =
-    let f = c.args.self.now in
-    let s = c.args.broom.now in
     let o = c.in-Erasing.erased in
-    kept_view f s c.requires.broom c.fetch_add.result c.fetch_add.new.seat.me c.pin_at-word.result c.kept.result o
-    (live_on f s c.requires.broom o c.in-Erasing.is c.requires.wiped) c.pin_at-word.ensures c.fetch_add.ensures.2
+    kept_view c.requires.broom c.kept.result o (live_on c.requires.broom o c.in-Erasing.is c.requires.wiped) c.pin_at-word.ensures c.fetch_add.ensures.2
 
 pub invariant_of-broom : goal.invariant_of-broom
 invariant_of-broom c =
     let s = c.args.broom.now in
-    let o = c.in-Erasing.erased in
-    let changed = kept (goal.at.invariant_of-broom c).After-fetch_add in
     record {
       bare = c.fetch_add.ensures.2.0 ∙ s.bare;
-      owns = just_now _ _ _ (ap (λ (w : View). w.owns) changed)
-          (kept_just (own_blocks s) (broom_view s).owns s.owns o (renewed o) c.in-Erasing.is c.requires.no_spare refl);
+      owns = just_now (kept (goal.at.invariant_of-broom c).After-fetch_add)
+          (kept_just (own_blocks s) s.owns (renewed c.in-Erasing.erased) c.in-Erasing.is c.requires.no_spare refl);
     }
 
 pub returns-clause-kept : goal.returns-clause-kept
 returns-clause-kept c x is =
     let s = c.args.broom.now in
-    let same = same_erased (own_blocks s).reclaiming c.in-Erasing.erased x c.in-Erasing.is is in
     kept (goal.at.returns-clause-kept c).After-fetch_add
-    ∙ ap (λ (y : ReclaimedBlock). record (broom_view s) { owns = with_owned (owned_of (renewed y)) (broom_view s).owns }) same
-
-pub returns-clause-blocks : goal.returns-clause-blocks
-returns-clause-blocks c x is =
-    let s = c.args.broom.now in
-    let P : ReclaimedBlock → BroomBlocks = λ y. record (own_blocks s) { spare = Some (renewed y); reclaiming = reclaiming.Nothing } in
-    ap P (same_erased (own_blocks s).reclaiming c.in-Erasing.erased x c.in-Erasing.is is)
+    ∙ ap (λ (y : ReclaimedBlock). record (broom_view s) { owns = with_owned (owned_of (renewed y)) (broom_view s).owns }) (same_erased c.in-Erasing.is is)
 
 pub returns-clause-broom : goal.returns-clause-broom
-returns-clause-broom c =
-    let changed = kept (goal.at.returns-clause-broom c).After-fetch_add in
-    stays_broom c.args.self.now c.args.broom.now _ c.requires.broom c.fetch_add.ensures.0 (ap (λ (w : View). w.role) changed)
-    (ap (λ (w : View). w.numbers) changed)
+returns-clause-broom c = stays_broom c.requires.broom c.fetch_add.ensures.0 (ap whose (kept (goal.at.returns-clause-broom c).After-fetch_add))

@@ -1,33 +1,23 @@
+use Rattle.flash_table.proofs.{Asking.whose, Asking.of_broom, Rows.just_now, HereBrooms.state_here, flash.Flash.load_state.Goals.After-load-found}
 use Rattle.std.proofs.Common.{◌≡◌, ap, sym, ◌∙◌, arith}
-use Rattle.geometry.specs.Limits.{Numbers}
-use Rattle.geometry.specs.declared.pin_word.PinWord.{PinWord}
+use Rattle.geometry.specs.{Limits.Numbers, declared.pin_word.PinWord.PinWord}
 use Rattle.geometry.proofs.PinBits.{pin_same}
-use Rattle.flash_rule.specs.declared.view.View.{View}
 use Rattle.flash_rule.specs.BroomPlays.{Loaded}
 use Rattle.flash_table.specs.Flash.{device, broom_view}
-use Rattle.flash_table.proofs.Asking.{of_broom}
-use Rattle.flash_table.proofs.Rows.{just_now}
-use Rattle.flash_table.proofs.HereBrooms.{state_here}
 use Rattle.flash_table.proofs.ToldBrooms.{is_a_broom, stays_broom, loaded_view, loaded_changed}
 use Rattle.flash_table.proofs.flash.Flash.load_state.Goals as goal
-use Rattle.flash_table.proofs.flash.Flash.load_state.Goals.{After-load-found}
 
 pub load-found-requires : goal.load-found-requires
-load-found-requires c =
-    let f = c.args.self.now in
-    let s = c.args.broom.now in
-    state_here f s.seat (of_broom f s c.requires.broom) c.pin_at-word.result c.args.block c.requires.block c.pin_at-word.ensures
-    (is_a_broom f s c.requires.broom)
+load-found-requires c = state_here (of_broom c.requires.broom) c.args.block c.requires.block c.pin_at-word.ensures (is_a_broom c.requires.broom)
 
 loaded : (c : After-load-found) → Loaded (broom_view c.args.broom.now) c.args.block c.load-found.result c.load-found.new.seat.me.0
-loaded c = loaded_view c.args.self.now c.args.broom.now c.requires.broom c.load-found.result c.load-found.new.seat.me c.pin_at-word.result c.args.block
-    c.requires.block c.pin_at-word.ensures c.load-found.ensures.2
+loaded c = loaded_view c.requires.broom c.args.block c.requires.block c.pin_at-word.ensures c.load-found.ensures.2
 
 pub invariant_of-broom : goal.invariant_of-broom
 invariant_of-broom c =
     let s = c.args.broom.now in
     let changed = loaded_changed _ _ _ _ (loaded (goal.at.invariant_of-broom c).After-load-found) in
-    record { bare = c.load-found.ensures.2.0 ∙ s.bare; owns = just_now _ _ _ (ap (λ (w : View). w.owns) changed) s.owns }
+    record { bare = c.load-found.ensures.2.0 ∙ s.bare; owns = just_now changed s.owns }
 
 pub unreachable-requires : goal.unreachable-requires
 unreachable-requires c =
@@ -49,6 +39,4 @@ returns-clause-ranges c =
 
 pub returns-clause-broom : goal.returns-clause-broom
 returns-clause-broom c =
-    let changed = loaded_changed _ _ _ _ (loaded (goal.at.returns-clause-broom c).After-load-found) in
-    stays_broom c.args.self.now c.args.broom.now _ c.requires.broom c.load-found.ensures.0 (ap (λ (w : View). w.role) changed)
-    (ap (λ (w : View). w.numbers) changed)
+    stays_broom c.requires.broom c.load-found.ensures.0 (ap whose (loaded_changed _ _ _ _ (loaded (goal.at.returns-clause-broom c).After-load-found)))

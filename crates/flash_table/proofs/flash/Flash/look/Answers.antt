@@ -1,13 +1,9 @@
-use Rattle.std.proofs.Common.{arith}
-use Rattle.std.proofs.lemmas.Grind.{common_steps}
-use Rattle.flash_table.proofs.Asking.{of_pass}
-use Rattle.flash_table.proofs.Here.{look_here}
+use Rattle.std.proofs.{Common.arith, lemmas.Grind.common_steps}
+use Rattle.flash_table.proofs.{Asking.of_pass, Here.look_here}
 use Rattle.flash_table.proofs.flash.Flash.look.Goals as goal
 
 pub load-found-requires : goal.load-found-requires
-load-found-requires c =
-    let p = c.args.pass.now in
-    look_here c.args.self.now p.seat (of_pass c.args.self.now p c.requires.pass) c.args.sector c.requires.pass.role c.requires.unpinned c.requires.sector
+load-found-requires c = look_here (of_pass c.requires.pass) c.args.sector c.requires.pass.role c.requires.unpinned c.requires.sector
 
 pub returns-clause-told : goal.returns-clause-told
 returns-clause-told c = grind (arith, common_steps)

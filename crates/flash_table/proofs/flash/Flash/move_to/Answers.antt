@@ -1,29 +1,22 @@
+use Rattle.flash_table.proofs.{Asking.whose, Asking.of_broom, Rows.just_now, HereBrooms.move_here, flash.Flash.move_to.Goals.After-compare_exchange-found}
 use Rattle.std.proofs.Common.{◌≡◌, ap, sym, ◌∙◌, subst}
 use Rattle.geometry.specs.MapWords.{map_word}
-use Rattle.flash_rule.specs.declared.facts.Source.{Source}
-use Rattle.flash_rule.specs.declared.view.View.{View}
-use Rattle.flash_rule.specs.BroomPlays.{Moved}
+use Rattle.flash_rule.specs.{declared.facts.Source.Source, BroomPlays.Moved}
 use Rattle.flash_table.specs.Flash.{broom_view}
-use Rattle.flash_table.proofs.Asking.{of_broom}
-use Rattle.flash_table.proofs.Rows.{just_now}
-use Rattle.flash_table.proofs.HereBrooms.{move_here}
 use Rattle.flash_table.proofs.ToldBrooms.{stays_broom, source_same, moved_view, found_or_not}
 use Rattle.flash_table.proofs.flash.Flash.move_to.Goals as goal
-use Rattle.flash_table.proofs.flash.Flash.move_to.Goals.{After-compare_exchange-found}
 
 pub compare_exchange-found-requires : goal.compare_exchange-found-requires
 compare_exchange-found-requires c =
-    let f = c.args.self.now in
-    let s = c.args.broom.now in
     let t = c.requires.live in
-    move_here f s.seat (of_broom f s c.requires.broom) c.args.sector c.pack-old.result c.pack-new.result t.0 c.args.to c.requires.sector t.2.1
+    move_here (of_broom c.requires.broom) c.args.sector c.pack-old.result c.pack-new.result t.0 c.args.to c.requires.sector t.2.1
     (c.pack-old.ensures ∙ ap map_word (sym t.2.0)) c.pack-new.ensures t.1
 
 moved : (c : After-compare_exchange-found)
     → Moved (broom_view c.args.broom.now) c.requires.live.0 c.compare_exchange-found.result c.compare_exchange-found.new.seat.me.0
 moved c =
     let t = c.requires.live in
-    moved_view c.args.self.now c.args.broom.now c.requires.broom c.compare_exchange-found.result c.compare_exchange-found.new.seat.me c.args.sector
+    moved_view c.requires.broom
     c.pack-old.result c.pack-new.result t.0 c.args.from c.args.to t.1 c.requires.fits t.2.0 t.2.1 c.pack-old.ensures c.pack-new.ensures
     c.compare_exchange-found.ensures.2
 
@@ -31,13 +24,13 @@ pub invariant_of-broom : goal.invariant_of-broom
 invariant_of-broom c =
     let s = c.args.broom.now in
     let told = moved (goal.at.invariant_of-broom c).After-compare_exchange-found in
-    record { bare = c.compare_exchange-found.ensures.2.0 ∙ s.bare; owns = just_now _ _ _ (ap (λ (w : View). w.owns) told.changed) s.owns }
+    record { bare = c.compare_exchange-found.ensures.2.0 ∙ s.bare; owns = just_now told.changed s.owns }
 
 pub returns-clause-moved : goal.returns-clause-moved
 returns-clause-moved c x is =
     let s = c.args.broom.now in
     let t = c.requires.live in
-    let same = source_same t.0 x (broom_view s).source t.1.is is in
+    let same = source_same t.1.is is in
     let its : Moved (broom_view s) x c.compare_exchange-found.result c.compare_exchange-found.new.seat.me.0 =
     subst (λ (y : Source). Moved (broom_view s) y c.compare_exchange-found.result c.compare_exchange-found.new.seat.me.0) same
     (moved (goal.at.returns-clause-moved c).After-compare_exchange-found) in
@@ -46,6 +39,4 @@ returns-clause-moved c x is =
 
 pub returns-clause-broom : goal.returns-clause-broom
 returns-clause-broom c =
-    let told = moved (goal.at.returns-clause-broom c).After-compare_exchange-found in
-    stays_broom c.args.self.now c.args.broom.now _ c.requires.broom c.compare_exchange-found.ensures.0 (ap (λ (w : View). w.role) told.changed)
-    (ap (λ (w : View). w.numbers) told.changed)
+    stays_broom c.requires.broom c.compare_exchange-found.ensures.0 (ap whose (moved (goal.at.returns-clause-broom c).After-compare_exchange-found).changed)

@@ -1,16 +1,10 @@
-use Rattle.std.proofs.Common.{◌≡◌, ℕ, zero, suc, ◌+◌, ◌-◌, ◌<◌, List, [], None, Some, length, slice_get, sym, refl, ap, ◌∙◌, subst, arith}
-use Rattle.atomic_table.specs.Table.{opening}
-use Rattle.geometry.specs.Geometry.{numbers_of}
-use Rattle.geometry.specs.Limits.{Numbers}
-use Rattle.flash_rule.specs.declared.view.View.{View}
-use Rattle.flash_rule.specs.Seats.{Ruled, dealer}
-use Rattle.flash_rule.proofs.Opening.{opening_ruled}
-use Rattle.flash_rule.proofs.Owning.{none_some}
-use Rattle.flash_table.specs.declared.pass.Pass.{Pass}
-use Rattle.flash_table.specs.Flash.{spare_of}
-use Rattle.flash_table.specs.declared.broom_seat.Reclaiming.TheVariants.{Nothing}
-use Rattle.flash_table.proofs.Dealing.{deal_here, deals_next, no_broom_yet, next_owned, deal_broom_here, deals_next_broom}
-use Rattle.std.proofs.lemmas.Grind.{common_steps}
+use Rattle.flash_rule.specs.{Seats.dealt_pass, Seats.new_pass, Seats.dealt_broom, Seats.new_broom, Seats.Ruled, Seats.dealer}
+use Rattle.flash_rule.proofs.{Splitting.deals_pass, DealingBrooms.deals_broom, Opening.opening_ruled}
+use Rattle.atomic_table.specs.Table.{Splits, opening}
+use Rattle.std.proofs.Common.{◌≡◌, ℕ, ◌+◌, ◌-◌, ◌<◌, List, [], None, Some, length, sym, refl, ap, ◌∙◌, subst, arith}
+use Rattle.geometry.specs.{Geometry.numbers_of, Limits.Numbers}
+use Rattle.flash_table.specs.{declared.broom_seat.Reclaiming.TheVariants.Nothing, Flash.spare_of}
+use Rattle.flash_table.proofs.Dealing.{deals_next, next_owned, deals_next_broom}
 use Rattle.flash_table.proofs.flash.Flash.open.Goals as goal
 
 pub of_words-requires : goal.of_words-requires
@@ -19,30 +13,10 @@ of_words-requires c =
     let P : List ℕ → Type 0 = λ words. Ruled z (opening words [] (dealer z)) in
     subst P (sym (c.deref.ensures.value ∙ c.in_ok-words.ensures)) (opening_ruled z c.args.geometry.now.in_limits)
 
-nothing : (k : ℕ) (p : Pass) → ¬ (slice_get [] k ≡ Some p)
-nothing zero p e = none_some p e
-nothing (suc k) p e = none_some p e
-
-pub loop-init : goal.loop-init
-loop-init c =
-    let t = c.in_ok-table.ensures in
-    let first = ap (λ x. x.0) t.4 in (
-      record {
-        table = t.2;
-        role = ap (λ (v : View). v.role) first;
-        count = ap (λ (v : View). v.passes) first;
-        numbers = ap (λ (v : View). v.numbers) first;
-        none = ap (λ (v : View). v.brooms) first;
-        owns = ap (λ (v : View). v.owns) first;
-        long = ap (length {A = Pass}) c.in_ok-passes.ensures.items;
-        each = λ k p is. absurd (nothing k p (ap (λ l. slice_get l k) (sym c.in_ok-passes.ensures.items) ∙ is));
-      },
-      c.in_ok-passes.ensures.capacity,
-    )
-
 pub split_seat-seat-requires : goal.split_seat-seat-requires
 split_seat-seat-requires c =
     let h = c.loop.invariant.0 in
+    let v = c.loop.dealer.me.0 in
     let t = c.in_ok-table.ensures in
     let some_sector = c.args.geometry.now.in_limits.sectors_low in
     let below = c.loop-test.true in
@@ -55,16 +29,8 @@ split_seat-seat-requires c =
     let theirs : c.loop.dealer.me.0.numbers.hosts ≡ (numbers_of c.args.geometry.now).hosts = ap (λ (y : Numbers). y.hosts) h.numbers in (
       h.table,
       omega arith,
-      deal_here (numbers_of c.args.geometry.now)
-          (numbers_of c.in_ok-table.table.shared.key) same c.loop.dealer.id c.loop.dealer.me.0 h.role (omega arith),
+      subst (λ x. Splits (Ruled x) c.loop.dealer.id v (dealt_pass v) (new_pass v)) (sym same) (deals_pass z c.loop.dealer.id v h.role (omega arith)),
     )
-
-pub push_reserved-requires : goal.push_reserved-requires
-push_reserved-requires c =
-    let long = c.loop.invariant.0.long in
-    let room = c.loop.invariant.1 in
-    let below = c.loop-test.true in
-    let is = c.loop.passes.ok.0 in omega arith
 
 pub loop-preserved : goal.loop-preserved
 loop-preserved c =
@@ -73,16 +39,10 @@ loop-preserved c =
     (ap (λ x. x.0) s.2) s.3 (ap (λ x. x.0) s.4) refl in
     (rw c.push_reserved.ensures.items next, (let e = c.push_reserved.ensures.capacity in let r = c.loop.invariant.1 in omega arith))
 
-pub returns-clause-count : goal.returns-clause-count
-returns-clause-count c =
-    let long = c.loop.invariant.0.long in
-    let most = c.loop.auto.counter-end in
-    let least = c.loop-test.false in
-    let hosts = c.hosts-hosts.ensures.value in omega arith
-
 pub split_seat-seat-requires-in-loop-i : goal.split_seat-seat-requires-in-loop-i
 split_seat-seat-requires-in-loop-i c =
     let h = c.loop-i.invariant.0 in
+    let v = c.loop-i.dealer.me.0 in
     let t = c.in_ok-table.ensures in
     let z : Numbers = numbers_of c.args.geometry.now in
     let some_sector = c.args.geometry.now.in_limits.sectors_low in
@@ -94,8 +54,8 @@ split_seat-seat-requires-in-loop-i c =
     let more : c.loop-i.i < z.brooms = omega arith in (
       h.table,
       omega arith,
-      deal_broom_here z (numbers_of c.in_ok-table.table.shared.key) same c.loop-i.dealer.id c.loop-i.dealer.me.0 h.role
-          (next_owned z c.loop-i.dealer.me.0 c.loop-i.i h.numbers h.count h.owns more),
+      subst (λ x. Splits (Ruled x) c.loop-i.dealer.id v (dealt_broom v) (new_broom v)) (sym same)
+          (deals_broom z c.loop-i.dealer.id v h.role (next_owned z v c.loop-i.i h.numbers h.count h.owns more)),
     )
 
 pub loop-i-preserved : goal.loop-i-preserved
@@ -112,37 +72,3 @@ loop-i-preserved c =
     let next = deals_next_broom _ c.loop-i.dealer c.split_seat-seat-in-loop-i.new.seat c.loop-i.brooms.items _ c.loop-i.i c.loop-i.invariant.0 more
     s.0 (ap (λ x. x.0) s.2) s.3 (ap (λ x. x.0) s.4) given in
     (rw c.push_reserved-in-loop-i.ensures.items next, (let e = c.push_reserved-in-loop-i.ensures.capacity in let r = c.loop-i.invariant.1 in omega arith))
-
-pub invariant_of-flash : goal.invariant_of-flash
-invariant_of-flash c = grind (arith, common_steps)
-
-pub loop-i-init : goal.loop-i-init
-loop-i-init c = (no_broom_yet _ _ _ _ _ c.loop.invariant.0 c.in-Ok.ensures.items, c.in-Ok.ensures.capacity)
-
-pub returns-in_default-clause-geometry : goal.returns-in_default-clause-geometry
-returns-in_default-clause-geometry c = tt
-
-pub returns-in_default-clause-count : goal.returns-in_default-clause-count
-returns-in_default-clause-count c = tt
-
-pub returns-in_default-clause-passes : goal.returns-in_default-clause-passes
-returns-in_default-clause-passes c = tt
-
-pub returns-in_default-clause-brooms : goal.returns-in_default-clause-brooms
-returns-in_default-clause-brooms c = tt
-
-pub returns-clause-geometry : goal.returns-clause-geometry
-returns-clause-geometry c = refl
-
-pub invariant_of-push_reserved : goal.invariant_of-push_reserved
-invariant_of-push_reserved c = let s = c.split_seat-seat.ensures in record { bare = ap (λ x. x.1) s.4; owns = ap (λ (v : View). v.owns) (ap (λ x. x.0) s.4) }
-
-pub returns-clause-passes : goal.returns-clause-passes
-returns-clause-passes c = c.loop.invariant.0.each
-
-pub returns-clause-brooms : goal.returns-clause-brooms
-returns-clause-brooms c = c.loop-i.invariant.0.each
-
-pub push_reserved-requires-in-loop-i : goal.push_reserved-requires-in-loop-i
-push_reserved-requires-in-loop-i c = let long = c.loop-i.invariant.0.long in let room = c.loop-i.invariant.1 in let below = c.loop-i-test.true in
-    let is = c.loop-i.brooms.ok.0 in omega arith

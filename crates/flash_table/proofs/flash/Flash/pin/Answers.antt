@@ -1,24 +1,16 @@
+use Rattle.flash_table.proofs.{Asking.whose, Asking.of_pass, Here.pin_here, flash.Flash.pin.Goals.After-fetch_add-found}
 use Rattle.std.proofs.Common.{◌≡◌, ℕ, List, ap, ◌∙◌}
-use Rattle.flash_rule.specs.declared.facts.Pin.TheVariants.{Candidate}
-use Rattle.flash_rule.specs.declared.view.View.{View}
-use Rattle.flash_rule.specs.Plays.{Pinned}
+use Rattle.flash_rule.specs.{declared.facts.Pin.TheVariants.Candidate, declared.view.View.View, Plays.Pinned}
 use Rattle.flash_table.specs.Flash.{view_of}
-use Rattle.flash_table.proofs.Asking.{of_pass}
-use Rattle.flash_table.proofs.Here.{pin_here}
 use Rattle.flash_table.proofs.Told.{stays_pass, by_outcome, pin_pinned, pin_yes, pin_no}
 use Rattle.flash_table.proofs.flash.Flash.pin.Goals as goal
-use Rattle.flash_table.proofs.flash.Flash.pin.Goals.{After-fetch_add-found}
 
 pub fetch_add-found-requires : goal.fetch_add-found-requires
-fetch_add-found-requires c =
-    let p = c.args.pass.now in
-    pin_here c.args.self.now p.seat (of_pass c.args.self.now p c.requires.pass) c.pin_at-word.result c.args.page c.requires.block c.pin_at-word.ensures
-    c.requires.pass.role c.requires.candidate
+fetch_add-found-requires c = pin_here (of_pass c.requires.pass) c.args.page c.requires.block c.pin_at-word.ensures c.requires.pass.role c.requires.candidate
 
 pinned : (c : After-fetch_add-found) (value : List ℕ) → (view_of c.args.pass.now).pin ≡ Candidate c.args.page value
     → Pinned (view_of c.args.pass.now) c.args.page value c.fetch_add-found.result c.fetch_add-found.new.seat.me.0
-pinned c value pin = pin_pinned c.args.self.now c.args.pass.now c.requires.pass c.fetch_add-found.result c.fetch_add-found.new.seat.me c.pin_at-word.result
-    c.args.page value pin c.pin_at-word.ensures c.fetch_add-found.ensures.2
+pinned c value pin = pin_pinned c.requires.pass c.pin_at-word.result c.args.page value pin c.pin_at-word.ensures c.fetch_add-found.ensures.2
 
 pub invariant_of-pass : goal.invariant_of-pass
 invariant_of-pass c =
@@ -28,15 +20,9 @@ invariant_of-pass c =
 pub returns-clause-pass : goal.returns-clause-pass
 returns-clause-pass c =
     let told = pinned (goal.at.returns-clause-pass c).After-fetch_add-found c.requires.candidate.0 c.requires.candidate.1 in
-    stays_pass c.args.self.now c.args.pass.now _ c.requires.pass c.fetch_add-found.ensures.0 (ap (λ (w : View). w.role) told.changed)
-    (ap (λ (w : View). w.numbers) told.changed)
+    stays_pass c.requires.pass c.fetch_add-found.ensures.0 (ap whose told.changed)
 
 pub returns-clause-told : goal.returns-clause-told
 returns-clause-told c value pin =
-    let f = c.args.self.now in
-    let p = c.args.pass.now in
-    let w = c.fetch_add-found.new.seat.me in
-    let n = c.fetch_add-found.result in
     let told = pinned (goal.at.returns-clause-told c).After-fetch_add-found value pin in
-    by_outcome c.finds_intact.result _ _ _ _ (pin_yes f p c.requires.pass n w c.args.page value w.0 told)
-    (pin_no f p c.requires.pass n w c.args.page value w.0 told) c.finds_intact.ensures
+    by_outcome c.finds_intact.result _ _ _ _ (pin_yes told) (pin_no told) c.finds_intact.ensures

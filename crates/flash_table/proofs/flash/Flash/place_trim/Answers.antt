@@ -1,20 +1,16 @@
+use Rattle.flash_table.proofs.{Asking.whose, Asking.of_pass, Here.trim_here, Told.stays_pass, Told.trim_changed}
 use Rattle.std.proofs.Common.{ap, ◌∙◌}
 use Rattle.flash_rule.specs.declared.view.View.{View}
 use Rattle.flash_rule.proofs.Steps.{called}
 use Rattle.flash_table.specs.Flash.{view_of}
-use Rattle.flash_table.proofs.Asking.{of_pass}
-use Rattle.flash_table.proofs.Here.{trim_here}
-use Rattle.flash_table.proofs.Told.{stays_pass, trim_changed}
 use Rattle.flash_table.proofs.flash.Flash.place_trim.Goals as goal
 
 pub swap-found-requires : goal.swap-found-requires
-swap-found-requires c =
-    let p = c.args.pass.now in
-    trim_here c.args.self.now p.seat (of_pass c.args.self.now p c.requires.pass) c.args.sector c.requires.pass.role c.requires.sector
+swap-found-requires c = trim_here (of_pass c.requires.pass) c.args.sector c.requires.pass.role c.requires.sector
 
 pub invariant_of-pass : goal.invariant_of-pass
 invariant_of-pass c =
-    let t = trim_changed c.args.self.now c.args.pass.now c.requires.pass c.swap-found.result c.swap-found.new.seat.me c.args.sector c.swap-found.ensures.2 in
+    let t = trim_changed c.requires.pass c.args.sector c.swap-found.ensures.2 in
     record { bare = c.swap-found.ensures.2.0 ∙ c.args.pass.now.bare; owns = ap (λ (w : View). w.owns) t.1.changed ∙ c.args.pass.now.owns }
 
 pub returns-clause-told : goal.returns-clause-told
@@ -23,6 +19,4 @@ returns-clause-told c t role =
 
 pub returns-clause-pass : goal.returns-clause-pass
 returns-clause-pass c =
-    let t = trim_changed c.args.self.now c.args.pass.now c.requires.pass c.swap-found.result c.swap-found.new.seat.me c.args.sector c.swap-found.ensures.2 in
-    stays_pass c.args.self.now c.args.pass.now _ c.requires.pass c.swap-found.ensures.0 (ap (λ (w : View). w.role) t.1.changed)
-    (ap (λ (w : View). w.numbers) t.1.changed)
+    stays_pass c.requires.pass c.swap-found.ensures.0 (ap whose (trim_changed c.requires.pass c.args.sector c.swap-found.ensures.2).1.changed)

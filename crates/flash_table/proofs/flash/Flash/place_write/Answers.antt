@@ -1,24 +1,20 @@
+use Rattle.flash_table.proofs.{Asking.whose, Asking.of_pass, Here.write_here, Told.stays_pass, Told.write_changed}
 use Rattle.std.proofs.Common.{ℕ, List, ap, ◌∙◌}
 use Rattle.geometry.specs.History.{Write}
-use Rattle.flash_rule.specs.declared.view.View.{View}
-use Rattle.flash_rule.specs.Plays.{Placed}
+use Rattle.flash_rule.specs.{declared.view.View.View, Plays.Placed}
 use Rattle.flash_rule.proofs.Steps.{called}
 use Rattle.flash_table.specs.Flash.{view_of}
-use Rattle.flash_table.proofs.Asking.{of_pass}
-use Rattle.flash_table.proofs.Here.{write_here}
-use Rattle.flash_table.proofs.Told.{stays_pass, write_changed}
-use Rattle.flash_table.proofs.flash.Flash.place_write.Goals as goal
 use Rattle.flash_table.proofs.flash.Flash.place_write.Goals.{After-swap-found}
+use Rattle.flash_table.proofs.flash.Flash.place_write.Goals as goal
 
 pub swap-found-requires : goal.swap-found-requires
 swap-found-requires c =
-    let p = c.args.pass.now in
-    write_here c.args.self.now p.seat (of_pass c.args.self.now p c.requires.pass) c.args.sector c.pack-word.result c.args.page c.requires.pass.role
+    write_here (of_pass c.requires.pass) c.args.sector c.pack-word.result c.args.page c.requires.pass.role
     c.requires.sector c.pack-word.ensures c.requires.page c.requires.counted
 
 placed : (c : After-swap-found)
     → (t : ℕ) × (value : List ℕ) × Placed (view_of c.args.pass.now) (Write t c.args.sector value) c.args.sector c.swap-found.result c.swap-found.new.seat.me.0
-placed c = write_changed c.args.self.now c.args.pass.now c.requires.pass c.swap-found.result c.swap-found.new.seat.me c.args.sector c.pack-word.result
+placed c = write_changed c.requires.pass c.args.sector c.pack-word.result
     c.args.page c.pack-word.ensures c.requires.page c.requires.counted c.swap-found.ensures.2
 
 pub invariant_of-pass : goal.invariant_of-pass
@@ -32,7 +28,4 @@ returns-clause-told c t value role can =
     (c.swap-found.ensures.2.1 t c.args.page value role c.pack-word.ensures c.requires.page can) c.was_by.ensures.empty c.was_by.ensures.written
 
 pub returns-clause-pass : goal.returns-clause-pass
-returns-clause-pass c =
-    let t = placed (goal.at.returns-clause-pass c).After-swap-found in
-    stays_pass c.args.self.now c.args.pass.now _ c.requires.pass c.swap-found.ensures.0 (ap (λ (w : View). w.role) t.2.changed)
-    (ap (λ (w : View). w.numbers) t.2.changed)
+returns-clause-pass c = stays_pass c.requires.pass c.swap-found.ensures.0 (ap whose (placed (goal.at.returns-clause-pass c).After-swap-found).2.changed)

@@ -1,16 +1,9 @@
+use Rattle.flash_table.proofs.{Asking.of_broom, flash.Flash.put_copy_word.Goals.After-store}
 use Rattle.std.proofs.Common.{◌≡◌, ◌+◌, ap, ◌∙◌, arith}
 use Rattle.geometry.specs.TableOrder.{page_index}
-use Rattle.flash_rule.specs.declared.view.View.{View}
-use Rattle.flash_table.specs.Flash.{device, broom_view, own_blocks}
-use Rattle.flash_table.specs.Owning.{owned_of}
-use Rattle.flash_table.specs.Steps.{HasPut}
-use Rattle.flash_table.proofs.Asking.{of_broom}
-use Rattle.flash_table.proofs.Here.{put_here, put_within}
-use Rattle.flash_table.proofs.Rows.{just_now}
-use Rattle.flash_table.proofs.Told.{put_can, put_view}
-use Rattle.flash_table.proofs.ToldBrooms.{stays_broom}
+use Rattle.flash_table.specs.{Flash.device, Flash.broom_view, Owning.owned_of}
+use Rattle.flash_table.proofs.{Here.put_here, Here.put_within}
 use Rattle.flash_table.proofs.flash.Flash.put_copy_word.Goals as goal
-use Rattle.flash_table.proofs.flash.Flash.put_copy_word.Goals.{After-store}
 
 pub overflow_add-place : goal.overflow_add-place
 overflow_add-place c =
@@ -23,30 +16,6 @@ overflow_add-place c =
 pub store-requires : goal.store-requires
 store-requires c =
     let f = c.args.self.now in
-    let s = c.args.broom.now in
     let t = c.requires.next in
     let at : c.args.start + c.args.i ≡ page_index (device f) t.0.block t.0.written + c.args.i = ap (λ n. n + c.args.i) (c.requires.start t.0 t.1) in
-    put_here f s.seat (of_broom f s c.requires.broom) (c.args.start + c.args.i) (owned_of t.0) c.args.word t.4
-    (at ∙ ap (λ k. page_index (device f) t.0.block t.0.written + k) t.3) t.2
-
-put : (c : After-store) → HasPut (broom_view c.args.broom.now) (own_blocks c.args.broom.now).destination c.args.word c.store.new.seat.me.0
-put c o is =
-    let f = c.args.self.now in
-    let s = c.args.broom.now in
-    let t = put_can f.geometry (broom_view s) (own_blocks s).destination o is c.args.i c.requires.next in
-    put_view f s.seat (of_broom f s c.requires.broom) c.args.word c.store.new.seat.me (c.args.start + c.args.i) o c.args.i c.args.word t.0 t.1
-    (ap (λ n. n + c.args.i) (c.requires.start o is)) c.store.ensures.2
-
-pub invariant_of-broom : goal.invariant_of-broom
-invariant_of-broom c =
-    let s = c.args.broom.now in
-    let changed = put (goal.at.invariant_of-broom c).After-store c.requires.next.0 c.requires.next.1 in
-    record { bare = c.store.ensures.2.0 ∙ s.bare; owns = just_now _ _ _ (ap (λ (w : View). w.owns) changed) s.owns }
-
-pub returns-clause-put : goal.returns-clause-put
-returns-clause-put c = put (goal.at.returns-clause-put c).After-store
-
-pub returns-clause-broom : goal.returns-clause-broom
-returns-clause-broom c =
-    let changed = put (goal.at.returns-clause-broom c).After-store c.requires.next.0 c.requires.next.1 in
-    stays_broom c.args.self.now c.args.broom.now _ c.requires.broom c.store.ensures.0 (ap (λ (w : View). w.role) changed) (ap (λ (w : View). w.numbers) changed)
+    put_here (of_broom c.requires.broom) (owned_of t.0) c.args.word t.4 (at ∙ ap (λ k. page_index (device f) t.0.block t.0.written + k) t.3) t.2

@@ -1,14 +1,9 @@
+use Rattle.flash_table.proofs.{Asking.whose, Asking.of_pass, Here.put_here, Here.put_within}
 use Rattle.std.proofs.Common.{◌≡◌, ◌+◌, ap, ◌∙◌, arith}
 use Rattle.geometry.specs.TableOrder.{page_index}
-use Rattle.flash_rule.specs.declared.view.View.{View}
-use Rattle.flash_table.specs.Flash.{device, view_of}
-use Rattle.flash_table.specs.Owning.{owned_of}
-use Rattle.flash_table.specs.Steps.{HasPut}
-use Rattle.flash_table.proofs.Asking.{of_pass}
-use Rattle.flash_table.proofs.Here.{put_here, put_within}
-use Rattle.flash_table.proofs.Told.{stays_pass, put_can, put_view}
+use Rattle.flash_table.specs.{Flash.device, Flash.view_of, Owning.owned_of, Steps.HasPut}
+use Rattle.flash_table.proofs.{Told.stays_pass, Told.put_can, Told.put_view, flash.Flash.put_word.Goals.After-store}
 use Rattle.flash_table.proofs.flash.Flash.put_word.Goals as goal
-use Rattle.flash_table.proofs.flash.Flash.put_word.Goals.{After-store}
 
 pub overflow_add-place : goal.overflow_add-place
 overflow_add-place c =
@@ -21,30 +16,15 @@ overflow_add-place c =
 pub store-requires : goal.store-requires
 store-requires c =
     let f = c.args.self.now in
-    let p = c.args.pass.now in
     let t = c.requires.next in
     let at : c.args.start + c.args.i ≡ page_index (device f) t.0.block t.0.written + c.args.i = ap (λ n. n + c.args.i) (c.requires.start t.0 t.1) in
-    put_here f p.seat (of_pass f p c.requires.pass) (c.args.start + c.args.i) (owned_of t.0) c.args.word t.4
-    (at ∙ ap (λ k. page_index (device f) t.0.block t.0.written + k) t.3) t.2
+    put_here (of_pass c.requires.pass) (owned_of t.0) c.args.word t.4 (at ∙ ap (λ k. page_index (device f) t.0.block t.0.written + k) t.3) t.2
 
 put : (c : After-store) → HasPut (view_of c.args.pass.now) c.args.pass.now.opened c.args.word c.store.new.seat.me.0
 put c o is =
-    let f = c.args.self.now in
-    let p = c.args.pass.now in
-    let t = put_can f.geometry (view_of p) p.opened o is c.args.i c.requires.next in
-    put_view f p.seat (of_pass f p c.requires.pass) c.args.word c.store.new.seat.me (c.args.start + c.args.i) o c.args.i c.args.word t.0 t.1
-    (ap (λ n. n + c.args.i) (c.requires.start o is)) c.store.ensures.2
-
-pub invariant_of-pass : goal.invariant_of-pass
-invariant_of-pass c =
-    let p = c.args.pass.now in
-    let changed = put (goal.at.invariant_of-pass c).After-store c.requires.next.0 c.requires.next.1 in
-    record { bare = c.store.ensures.2.0 ∙ p.bare; owns = ap (λ (w : View). w.owns) changed ∙ p.owns }
-
-pub returns-clause-told : goal.returns-clause-told
-returns-clause-told c = put (goal.at.returns-clause-told c).After-store
+    let t = put_can c.args.self.now.geometry (view_of c.args.pass.now) is c.args.i c.requires.next in
+    put_view (of_pass c.requires.pass) o c.args.i c.args.word t.0 t.1 (ap (λ n. n + c.args.i) (c.requires.start o is)) c.store.ensures.2
 
 pub returns-clause-pass : goal.returns-clause-pass
 returns-clause-pass c =
-    let changed = put (goal.at.returns-clause-pass c).After-store c.requires.next.0 c.requires.next.1 in
-    stays_pass c.args.self.now c.args.pass.now _ c.requires.pass c.store.ensures.0 (ap (λ (w : View). w.role) changed) (ap (λ (w : View). w.numbers) changed)
+    stays_pass c.requires.pass c.store.ensures.0 (ap whose (put (goal.at.returns-clause-pass c).After-store c.requires.next.0 c.requires.next.1))

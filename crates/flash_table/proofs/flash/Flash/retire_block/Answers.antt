@@ -1,50 +1,33 @@
+use Rattle.flash_table.proofs.{Asking.whose, Asking.of_broom, Rows.just_now, Blocks.erased_just}
 use Rattle.std.proofs.Common.{◌≡◌, ap, ◌∙◌}
-use Rattle.flash_rule.specs.declared.view.View.{View}
-use Rattle.flash_table.specs.Flash.{broom_view, own_blocks}
-use Rattle.flash_table.specs.GivingUp.{left_retired}
-use Rattle.flash_table.proofs.Asking.{of_broom}
-use Rattle.flash_table.proofs.HereErasing.{retired_here}
-use Rattle.flash_table.proofs.Blocks.{erased_just}
-use Rattle.flash_table.proofs.Rows.{just_now}
-use Rattle.flash_table.proofs.ToldBrooms.{stays_broom}
+use Rattle.flash_table.specs.{Flash.broom_view, Flash.own_blocks, GivingUp.left_retired}
+use Rattle.flash_table.proofs.{HereErasing.retired_here, ToldBrooms.stays_broom, flash.Flash.retire_block.Goals.After-fetch_add}
 use Rattle.flash_table.proofs.ToldErasing.{same_erased, last_erase, can_retire, retired_view}
 use Rattle.flash_table.proofs.flash.Flash.retire_block.Goals as goal
-use Rattle.flash_table.proofs.flash.Flash.retire_block.Goals.{After-fetch_add}
 
 pub fetch_add-requires : goal.fetch_add-requires
 fetch_add-requires c =
-    let f = c.args.self.now in
-    let s = c.args.broom.now in
     let o = c.in-Erasing.erased in
-    let t = last_erase f s c.requires.broom o c.in-Erasing.is c.requires.last in
-    retired_here f s.seat (of_broom f s c.requires.broom) c.pin_at-word.result _ t.erases.low c.pin_at-word.ensures (can_retire f s c.requires.broom o t)
+    let t = last_erase c.requires.broom o c.in-Erasing.is c.requires.last in
+    retired_here (of_broom c.requires.broom) _ t.erases.low c.pin_at-word.ensures (can_retire c.requires.broom o t)
 
 retired : (c : After-fetch_add) → c.fetch_add.new.seat.me.0 ≡ left_retired (broom_view c.args.broom.now) c.in-Erasing.erased
 retired c =
-    let f = c.args.self.now in
-    let s = c.args.broom.now in
     let o = c.in-Erasing.erased in
-    retired_view f s c.requires.broom c.fetch_add.result c.fetch_add.new.seat.me c.pin_at-word.result o
-    (last_erase f s c.requires.broom o c.in-Erasing.is c.requires.last) c.pin_at-word.ensures c.fetch_add.ensures.2
+    retired_view c.requires.broom o (last_erase c.requires.broom o c.in-Erasing.is c.requires.last) c.pin_at-word.ensures c.fetch_add.ensures.2
 
 pub invariant_of-broom : goal.invariant_of-broom
 invariant_of-broom c =
     let s = c.args.broom.now in
-    let changed = retired (goal.at.invariant_of-broom c).After-fetch_add in
     record {
       bare = c.fetch_add.ensures.2.0 ∙ s.bare;
-      owns = just_now _ _ _ (ap (λ (w : View). w.owns) changed)
-          (erased_just (own_blocks s) (broom_view s).owns s.owns c.in-Erasing.erased c.in-Erasing.is);
+      owns = just_now (retired (goal.at.invariant_of-broom c).After-fetch_add) (erased_just (own_blocks s) s.owns c.in-Erasing.is);
     }
 
 pub returns-clause-retired : goal.returns-clause-retired
 returns-clause-retired c x is =
-    let s = c.args.broom.now in
     retired (goal.at.returns-clause-retired c).After-fetch_add
-    ∙ ap (left_retired (broom_view s)) (same_erased (own_blocks s).reclaiming c.in-Erasing.erased x c.in-Erasing.is is)
+    ∙ ap (left_retired (broom_view c.args.broom.now)) (same_erased c.in-Erasing.is is)
 
 pub returns-clause-broom : goal.returns-clause-broom
-returns-clause-broom c =
-    let changed = retired (goal.at.returns-clause-broom c).After-fetch_add in
-    stays_broom c.args.self.now c.args.broom.now _ c.requires.broom c.fetch_add.ensures.0 (ap (λ (w : View). w.role) changed)
-    (ap (λ (w : View). w.numbers) changed)
+returns-clause-broom c = stays_broom c.requires.broom c.fetch_add.ensures.0 (ap whose (retired (goal.at.returns-clause-broom c).After-fetch_add))

@@ -1,41 +1,34 @@
-use Rattle.std.proofs.Common.{ap, ◌∙◌}
-use Rattle.flash_rule.specs.declared.view.View.{View}
-use Rattle.flash_rule.specs.Views.{is_player}
-use Rattle.flash_table.specs.Flash.{device}
-use Rattle.flash_table.proofs.Asking.{IsSeatOf}
-use Rattle.flash_table.proofs.Here.{take_here, test_here}
-use Rattle.flash_table.proofs.ToldTaking.{tested_free, tested_taken, took_by}
+use Rattle.std.proofs.Common.{ap, ◌∙◌, ◌≡◌, ℕ}
+use Rattle.flash_rule.specs.{declared.view.View.View, Views.is_player}
+use Rattle.flash_table.proofs.{Asking.IsSeatOf, Here.take_here, Here.test_here, flash.Flash.take_free.Goals.After-load-seen}
+use Rattle.flash_table.proofs.ToldTaking.{tested_free, tested_taken, took_by, IsFreeAt}
 use Rattle.flash_table.proofs.flash.Flash.take_free.Goals as goal
 
 pub load-seen-requires : goal.load-seen-requires
 load-seen-requires c =
     let seat : IsSeatOf c.args.self.now c.args.seat.now = record { table = c.requires.table; player = c.requires.player; numbers = c.requires.numbers } in
-    test_here c.args.self.now c.args.seat.now seat c.pin_at-word.result c.args.block c.requires.block c.pin_at-word.ensures
+    test_here seat c.args.block c.requires.block c.pin_at-word.ensures
 
 pub returns-in_err-generation_if_free-clause-told : goal.returns-in_err-generation_if_free-clause-told
 returns-in_err-generation_if_free-clause-told c =
     rw c.from_residual.ensures
-    (tested_taken (device c.args.self.now) c.args.seat.now.me c.requires.numbers c.args.self.now.table.shared.table_id.slots c.load-seen.result
-    c.load-seen.new.seat.me c.pin_at-word.result c.args.block c.requires.block c.pin_at-word.ensures c.load-seen.ensures.2
-    c.in_err-generation_if_free.ensures.none)
+    (tested_taken c.requires.numbers c.args.block c.requires.block c.pin_at-word.ensures c.load-seen.ensures.2 c.in_err-generation_if_free.ensures.none)
+
+-- the block's word was that of a free block, so the load changed nothing
+unchanged : (c : After-load-seen) (k : ℕ) → IsFreeAt c.load-seen.result k → c.load-seen.new.seat.me.0 ≡ c.args.seat.now.me.0
+unchanged c k free = tested_free c.requires.numbers c.args.block c.requires.block c.pin_at-word.ensures c.load-seen.ensures.2 free
 
 pub fetch_or-found-requires : goal.fetch_or-found-requires
 fetch_or-found-requires c =
-    let f = c.args.self.now in
-    let same = tested_free (device f) c.args.seat.now.me c.requires.numbers f.table.shared.table_id.slots c.load-seen.result c.load-seen.new.seat.me
-    c.pin_at-word.result c.args.block c.requires.block c.pin_at-word.ensures _ c.load-seen.ensures.2 c.in_ok-generation_if_free.ensures.some in
-    let seat : IsSeatOf f c.load-seen.new.seat = record {
+    let same = unchanged (goal.at.fetch_or-found-requires c).After-load-seen _ c.in_ok-generation_if_free.ensures.some in
+    let seat : IsSeatOf c.args.self.now c.load-seen.new.seat = record {
       table = c.load-seen.ensures.0 ∙ c.requires.table;
       player = ap (λ (w : View). is_player w.role) same ∙ c.requires.player;
       numbers = ap (λ (w : View). w.numbers) same ∙ c.requires.numbers;
-    } in take_here f c.load-seen.new.seat seat c.pin_at-word.result c.args.block c.requires.block c.pin_at-word.ensures
+    } in take_here seat c.args.block c.requires.block c.pin_at-word.ensures
 
 pub returns-clause-told : goal.returns-clause-told
 returns-clause-told c =
-    let f = c.args.self.now in
-    let at = c.pin_at-word.ensures in
-    let same = tested_free (device f) c.args.seat.now.me c.requires.numbers f.table.shared.table_id.slots c.load-seen.result c.load-seen.new.seat.me
-    c.pin_at-word.result c.args.block c.requires.block at _ c.load-seen.ensures.2 c.in_ok-generation_if_free.ensures.some in
-    took_by (device f) c.load-seen.new.seat.me (ap (λ (w : View). w.numbers) same ∙ c.requires.numbers) f.table.shared.table_id.slots c.fetch_or-found.result
-    c.fetch_or-found.new.seat.me c.pin_at-word.result c.args.block c.requires.block at c.args.seat.now.me.0 same c.fetch_or-found.ensures.2
+    let same = unchanged (goal.at.returns-clause-told c).After-load-seen _ c.in_ok-generation_if_free.ensures.some in
+    took_by (ap (λ (w : View). w.numbers) same ∙ c.requires.numbers) c.args.block c.requires.block c.pin_at-word.ensures same c.fetch_or-found.ensures.2
     c.generation_if_free-2.result c.generation_if_free-2.ensures.some c.generation_if_free-2.ensures.none

@@ -1,8 +1,5 @@
-use Rattle.flash_table.proofs.Asking.{of_pass}
-use Rattle.flash_table.proofs.Here.{take_in_here}
+use Rattle.flash_table.proofs.{Asking.of_pass, Here.take_in_here}
 use Rattle.flash_table.proofs.flash.Flash.take_in.Goals as goal
 
 pub join_seat-requires : goal.join_seat-requires
-join_seat-requires c =
-    let p = c.args.pass.now in
-    take_in_here c.args.self.now p.seat (of_pass c.args.self.now p c.requires.pass) c.args.note c.requires.note c.requires.lent c.requires.whole
+join_seat-requires c = take_in_here (of_pass c.requires.pass) c.args.note c.requires.note c.requires.lent c.requires.whole

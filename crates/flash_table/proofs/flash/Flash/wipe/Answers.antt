@@ -1,15 +1,10 @@
-use Rattle.std.proofs.Common.{◌≡◌, ◌+◌, ap, ◌∙◌, arith, refl, subst}
+use Rattle.flash_table.proofs.{Asking.whose, Asking.IsPlace, Asking.of_broom, HereErasing.wipe_here, Rows.just_now}
+use Rattle.std.proofs.Common.{◌≡◌, ◌+◌, ap, ◌∙◌, arith, subst}
 use Rattle.geometry.specs.TableOrder.{page_index}
-use Rattle.flash_rule.specs.declared.view.View.{View}
-use Rattle.flash_rule.specs.World.{blank_word}
 use Rattle.flash_table.specs.Flash.{device, broom_view}
-use Rattle.flash_table.proofs.Asking.{IsPlace, of_broom}
-use Rattle.flash_table.proofs.HereErasing.{wipe_here}
-use Rattle.flash_table.proofs.Rows.{just_now}
-use Rattle.flash_table.proofs.ToldBrooms.{stays_broom}
+use Rattle.flash_table.proofs.{ToldBrooms.stays_broom, flash.Flash.wipe.Goals.After-store}
 use Rattle.flash_table.proofs.ToldErasing.{can_wipe, wiped_within, wipe_view}
 use Rattle.flash_table.proofs.flash.Flash.wipe.Goals as goal
-use Rattle.flash_table.proofs.flash.Flash.wipe.Goals.{After-store}
 
 pub overflow_add-place : goal.overflow_add-place
 overflow_add-place c =
@@ -22,38 +17,28 @@ overflow_add-place c =
 pub store-requires : goal.store-requires
 store-requires c =
     let f = c.args.self.now in
-    let s = c.args.broom.now in
     let t = c.requires.erasing in
     let next = c.requires.next in
     let start = c.requires.start t.0 t.1.its in
     let low = wiped_within (device f) t.0.block c.args.i t.1.low c.requires.word in
-    wipe_here f s.seat (of_broom f s c.requires.broom) (c.args.start + c.args.i) _
-    (subst (λ k. IsPlace f (page_index (device f) t.0.block 0 + k)) next low) (omega arith)
-    (can_wipe f s c.requires.broom t.0 c.args.i t.1.its next c.requires.word)
+    wipe_here (of_broom c.requires.broom) _ (subst (λ k. IsPlace f (page_index (device f) t.0.block 0 + k)) next low) (omega arith)
+    (can_wipe c.requires.broom t.0 c.args.i t.1.its next c.requires.word)
 
 -- the broom has wiped one word more, and nothing else has changed
 changed : (c : After-store) → c.store.new.seat.me.0 ≡ record (broom_view c.args.broom.now) { wiped = c.args.i + 1 }
 changed c =
-    let f = c.args.self.now in
-    let s = c.args.broom.now in
     let t = c.requires.erasing in
-    let can = can_wipe f s c.requires.broom t.0 c.args.i t.1.its c.requires.next c.requires.word in
-    let at : c.args.start + c.args.i ≡ page_index (device f) t.0.block 0 + c.args.i = ap (λ n. n + c.args.i) (c.requires.start t.0 t.1.its) in
-    wipe_view f s c.requires.broom blank_word c.store.new.seat.me (c.args.start + c.args.i) c.args.i t.0 can c.requires.next at c.store.ensures.2
+    let can = can_wipe c.requires.broom t.0 c.args.i t.1.its c.requires.next c.requires.word in
+    let at : c.args.start + c.args.i ≡ page_index (device c.args.self.now) t.0.block 0 + c.args.i = ap (λ n. n + c.args.i) (c.requires.start t.0 t.1.its) in
+    wipe_view c.requires.broom c.args.i t.0 can c.requires.next at c.store.ensures.2
 
 pub invariant_of-broom : goal.invariant_of-broom
 invariant_of-broom c =
     let s = c.args.broom.now in
-    let now = changed (goal.at.invariant_of-broom c).After-store in
-    record { bare = c.store.ensures.2.0 ∙ s.bare; owns = just_now _ _ _ (ap (λ (w : View). w.owns) now) s.owns }
+    record { bare = c.store.ensures.2.0 ∙ s.bare; owns = just_now (changed (goal.at.invariant_of-broom c).After-store) s.owns }
 
 pub returns-clause-wiped : goal.returns-clause-wiped
 returns-clause-wiped c = changed (goal.at.returns-clause-wiped c).After-store
 
 pub returns-clause-broom : goal.returns-clause-broom
-returns-clause-broom c =
-    let now = changed (goal.at.returns-clause-broom c).After-store in
-    stays_broom c.args.self.now c.args.broom.now _ c.requires.broom c.store.ensures.0 (ap (λ (w : View). w.role) now) (ap (λ (w : View). w.numbers) now)
-
-pub returns-clause-blocks : goal.returns-clause-blocks
-returns-clause-blocks c = refl
+returns-clause-broom c = stays_broom c.requires.broom c.store.ensures.0 (ap whose (changed (goal.at.returns-clause-broom c).After-store))

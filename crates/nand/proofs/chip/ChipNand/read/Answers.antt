@@ -1,4 +1,4 @@
-use Rattle.std.proofs.Common.{◌∙◌, ap, subst, arith}
+use Rattle.std.proofs.Common.{◌+◌, ◌%◌, ◌^◌, ◌∙◌, ℕ, ap, subst}
 use Rattle.durable.specs.Flash.{Flash}
 use Rattle.nand.specs.declared.flash.Fault.TheVariants as fault
 use Rattle.nand.specs.Cells.{flash_in}
@@ -16,4 +16,5 @@ returns-then-copy_main-clause-main c =
     (c.copy_main.ensures c.if-copy_main.true)
 
 pub returns-else-copy_main-clause-cause : goal.returns-else-copy_main-clause-cause
-returns-else-copy_main-clause-cause c = (tt, λ e. omega (arith, c.in-Ok.ensures.cause.0 fault.PowerGone, e))
+returns-else-copy_main-clause-cause c =
+    (tt, (ap (λ (n : ℕ). (n + 1) % 2 ^ 64) (c.in-Ok.ensures.cause.0 fault.PowerGone), c.in-Ok.ensures.cause.0 fault.Failed))

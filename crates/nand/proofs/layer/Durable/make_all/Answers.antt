@@ -1,6 +1,5 @@
 use Rattle.std.proofs.Common.{◌∙◌, List, Bool, ℕ, refl, sym, ap, arith, subst, length}
 use Rattle.std.proofs.lemmas.Result.{err_from_is_err_and}
-use Rattle.durable.specs.Updates.{Update}
 use Rattle.nand.specs.Histories.{Leads}
 use Rattle.nand.specs.Opened.{CanOpen}
 use Rattle.nand.proofs.Histories.{leads_more, one_longer, same_chip}

@@ -1,26 +1,15 @@
-use Rattle.std.proofs.Common.{[], ap, Err, refl, sym, subst}
-use Rattle.durable.specs.Flash.{Flash}
-use Rattle.durable.specs.Promise.{IsConsistent}
-use Rattle.nand.specs.Numbers.{good_before, numbered}
+use Rattle.std.proofs.Common.{[], ap, Err, refl}
+use Rattle.nand.specs.Numbers.{good_before}
 use Rattle.nand.proofs.Mounted.{has_blocks, remaining_causes}
 use Rattle.nand.proofs.Orders.{erased_opens}
-use Rattle.nand.proofs.Steps.{device_there, same_order}
+use Rattle.nand.proofs.Replacing.{mounted_open}
 use Rattle.nand.proofs.layer.Durable.open.Goals as goal
 
 pub returns-in-Ok-clause-open : goal.returns-in-Ok-clause-open
 returns-in-Ok-clause-open g c updates is =
-    let was = c.args.nand in
-    let now = c.mount.new.nand in
-    let numbers = c.in-Ok.mounted.numbers.items in
-    record {
-      mounted = refl;
-      order = same_order numbers (g.N.Nand.shape was) (g.N.Nand.shape now) (g.N.Nand.bad was) (g.N.Nand.bad now) c.mount.ensures.shape
-          c.mount.ensures.bad c.in-Ok.ensures.order;
-      device = device_there c.in-Ok.mounted.core (g.N.Nand.shape was) (g.N.Nand.shape now) (g.N.Nand.bad was) (g.N.Nand.bad now) c.args.sectors
-          c.in-Ok.ensures.device c.mount.ensures.shape c.mount.ensures.bad;
-      consistent = subst (λ (f : Flash). IsConsistent (numbered numbers f) c.in-Ok.mounted.core updates updates) (sym c.mount.ensures.flash)
-          (c.in-Ok.ensures.consistent updates is);
-    }
+    mounted_open g.N.Nand.flash g.N.Nand.shape g.N.Nand.bad c.args.nand _ c.args.sectors updates refl
+    (c.mount.ensures.flash, c.mount.ensures.shape, c.mount.ensures.bad) c.in-Ok.ensures.order c.in-Ok.ensures.device c.in-Ok.ensures.reserve is.blank
+    (c.in-Ok.ensures.consistent updates is)
 
 pub returns-in-Ok-clause-new : goal.returns-in-Ok-clause-new
 returns-in-Ok-clause-new g c erased =
@@ -42,4 +31,4 @@ returns-in-Err-clause-begins g c erased capacity =
     let blocks = has_blocks c.args.sectors (good_before bad shape.blocks) shape.pages capacity in
     let is = erased_opens (g.N.Nand.flash c.args.nand) shape bad c.args.sectors erased blocks in
     remaining_causes c.in-Err.why (λ e. c.in-Err.ensures.refused capacity (ap Err e))
-    (λ e. c.in-Err.ensures.foreign is.0.written (ap Err e)) (λ e. c.in-Err.ensures.frees [] is (ap Err e))
+    (λ e. c.in-Err.ensures.foreign is.readable.written (ap Err e)) (λ e. c.in-Err.ensures.frees [] is (ap Err e))

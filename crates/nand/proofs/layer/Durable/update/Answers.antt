@@ -1,136 +1,179 @@
-use Rattle.std.proofs.Common.{◌∙◌, inr, ◌∷◌, ◌+◌, ◌^◌, ⊎_elim, ℕ, List, refl, sym, ap, subst, arith}
-use Rattle.std.proofs.lemmas.Bool.{cases_lt}
-use Rattle.durable.specs.Commands.{Completes, CutLeaves, IsAllowed}
-use Rattle.durable.specs.Device.{Device}
-use Rattle.durable.specs.Promise.{IsConsistent, IsRecoverable}
+use Rattle.std.proofs.Common.{◌≡◌, ◌∙◌, inl, inr, ◌+◌, ◌-◌, ◌%◌, ◌^◌, ◌<◌, ◌≤◌, ℕ, Bool, List, Err, refl, ap, subst, arith}
 use Rattle.durable.specs.Updates.{Update}
-use Rattle.nand.specs.declared.failure.Failure.TheVariants as failure
+use Rattle.nand.specs.Attempts.{CountsStop, Leaves}
 use Rattle.nand.specs.Nand.{value_with}
-use Rattle.nand.specs.Numbers.{IsOrder, numbered}
-use Rattle.nand.specs.Opened.{IsOpenLayer, device_on, layer_sectors, update_of}
-use Rattle.nand.proofs.Steps.{adds, fails_open, is_readable, keeps, moved, no_refusal, opens_before_or_after, same_number, same_order}
+use Rattle.nand.specs.Numbers.{good_before, is_marked}
+use Rattle.nand.specs.Opened.{CanOpen, IsOpenLayer, layer_sectors, most_used, reserve_of, update_of}
+use Rattle.nand.specs.declared.failure.Failure.TheVariants as failure
+use Rattle.nand.specs.declared.flash.Fault.TheVariants as fault
+use Rattle.nand.specs.declared.flash.Shape.{Shape}
+use Rattle.nand.specs.declared.updating.Stop.{Stop}
+use Rattle.nand.specs.declared.updating.Stop.TheVariants as stop
+use Rattle.nand.proofs.Replacing.{all_used, either, no_replacement, open_once, opens_once, settles, settles_made}
+use Rattle.nand.proofs.Steps.{fails_open, left_open}
 use Rattle.nand.proofs.layer.Durable.update.Goals as goal
-use Rattle.nand.proofs.layer.Durable.update.Goals.{in-Refused, in_default}
 
-pub returns-then-matches-clause-fails : goal.returns-then-matches-clause-fails
-returns-then-matches-clause-fails g c updates h =
-    let inv = c.loop-self.invariant in
-    let was = c.args.self.now.nand in
-    let now = c.loop-self.self.nand in
+pub returns-in-Ok-clause-acknowledged : goal.returns-in-Ok-clause-acknowledged
+returns-in-Ok-clause-acknowledged g c updates h =
     let update = update_of c.args.sector (value_with c.args.trimmed c.args.main.now) in
-    let is : IsOpenLayer g.N.Nand.flash g.N.Nand.shape g.N.Nand.bad c.loop-self.self updates = record {
-      mounted = inv.mounted ∙ h.mounted;
-      order = inv.order updates h;
-      device = moved c.args.self.now.core c.loop-self.self.core (g.N.Nand.shape was) (g.N.Nand.shape now) (g.N.Nand.bad was) (g.N.Nand.bad now)
-          inv.device h.device inv.shape inv.bad;
-      consistent = inv.consistent updates h;
-    } in
-    fails_open g.N.Nand.flash g.N.Nand.shape g.N.Nand.bad c.args.self.now c.loop-self.self update updates failure.NoNumber is
-    (ap (λ (d : Device). d.sectors) inv.device) (λ e. cc e)
+    let holds = c.loop-self.invariant.holds updates h in
+    settles_made (λ (us : List Update). IsOpenLayer g.N.Nand.flash g.N.Nand.shape g.N.Nand.bad c.attempt.new.self us) update updates holds.0
+    (open_once g.N.Nand.flash g.N.Nand.shape g.N.Nand.bad c.attempt.new.self update updates) holds.1
+    (c.in-Ok.ensures.acknowledged holds.0 holds.2)
 
-pub returns-then-matches-clause-cause : goal.returns-then-matches-clause-cause
-returns-then-matches-clause-cause g c =
-    let number = c.loop-self.invariant.number in
-    elim c.match-matches.branch [
-      | in-Refused w ↦ ⊎_elim (λ lt. absurd (c.next-command.ensures.progress lt w.in-Refused.is)) (λ most. omega (arith, most, number))
-          (cases_lt (c.loop-self.self.core.next_number + 1) (2 ^ 64))
-      | in_default w ↦ absurd (cc (sym w.matches-is ∙ c.if-matches.true))
-    ]
+pub returns-in-Ok-clause-marks : goal.returns-in-Ok-clause-marks
+returns-in-Ok-clause-marks g c updates h =
+    let was = c.args.self.now.nand in
+    let blocks = (g.N.Nand.shape was).blocks in
+    let holds = c.loop-self.invariant.holds updates h in
+    let marked : c.loop-self.failed ≡ good_before (g.N.Nand.bad was) blocks - good_before (g.N.Nand.bad c.attempt.new.self.nand) blocks =
+    omega (arith, holds.4, ap (λ (m : List Bool). good_before m blocks) c.attempt.ensures.device.marks) in
+    ap (λ (n : ℕ). n % 2 ^ 64) (c.in-Ok.ensures.counts fault.Failed) ∙ (c.loop-self.invariant.failures
+    ∙ ap (λ (n : ℕ). (g.N.Nand.faults was fault.Failed + n) % 2 ^ 64) marked)
+
+pub returns-then-failed-eq0-clause-fails : goal.returns-then-failed-eq0-clause-fails
+returns-then-failed-eq0-clause-fails g c updates h =
+    let inv = c.loop-self.invariant in
+    let update = update_of c.args.sector (value_with c.args.trimmed c.args.main.now) in
+    let new = c.attempt.new.self in
+    let holds = inv.holds updates h in
+    let there = subst (λ (s : Stop). Leaves g.N.Nand.flash g.N.Nand.shape g.N.Nand.bad new update holds.0 s) c.in-Err-NoNumber.field-0-is
+    (c.in-Err-NoNumber.ensures.leaves holds.0 holds.2) in
+    let is = subst (λ (us : List Update). IsOpenLayer g.N.Nand.flash g.N.Nand.shape g.N.Nand.bad new us) (holds.5 c.if-failed-eq0.true) there in
+    fails_open g.N.Nand.flash g.N.Nand.shape g.N.Nand.bad c.args.self.now new update updates failure.NoNumber is
+    (c.attempt.ensures.device.sectors ∙ inv.sectors) (λ e. cc e) (λ e. cc e)
+
+pub returns-in-Err-NoNumber-clause-fails : goal.returns-in-Err-NoNumber-clause-fails
+returns-in-Err-NoNumber-clause-fails g c updates h =
+    let inv = c.loop-self.invariant in
+    let update = update_of c.args.sector (value_with c.args.trimmed c.args.main.now) in
+    let new = c.attempt.new.self in
+    let sectors = c.attempt.ensures.device.sectors ∙ inv.sectors in
+    let holds = inv.holds updates h in
+    let there = subst (λ (s : Stop). Leaves g.N.Nand.flash g.N.Nand.shape g.N.Nand.bad new update holds.0 s) c.in-Err-NoNumber.field-0-is
+    (c.in-Err-NoNumber.ensures.leaves holds.0 holds.2) in
+    let opens = subst (λ (n : ℕ). CanOpen g.N.Nand.flash g.N.Nand.shape g.N.Nand.bad new.nand n holds.0) sectors
+    (left_open g.N.Nand.flash g.N.Nand.shape g.N.Nand.bad new holds.0 there) in
+    record {
+      reopens = either (λ (us : List Update). CanOpen g.N.Nand.flash g.N.Nand.shape g.N.Nand.bad new.nand (layer_sectors c.args.self.now) us)
+          update updates holds.0 holds.1 opens;
+      refused = λ none. absurd none;
+      stays = inr refl;
+      readable = λ e. cc e;
+      spent = λ _. inr (c.attempt.ensures.number (c.in-Err-NoNumber.is ∙ ap Err c.in-Err-NoNumber.field-0-is)).1;
+    }
+
+pub returns-in-Err-Fault-PowerGone-default-clause-fails : goal.returns-in-Err-Fault-PowerGone-default-clause-fails
+returns-in-Err-Fault-PowerGone-default-clause-fails g c updates h =
+    let inv = c.loop-self.invariant in
+    let update = update_of c.args.sector (value_with c.args.trimmed c.args.main.now) in
+    let new = c.attempt.new.self in
+    let sectors = c.attempt.ensures.device.sectors ∙ inv.sectors in
+    let holds = inv.holds updates h in
+    let stopped : c.in-Err-Fault-PowerGone-default.field-0 ≡ stop.Fault fault.PowerGone c.in-Err-Fault-PowerGone-default.field-0-1 =
+    cc (c.in-Err-Fault-PowerGone-default.field-0-is, c.in-Err-Fault-PowerGone-default.field-0-0-is) in
+    let there = subst (λ (s : Stop). Leaves g.N.Nand.flash g.N.Nand.shape g.N.Nand.bad new update holds.0 s) stopped
+    (c.in-Err-Fault-PowerGone-default.ensures.leaves holds.0 holds.2) in
+    let opens = λ (us : List Update). CanOpen g.N.Nand.flash g.N.Nand.shape g.N.Nand.bad new.nand (layer_sectors c.args.self.now) us in
+    let settled = settles opens update updates holds.0 (opens_once g.N.Nand.flash g.N.Nand.shape g.N.Nand.bad new.nand (layer_sectors c.args.self.now)
+    update updates) holds.1 there.0 there.1
+    (subst (λ (n : ℕ). CanOpen g.N.Nand.flash g.N.Nand.shape g.N.Nand.bad new.nand n there.0) sectors there.2.opens) in
+    record {
+      reopens = either opens update updates settled.0 settled.1 settled.2;
+      refused = λ none. absurd none;
+      stays = inr there.2.closed;
+      readable = λ e. cc e;
+      spent = λ e. absurd (cc e);
+    }
+
+pub returns-then-failed-reserve-clause-fails : goal.returns-then-failed-reserve-clause-fails
+returns-then-failed-reserve-clause-fails g c updates h =
+    let inv = c.loop-self.invariant in
+    let update = update_of c.args.sector (value_with c.args.trimmed c.args.main.now) in
+    let new = c.attempt.new.self in
+    let sectors = c.attempt.ensures.device.sectors ∙ inv.sectors in
+    let holds = inv.holds updates h in
+    let stopped : c.in-Err-Fault-Failed-default.field-0 ≡ stop.Fault fault.Failed c.in-Err-Fault-Failed-default.number =
+    cc (c.in-Err-Fault-Failed-default.field-0-is, c.in-Err-Fault-Failed-default.field-0-0-is, c.in-Err-Fault-Failed-default.number-is) in
+    let there = subst (λ (s : Stop). Leaves g.N.Nand.flash g.N.Nand.shape g.N.Nand.bad new update holds.0 s) stopped
+    (c.in-Err-Fault-Failed-default.ensures.leaves holds.0 holds.2) in
+    let opens = λ (us : List Update). CanOpen g.N.Nand.flash g.N.Nand.shape g.N.Nand.bad new.nand (layer_sectors c.args.self.now) us in
+    let settled = settles opens update updates holds.0 (opens_once g.N.Nand.flash g.N.Nand.shape g.N.Nand.bad new.nand (layer_sectors c.args.self.now)
+    update updates) holds.1 there.0 there.1
+    (subst (λ (n : ℕ). CanOpen g.N.Nand.flash g.N.Nand.shape g.N.Nand.bad new.nand n there.0) sectors there.2.opens) in
+    let good = good_before (g.N.Nand.bad new.nand) (g.N.Nand.shape new.nand).blocks in
+    let all = all_used good (most_used (g.N.Nand.shape new.nand) (layer_sectors new)) (reserve_of new)
+    (omega (arith, c.attempt.ensures.reserve, holds.3, c.if-failed-reserve.true)) there.2.reserve in
+    record {
+      reopens = either opens update updates settled.0 settled.1 settled.2;
+      refused = λ none. absurd none;
+      stays = inr there.2.closed;
+      readable = λ e. cc e;
+      spent = λ _. inl (subst (λ (n : ℕ). good ≤ most_used (g.N.Nand.shape new.nand) n) sectors all);
+    }
 
 pub returns-in-Err-clause-fails : goal.returns-in-Err-clause-fails
 returns-in-Err-clause-fails g c updates h =
     let inv = c.loop-self.invariant in
-    let numbers = c.loop-self.self.numbers.items in
-    let was = c.args.self.now.nand in
-    let mid = c.loop-self.self.nand in
-    let now = c.perform.new.nand in
-    let f = numbered numbers (g.N.Nand.flash mid) in
-    let t = numbered numbers (g.N.Nand.flash now) in
-    let value = value_with c.args.trimmed c.args.main.now in
-    let update = update_of c.args.sector value in
-    let consistent = inv.consistent updates h in
-    let order = inv.order updates h in
-    let allowed = (c.next-command.ensures.safe f updates updates consistent).1 in
-    let same = c.deref.ensures.value in
-    let does = c.in-Err.ensures.does (g.N.Nand.bad mid) (g.N.Nand.shape mid).blocks
-    (subst (λ (ns : List ℕ). IsOrder ns (g.N.Nand.bad mid) (g.N.Nand.shape mid).blocks) (sym same) order) in
-    let there = (does (subst (λ (ns : List ℕ). IsAllowed (numbered ns (g.N.Nand.flash mid)) c.next-command.result) (sym same) allowed)).1 in
-    let cut = subst (λ (ns : List ℕ). CutLeaves c.next-command.result c.args.sector value (numbered ns (g.N.Nand.flash mid))
-    (numbered ns (g.N.Nand.flash now))) same there in
-    let device = moved c.args.self.now.core c.loop-self.self.core (g.N.Nand.shape was) (g.N.Nand.shape now) (g.N.Nand.bad was) (g.N.Nand.bad now)
-    inv.device h.device (c.perform.ensures.shape ∙ inv.shape) (c.perform.ensures.bad ∙ inv.bad)
-    ∙ ap (λ (d : Device). device_on (g.N.Nand.shape now) (g.N.Nand.bad now) d.sectors) inv.device in
-    let left = subst (λ (d : Device). IsRecoverable t d updates (update ∷ updates)) device
-    (c.next-command.ensures.cut f t value updates updates consistent cut) in
+    let update = update_of c.args.sector (value_with c.args.trimmed c.args.main.now) in
+    let new = c.attempt.new.self in
+    let sectors = c.attempt.ensures.device.sectors ∙ inv.sectors in
+    let holds = inv.holds updates h in
+    let stopped : c.in-Err-Fault-Failed-default.field-0 ≡ stop.Fault fault.Failed c.in-Err-Fault-Failed-default.number =
+    cc (c.in-Err-Fault-Failed-default.field-0-is, c.in-Err-Fault-Failed-default.field-0-0-is, c.in-Err-Fault-Failed-default.number-is) in
+    let there = subst (λ (s : Stop). Leaves g.N.Nand.flash g.N.Nand.shape g.N.Nand.bad new update holds.0 s) stopped
+    (c.in-Err-Fault-Failed-default.ensures.leaves holds.0 holds.2) in
+    let some : 0 < reserve_of new = omega (arith, c.attempt.ensures.reserve, holds.3, c.if-failed-reserve.false) in
+    let last = c.replace.new.self in
+    let closed = c.in-Err.ensures.closed there.0 there.2 some in
+    let told = no_replacement c.in-Err.failure c.in-Err.ensures.causes in
+    let opens = λ (us : List Update). CanOpen g.N.Nand.flash g.N.Nand.shape g.N.Nand.bad last.nand (layer_sectors c.args.self.now) us in
+    let settled = settles opens update updates holds.0 (opens_once g.N.Nand.flash g.N.Nand.shape g.N.Nand.bad last.nand (layer_sectors c.args.self.now)
+    update updates) holds.1 there.0 there.1
+    (subst (λ (n : ℕ). CanOpen g.N.Nand.flash g.N.Nand.shape g.N.Nand.bad last.nand n there.0) sectors closed.1) in
     record {
-      reopens = opens_before_or_after (g.N.Nand.flash now) (g.N.Nand.shape now) (g.N.Nand.bad now) numbers (layer_sectors c.args.self.now) update updates
-          (same_order numbers (g.N.Nand.shape mid) (g.N.Nand.shape now) (g.N.Nand.bad mid) (g.N.Nand.bad now) c.perform.ensures.shape
-          c.perform.ensures.bad order) left;
-      refused = λ refused. absurd (no_refusal c.in-Err.fault c.into.result c.into.ensures refused);
-      stays = inr refl;
-      readable = is_readable c.in-Err.fault c.into.result c.into.ensures;
-    }
-
-pub returns-then-is_last-clause-acknowledged : goal.returns-then-is_last-clause-acknowledged
-returns-then-is_last-clause-acknowledged g c updates h =
-    let inv = c.loop-self.invariant in
-    let numbers = c.loop-self.self.numbers.items in
-    let was = c.args.self.now.nand in
-    let mid = c.loop-self.self.nand in
-    let now = c.perform.new.nand in
-    let f = numbered numbers (g.N.Nand.flash mid) in
-    let t = numbered numbers (g.N.Nand.flash now) in
-    let value = value_with c.args.trimmed c.args.main.now in
-    let update : Update = record { sector = c.args.sector; value = value } in
-    let consistent = inv.consistent updates h in
-    let order = inv.order updates h in
-    let allowed = (c.next-command.ensures.safe f updates updates consistent).1 in
-    let same = c.deref.ensures.value in
-    let does = c.in_default-perform.ensures.does (g.N.Nand.bad mid) (g.N.Nand.shape mid).blocks
-    (subst (λ (ns : List ℕ). IsOrder ns (g.N.Nand.bad mid) (g.N.Nand.shape mid).blocks) (sym same) order) in
-    let there = (does (subst (λ (ns : List ℕ). IsAllowed (numbered ns (g.N.Nand.flash mid)) c.next-command.result) (sym same) allowed)).0 in
-    let completes = subst (λ (ns : List ℕ). Completes c.next-command.result c.args.sector value (numbered ns (g.N.Nand.flash mid))
-    (numbered ns (g.N.Nand.flash now))) same there in
-    let last = sym c.is_last.ensures ∙ c.if-is_last.true in
-    record {
-      mounted = inv.mounted ∙ h.mounted;
-      order = same_order numbers (g.N.Nand.shape mid) (g.N.Nand.shape now) (g.N.Nand.bad mid) (g.N.Nand.bad now) c.perform.ensures.shape
-          c.perform.ensures.bad order;
-      device = moved c.args.self.now.core c.done.new.self (g.N.Nand.shape was) (g.N.Nand.shape now) (g.N.Nand.bad was) (g.N.Nand.bad now)
-          (c.done.ensures.device ∙ inv.device) h.device (c.perform.ensures.shape ∙ inv.shape) (c.perform.ensures.bad ∙ inv.bad);
-      consistent = subst (λ (us : List Update). IsConsistent t c.done.new.self us us) (adds c.next-command.result update updates last)
-          (c.done.ensures.acknowledges f t value updates updates consistent completes);
+      reopens = either opens update updates settled.0 settled.1 settled.2;
+      refused = λ refused. absurd (told.0 refused);
+      stays = inr closed.0;
+      readable = told.1;
+      spent = λ failed. absurd (told.2 failed);
     }
 
 pub loop-self-preserved : goal.loop-self-preserved
 loop-self-preserved g c =
     let inv = c.loop-self.invariant in
-    let numbers = c.loop-self.self.numbers.items in
-    let mid = c.loop-self.self.nand in
-    let now = c.perform.new.nand in
-    let f = numbered numbers (g.N.Nand.flash mid) in
-    let t = numbered numbers (g.N.Nand.flash now) in
-    let value = value_with c.args.trimmed c.args.main.now in
-    let update : Update = record { sector = c.args.sector; value = value } in
-    let others = sym c.is_last.ensures ∙ c.if-is_last.false in
+    let was = c.loop-self.self.nand in
+    let mid = c.attempt.new.self.nand in
+    let stopped : c.in-Err-Fault-Failed-default.field-0 ≡ stop.Fault fault.Failed c.in-Err-Fault-Failed-default.number =
+    cc (c.in-Err-Fault-Failed-default.field-0-is, c.in-Err-Fault-Failed-default.field-0-0-is, c.in-Err-Fault-Failed-default.number-is) in
+    let one = subst (λ (s : Stop). CountsStop {T = Unit {0}} (g.N.Nand.faults was) (g.N.Nand.faults mid) (Err s)) stopped
+    c.in-Err-Fault-Failed-default.ensures.counts in
+    let replaced = c.in_default.ensures in
     record {
-      mounted = inv.mounted;
-      shape = c.perform.ensures.shape ∙ inv.shape;
-      bad = c.perform.ensures.bad ∙ inv.bad;
-      device = c.done.ensures.device ∙ inv.device;
-      number = c.done.ensures.number ∙ (same_number c.next-command.result c.loop-self.self.core.next_number others ∙ inv.number);
-      faults = λ cause. c.in_default-perform.ensures.cause.0 cause ∙ inv.faults cause;
-      order = λ updates h. same_order numbers (g.N.Nand.shape mid) (g.N.Nand.shape now) (g.N.Nand.bad mid) (g.N.Nand.bad now)
-          c.perform.ensures.shape c.perform.ensures.bad (inv.order updates h);
-      consistent = λ updates h.
-          let consistent = inv.consistent updates h in
-          let allowed = (c.next-command.ensures.safe f updates updates consistent).1 in
-          let same = c.deref.ensures.value in
-          let does = c.in_default-perform.ensures.does (g.N.Nand.bad mid) (g.N.Nand.shape mid).blocks
-          (subst (λ (ns : List ℕ). IsOrder ns (g.N.Nand.bad mid) (g.N.Nand.shape mid).blocks) (sym same) (inv.order updates h)) in
-          let there = (does (subst (λ (ns : List ℕ). IsAllowed (numbered ns (g.N.Nand.flash mid)) c.next-command.result) (sym same) allowed)).0 in
-          let completes = subst (λ (ns : List ℕ). Completes c.next-command.result c.args.sector value (numbered ns (g.N.Nand.flash mid))
-          (numbered ns (g.N.Nand.flash now))) same there in
-          subst (λ (us : List Update). IsConsistent t c.done.new.self us us) (keeps c.next-command.result update updates others)
-          (c.done.ensures.acknowledges f t value updates updates consistent completes);
+      few = omega (arith, c.if-failed-reserve.false);
+      sectors = c.replace.ensures.sectors ∙ (c.attempt.ensures.device.sectors ∙ inv.sectors);
+      shape = c.replace.ensures.shape ∙ (c.attempt.ensures.device.chip ∙ inv.shape);
+      marks = λ b is. c.replace.ensures.marks b (ap (λ (m : List Bool). is_marked m b) c.attempt.ensures.device.marks ∙ inv.marks b is);
+      power = replaced.faults fault.PowerGone ∙ (one.1 ∙ inv.power);
+      failures = omega (arith, replaced.faults fault.Failed, one.0, inv.failures);
+      first = λ none. absurd (omega (arith, none));
+      holds = λ updates h.
+          let update = update_of c.args.sector (value_with c.args.trimmed c.args.main.now) in
+          let holds = inv.holds updates h in
+          let blocks = (g.N.Nand.shape c.args.self.now.nand).blocks in
+          let there = subst (λ (s : Stop). Leaves g.N.Nand.flash g.N.Nand.shape g.N.Nand.bad c.attempt.new.self update holds.0 s) stopped
+          (c.in-Err-Fault-Failed-default.ensures.leaves holds.0 holds.2) in
+          let some : 0 < reserve_of c.attempt.new.self = omega (arith, c.attempt.ensures.reserve, holds.3, c.if-failed-reserve.false) in
+          let again = replaced.replaced there.0 there.2 some in
+          let settled = settles (λ (us : List Update). IsOpenLayer g.N.Nand.flash g.N.Nand.shape g.N.Nand.bad c.replace.new.self us) update updates
+          holds.0 (open_once g.N.Nand.flash g.N.Nand.shape g.N.Nand.bad c.replace.new.self update updates) holds.1 there.0 there.1 again.0 in
+          let one_less = subst (λ (s : Shape). good_before (g.N.Nand.bad c.replace.new.self.nand) s.blocks + 1 ≡ good_before (g.N.Nand.bad mid) s.blocks)
+          (c.attempt.ensures.device.chip ∙ inv.shape) again.2 in (
+            settled.0,
+            settled.1,
+            settled.2,
+            omega (arith, again.1, holds.3, c.attempt.ensures.reserve),
+            omega (arith, one_less, holds.4, ap (λ (m : List Bool). good_before m blocks) c.attempt.ensures.device.marks),
+            λ none. absurd (omega (arith, none)),
+          );
     }

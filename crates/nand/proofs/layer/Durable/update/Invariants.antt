@@ -1,26 +1,29 @@
-use Rattle.std.proofs.Common.{◌≡◌, List}
-use Rattle.durable.specs.Choice.{left}
-use Rattle.durable.specs.Device.{device_of, next_number_of}
-use Rattle.durable.specs.Promise.{IsConsistent}
-use Rattle.durable.specs.Updates.{Update}
-use Rattle.nand.specs.Numbers.{IsOrder, numbered}
-use Rattle.nand.specs.Opened.{IsOpenLayer}
-use Rattle.nand.specs.declared.flash.Fault.{Fault}
+use Rattle.std.proofs.Common.{◌≡◌, ◌+◌, ◌-◌, ◌%◌, ◌^◌, ◌≤◌, ℕ, true, false, List}
+use Rattle.durable.specs.Updates.{Makes, Update}
+use Rattle.nand.specs.declared.flash.Fault.TheVariants as fault
+use Rattle.nand.specs.Nand.{value_with}
+use Rattle.nand.specs.Numbers.{good_before, is_marked}
+use Rattle.nand.specs.Opened.{IsOpenLayer, layer_sectors, number_of, reserve_of, update_of}
 use Rattle.nand.proofs.layer.Durable.update.Given as goal
 
 abbrev pub invariant-loop-self : goal.invariant-loop-self
 invariant-loop-self g l = record {
-  mounted : l.self.mounted ≡ l.fn.self.mounted;
+  few : l.failed ≤ l.reserve;
+  sectors : layer_sectors l.self ≡ layer_sectors l.fn.self;
   shape : g.N.Nand.shape l.self.nand ≡ g.N.Nand.shape l.fn.self.nand;
-  bad : g.N.Nand.bad l.self.nand ≡ g.N.Nand.bad l.fn.self.nand;
-  device : device_of l.self.core ≡ device_of l.fn.self.core;
-  number : next_number_of l.self.core ≡ next_number_of l.fn.self.core;
-  faults : (cause : Fault) → g.N.Nand.faults l.self.nand cause ≡ g.N.Nand.faults l.fn.self.nand cause;
-  order : (updates : List Update) → IsOpenLayer g.N.Nand.flash g.N.Nand.shape g.N.Nand.bad l.fn.self updates
-      → IsOrder l.self.numbers.items (g.N.Nand.bad l.self.nand) (g.N.Nand.shape l.self.nand).blocks;
-  consistent : (updates : List Update) → IsOpenLayer g.N.Nand.flash g.N.Nand.shape g.N.Nand.bad l.fn.self updates
-      → IsConsistent (numbered l.self.numbers.items (g.N.Nand.flash l.self.nand)) l.self.core updates updates;
+  marks : (b : ℕ) → is_marked (g.N.Nand.bad l.fn.self.nand) b ≡ true → is_marked (g.N.Nand.bad l.self.nand) b ≡ true;
+  power : g.N.Nand.faults l.self.nand fault.PowerGone ≡ g.N.Nand.faults l.fn.self.nand fault.PowerGone;
+  failures : g.N.Nand.faults l.self.nand fault.Failed % 2 ^ 64 ≡ (g.N.Nand.faults l.fn.self.nand fault.Failed + l.failed) % 2 ^ 64;
+  first : l.failed ≡ 0 → (g.N.Nand.faults l.self.nand fault.Failed ≡ g.N.Nand.faults l.fn.self.nand fault.Failed)
+      × (g.N.Nand.bad l.self.nand ≡ g.N.Nand.bad l.fn.self.nand) × (number_of l.self ≡ number_of l.fn.self);
+  holds : (updates : List Update) → IsOpenLayer g.N.Nand.flash g.N.Nand.shape g.N.Nand.bad l.fn.self updates
+      → (after : List Update) × Makes false (update_of l.fn.sector (value_with l.fn.trimmed l.fn.main)) updates after
+      × IsOpenLayer g.N.Nand.flash g.N.Nand.shape g.N.Nand.bad l.self after
+      × (reserve_of l.self + l.failed ≡ reserve_of l.fn.self)
+      × (good_before (g.N.Nand.bad l.self.nand) (g.N.Nand.shape l.fn.self.nand).blocks + l.failed
+      ≡ good_before (g.N.Nand.bad l.fn.self.nand) (g.N.Nand.shape l.fn.self.nand).blocks)
+      × (l.failed ≡ 0 → after ≡ updates);
 }
 
 abbrev pub decreases-loop-self : goal.decreases-loop-self
-decreases-loop-self g l = left l.self.core
+decreases-loop-self g l = l.reserve - l.failed

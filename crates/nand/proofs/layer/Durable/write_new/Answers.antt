@@ -1,7 +1,7 @@
 use Rattle.std.proofs.Common.{◌∙◌, Some, sym}
 use Rattle.nand.specs.declared.failure.Failure.TheVariants as failure
 use Rattle.nand.specs.Opened.{update_of}
-use Rattle.nand.proofs.Steps.{fails_open, if_fails_after, if_true_after, not_lost, on_ok}
+use Rattle.nand.proofs.Steps.{fails_open, if_fails_after, if_marked_after, if_true_after, keeps_after, keeps_same, not_failed, not_lost, on_ok}
 use Rattle.nand.proofs.layer.Durable.write_new.Goals as goal
 
 pub returns-in-Ok-Empty-clause-empty : goal.returns-in-Ok-Empty-clause-empty
@@ -26,9 +26,26 @@ returns-in-Ok-Written-clause-written g c updates is _ = sym (c.in-Ok-Written.ens
 pub returns-in-Ok-Written-clause-fails : goal.returns-in-Ok-Written-clause-fails
 returns-in-Ok-Written-clause-fails g c updates is =
     fails_open g.N.Nand.flash g.N.Nand.shape g.N.Nand.bad c.args.self.now c.was.new.self (update_of c.args.sector (Some c.args.bytes.now)) updates
-    failure.Written (c.was.ensures.open updates is) c.was.ensures.device.sectors (λ e. cc e)
+    failure.Written (c.was.ensures.open updates is) c.was.ensures.device.sectors (λ e. cc e) (λ e. cc e)
 
 pub returns-in-Err-clause-fails : goal.returns-in-Err-clause-fails
 returns-in-Err-clause-fails g c updates is =
     fails_open g.N.Nand.flash g.N.Nand.shape g.N.Nand.bad c.args.self.now c.was.new.self (update_of c.args.sector (Some c.args.bytes.now)) updates
     c.in-Err.failure (c.was.ensures.open updates is) c.was.ensures.device.sectors (not_lost c.in-Err.failure (c.in-Err.ensures.only updates is))
+    (not_failed c.in-Err.failure (c.in-Err.ensures.only updates is))
+
+pub returns-in-Ok-Empty-clause-device : goal.returns-in-Ok-Empty-clause-device
+returns-in-Ok-Empty-clause-device g c =
+    keeps_after g.N.Nand.shape g.N.Nand.bad g.N.Nand.faults c.args.self.now c.was.new.self c.update.new.self c.was.ensures.device
+    c.in-Ok-Empty.ensures.faults c.update.ensures.device
+
+pub returns-in-Ok-Empty-clause-marks : goal.returns-in-Ok-Empty-clause-marks
+returns-in-Ok-Empty-clause-marks g c updates is =
+    if_marked_after g.N.Nand.shape g.N.Nand.bad g.N.Nand.faults c.args.self.now c.was.new.self c.update.new.self c.update.result c.was.ensures.device
+    c.in-Ok-Empty.ensures.faults (c.update.ensures.marks updates (c.was.ensures.open updates is))
+
+pub returns-in-Ok-Written-clause-device : goal.returns-in-Ok-Written-clause-device
+returns-in-Ok-Written-clause-device g c = keeps_same g.N.Nand.shape g.N.Nand.bad g.N.Nand.faults c.args.self.now c.was.new.self c.was.ensures.device
+
+pub returns-in-Err-clause-device : goal.returns-in-Err-clause-device
+returns-in-Err-clause-device g c = keeps_same g.N.Nand.shape g.N.Nand.bad g.N.Nand.faults c.args.self.now c.was.new.self c.was.ensures.device

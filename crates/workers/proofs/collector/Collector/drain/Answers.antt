@@ -1,18 +1,13 @@
 use Rattle.std.proofs.Common.{◌≡◌, ℕ, ◌-◌, ◌∙◌, ap, refl, subst, sym}
 use Rattle.std.specs.Arc.{arc_value}
 use Rattle.erase_queue.specs.Queue.{limit_of}
-use Rattle.geometry.specs.Geometry.{pages_of}
-use Rattle.geometry.specs.Limits.{Numbers}
+use Rattle.geometry.specs.{Geometry.pages_of, Limits.Numbers}
 use Rattle.flash_table.specs.Flash.{geometry_of}
-use Rattle.broom.specs.Handing.{DrainOneTold}
-use Rattle.broom.specs.Ready.{view_of_broom}
-use Rattle.volume.specs.declared.volume.Volume.{Volume}
-use Rattle.volume.specs.Volume.{flash_of, queue_of}
+use Rattle.broom.specs.{Handing.DrainOneTold, Ready.view_of_broom}
+use Rattle.volume.specs.{declared.volume.Volume.Volume, Volume.flash_of, Volume.queue_of}
+use Rattle.workers.specs.{Collecting.limit_at, Growing.GrowsBy}
+use Rattle.workers.proofs.{Collected.collected_one, Programmed.survey_fills}
 use Rattle.workers.specs.declared.broom_answer.BroomAnswer.TheVariants as by
-use Rattle.workers.specs.Collecting.{limit_at}
-use Rattle.workers.specs.Growing.{GrowsBy}
-use Rattle.workers.proofs.Collected.{collected_one}
-use Rattle.workers.proofs.Programmed.{survey_fills}
 use Rattle.workers.proofs.collector.Collector.drain.Goals as goal
 
 pub returns : goal.returns

@@ -5,9 +5,6 @@ use Rattle.workers.proofs.collector.Collector.restock.Goals as goal
 
 pub returns : goal.returns
 returns c =
-    let self = c.args.self.now in
-    let answer = by.Restock c.restock-has_spare.result in
-    let broom = c.restock-has_spare.new.broom in
-    collected_one self _ answer refl refl
+    collected_one c.args.self.now _ (by.Restock c.restock-has_spare.result) refl refl
     (record { told = c.restock-has_spare.ensures.told; queue = c.restock-has_spare.ensures.queue; survey = c.restock-has_spare.ensures.survey })
     c.with_answer-self.ensures

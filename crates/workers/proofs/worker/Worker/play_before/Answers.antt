@@ -1,23 +1,16 @@
 use Rattle.std.proofs.Common.{◌≡◌, ℕ, ◌<◌, ◌≤◌, All, List, length, refl, sym, ap, ◌∙◌, subst}
 use Rattle.std.proofs.lemmas.List.{with_items_is}
-use Rattle.std.specs.Arc.{arc_value}
-use Rattle.std.specs.List.{slice_range}
-use Rattle.std.specs.Vec.{with_items}
+use Rattle.std.specs.{Arc.arc_value, Vec.with_items, List.slice_range}
 use Rattle.flash_table.specs.Flash.{view_of, geometry_of}
 use Rattle.geometry.specs.Geometry.{page_bytes_of}
 use Rattle.host.specs.Ready.{IsReady}
 use Rattle.trace.specs.declared.commands.Command.{Command}
-use Rattle.rounds.specs.Answers.{HasSpaceFor}
-use Rattle.rounds.specs.Playing.{Played}
-use Rattle.workers.specs.Playable.{IsLine, HasAnswered, added, lines_at}
-use Rattle.volume.specs.declared.volume.Volume.{Volume}
-use Rattle.volume.specs.Volume.{flash_of}
-use Rattle.workers.specs.Workers.{answered, round_lines, round_places}
-use Rattle.workers.proofs.Cursors.{All-part}
-use Rattle.workers.proofs.Able.{able_again, range_is, round_all, round_room, round_size}
-use Rattle.workers.proofs.worker.Worker.play_before.Given.{Over}
+use Rattle.rounds.specs.{Answers.HasSpaceFor, Playing.Played}
+use Rattle.workers.specs.{Playable.IsLine, Playable.HasAnswered, Playable.added, Playable.lines_at, Workers.answered, Workers.round_lines, Workers.round_places}
+use Rattle.volume.specs.{declared.volume.Volume.Volume, Volume.flash_of}
+use Rattle.workers.proofs.{Cursors.All-part, Able.able_again, Able.range_is, Able.round_all, Able.round_room, Able.round_size}
+use Rattle.workers.proofs.worker.Worker.play_before.{Given.Over, Goals.After-deref-4}
 use Rattle.workers.proofs.worker.Worker.play_before.Goals as goal
-use Rattle.workers.proofs.worker.Worker.play_before.Goals.{After-deref-4}
 
 pub past-to-requires : goal.past-to-requires
 past-to-requires g c =
@@ -33,15 +26,13 @@ places_are g c =
     c.deref-4.ensures.value c.len-answered.ensures past.later past.within past.before past.behind
 
 pub play_at-requires-clause-pass : goal.play_at-requires-clause-pass
-play_at-requires-clause-pass g c =
-    subst (λ (v : Volume). IsReady (flash_of v) c.args.self.pass) (sym c.deref-2.ensures) c.args.self.able.ready
+play_at-requires-clause-pass g c = subst (λ (v : Volume). IsReady (flash_of v) c.args.self.pass) (sym c.deref-2.ensures) c.args.self.able.ready
 
 pub play_at-requires-clause-there : goal.play_at-requires-clause-there
 play_at-requires-clause-there g c =
     let worker = c.args.self in
-    let same = places_are g (goal.at.play_at-requires-clause-there g c).After-deref-4 in
     let P : List Command × List ℕ → Type 0 = λ x. All (λ p. p < length x.0) x.1 in
-    subst P (λ i. (sym c.deref-3.ensures i, sym same i))
+    subst P (λ i. (sym c.deref-3.ensures i, sym (places_are g (goal.at.play_at-requires-clause-there g c).After-deref-4) i))
     (All-part (λ p. p < length (arc_value worker.commands)) worker.places.items (answered worker) (round_size c.args.limits.end worker) worker.able.there)
 
 pub play_at-requires-clause-buffer : goal.play_at-requires-clause-buffer
@@ -50,15 +41,13 @@ play_at-requires-clause-buffer g c =
     ∙ (c.args.self.able.paged ∙ ap (λ (v : Volume). page_bytes_of (geometry_of (flash_of v))) (sym c.deref-2.ensures))
 
 pub play_at-requires-clause-page : goal.play_at-requires-clause-page
-play_at-requires-clause-page g c =
-    c.args.self.able.page ∙ ap (λ (v : Volume). page_bytes_of (geometry_of (flash_of v))) (sym c.deref-2.ensures)
+play_at-requires-clause-page g c = c.args.self.able.page ∙ ap (λ (v : Volume). page_bytes_of (geometry_of (flash_of v))) (sym c.deref-2.ensures)
 
 pub play_at-requires-clause-lines : goal.play_at-requires-clause-lines
 play_at-requires-clause-lines g c =
     let worker = c.args.self in
-    let same = places_are g (goal.at.play_at-requires-clause-lines g c).After-deref-4 in
     let P : Volume × List Command × List ℕ → Type 0 = λ x. All (IsLine (geometry_of (flash_of x.0))) (lines_at x.1 x.2) in
-    subst P (λ i. (sym c.deref-2.ensures i, sym c.deref-3.ensures i, sym same i))
+    subst P (λ i. (sym c.deref-2.ensures i, sym c.deref-3.ensures i, sym (places_are g (goal.at.play_at-requires-clause-lines g c).After-deref-4) i))
     (round_all c.args.limits.end worker (IsLine (geometry_of (flash_of (arc_value worker.volume)))) worker.able.doable)
 
 pub play_at-requires-clause-space : goal.play_at-requires-clause-space
@@ -72,10 +61,9 @@ pub invariant_of-p : goal.invariant_of-p
 invariant_of-p g c =
     let worker = c.args.self in
     let new = c.play_at.new in
-    let same = places_are g (goal.at.invariant_of-p g c).After-deref-4 in
     let P : List Command × List ℕ → Type 0 = λ x. HasAnswered (lines_at x.0 x.1) worker.answers new.answers in
     let told : HasAnswered (round_lines c.args.limits.end worker) worker.answers new.answers =
-    subst P (λ i. (c.deref-3.ensures i, same i)) c.play_at.ensures.answered in
+    subst P (λ i. (c.deref-3.ensures i, (places_are g (goal.at.invariant_of-p g c).After-deref-4) i)) c.play_at.ensures.answered in
     let ready : IsReady (flash_of (arc_value worker.volume)) new.pass =
     subst (λ (v : Volume). IsReady (flash_of v) new.pass) c.deref-2.ensures c.play_at.ensures.pass in
     let lent = c.play_at.auto.buffer ∙ ap (λ (l : List ℕ). length l) c.deref_mut.ensures.value in

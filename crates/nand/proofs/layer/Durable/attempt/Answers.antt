@@ -1,0 +1,178 @@
+use Rattle.std.proofs.Common.{◌≡◌, ◌≢◌, ◌∙◌, ◌∷◌, ◌+◌, ◌^◌, ◌<◌, ⊎_elim, ℕ, List, refl, sym, ap, subst, arith}
+use Rattle.std.proofs.lemmas.Bool.{cases_lt}
+use Rattle.durable.specs.declared.command.Command.TheVariants.{Refused}
+use Rattle.durable.specs.Commands.{Completes, CutLeaves, IsAllowed}
+use Rattle.durable.specs.Device.{Device, NamesOn}
+use Rattle.durable.specs.Promise.{IsConsistent, IsRecoverable}
+use Rattle.durable.specs.Updates.{Update}
+use Rattle.durable.proofs.Promises.{completes_cut}
+use Rattle.nand.specs.Nand.{value_with}
+use Rattle.nand.specs.Numbers.{IsOrder, good_before, numbered}
+use Rattle.nand.specs.Opened.{IsOpenLayer, device_on, layer_sectors, reserve_of, update_of, used_blocks}
+use Rattle.nand.proofs.Replacing.{blank_after, blank_there, in_use, reserve_there, stopped}
+use Rattle.nand.proofs.Steps.{adds, keeps, moved, same_number, same_order}
+use Rattle.nand.proofs.layer.Durable.attempt.Goals as goal
+use Rattle.nand.proofs.layer.Durable.attempt.Goals.{in-Refused, in_default}
+
+pub returns-then-matches-clause-leaves : goal.returns-then-matches-clause-leaves
+returns-then-matches-clause-leaves g c updates h =
+    let inv = c.loop-self.invariant in
+    let was = c.args.self.now.nand in
+    let now = c.loop-self.self.nand in
+    record {
+      mounted = inv.mounted ∙ h.mounted;
+      order = inv.order updates h;
+      device = moved c.args.self.now.core c.loop-self.self.core (g.N.Nand.shape was) (g.N.Nand.shape now) (g.N.Nand.bad was) (g.N.Nand.bad now)
+          inv.device h.device inv.shape inv.bad;
+      reserve = reserve_there c.args.self.now.core c.loop-self.self.core (reserve_of c.args.self.now) (reserve_of c.loop-self.self) (g.N.Nand.shape was)
+          (g.N.Nand.shape now) (g.N.Nand.bad was) (g.N.Nand.bad now) inv.reserve inv.device inv.shape inv.bad h.reserve;
+      blank = inv.blank updates h;
+      consistent = inv.consistent updates h;
+    }
+
+pub returns-then-matches-clause-number : goal.returns-then-matches-clause-number
+returns-then-matches-clause-number g c is =
+    let number = c.loop-self.invariant.number in
+    elim c.match-matches.branch [
+      | in-Refused w ↦ ⊎_elim (λ lt. absurd (c.next-command.ensures.progress lt w.in-Refused.is)) (λ most. (number, most))
+          (cases_lt (c.loop-self.self.core.next_number + 1) (2 ^ 64))
+      | in_default w ↦ absurd (cc (sym w.matches-is ∙ c.if-matches.true))
+    ]
+
+pub returns-in-Err-clause-leaves : goal.returns-in-Err-clause-leaves
+returns-in-Err-clause-leaves g c updates h =
+    let inv = c.loop-self.invariant in
+    let numbers = c.loop-self.self.numbers.items in
+    let was = c.args.self.now.nand in
+    let mid = c.loop-self.self.nand in
+    let now = c.perform.new.nand in
+    let f = numbered numbers (g.N.Nand.flash mid) in
+    let t = numbered numbers (g.N.Nand.flash now) in
+    let value = value_with c.args.trimmed c.args.main.now in
+    let update = update_of c.args.sector value in
+    let consistent = inv.consistent updates h in
+    let order = inv.order updates h in
+    let safe = c.next-command.ensures.safe f updates updates consistent in
+    let same = c.deref.ensures.value in
+    let does = c.in-Err.ensures.does (g.N.Nand.bad mid) (g.N.Nand.shape mid).blocks
+    (subst (λ (ns : List ℕ). IsOrder ns (g.N.Nand.bad mid) (g.N.Nand.shape mid).blocks) (sym same) order) in
+    let there = (does (subst (λ (ns : List ℕ). IsAllowed (numbered ns (g.N.Nand.flash mid)) c.next-command.result) (sym same) safe.1)).1 in
+    let cut = subst (λ (ns : List ℕ). CutLeaves c.next-command.result c.args.sector value (numbered ns (g.N.Nand.flash mid))
+    (numbered ns (g.N.Nand.flash now))) same there in
+    let device = moved c.args.self.now.core c.loop-self.self.core (g.N.Nand.shape was) (g.N.Nand.shape mid) (g.N.Nand.bad was) (g.N.Nand.bad mid)
+    inv.device h.device inv.shape inv.bad in
+    let device_now = moved c.args.self.now.core c.loop-self.self.core (g.N.Nand.shape was) (g.N.Nand.shape now) (g.N.Nand.bad was) (g.N.Nand.bad now)
+    inv.device h.device (c.perform.ensures.shape ∙ inv.shape) (c.perform.ensures.bad ∙ inv.bad) in
+    let names = subst (λ (d : Device). NamesOn d c.next-command.result) device safe.0 in
+    let blank = blank_after (g.N.Nand.flash mid) (g.N.Nand.flash now) (g.N.Nand.shape mid) (g.N.Nand.bad mid) numbers (layer_sectors c.loop-self.self)
+    c.next-command.result c.args.sector value order names cut (inv.blank updates h) in
+    let left = subst (λ (d : Device). IsRecoverable t d updates (update ∷ updates)) device_now
+    (c.next-command.ensures.cut f t value updates updates consistent cut) in
+    let reserve = reserve_there c.args.self.now.core c.loop-self.self.core (reserve_of c.args.self.now) (reserve_of c.loop-self.self) (g.N.Nand.shape was)
+    (g.N.Nand.shape now) (g.N.Nand.bad was) (g.N.Nand.bad now) inv.reserve inv.device (c.perform.ensures.shape ∙ inv.shape)
+    (c.perform.ensures.bad ∙ inv.bad) h.reserve in
+    let blocks = ap (λ (d : Device). d.blocks) device_now in
+    let rest : reserve_of c.loop-self.self + used_blocks (g.N.Nand.shape now) (g.N.Nand.bad now) (layer_sectors c.loop-self.self)
+    ≡ good_before (g.N.Nand.bad now) (g.N.Nand.shape now).blocks = omega (arith, reserve, blocks) in
+    let goes : c.next-command.result ≢ Refused = λ e. elim c.match-matches.branch [
+      | in-Refused w ↦ absurd (cc (sym w.matches-is ∙ c.if-matches.false))
+      | in_default w ↦ w.in_default.not-Refused e
+    ] in
+    let used : c.changed_block.result < used_blocks (g.N.Nand.shape mid) (g.N.Nand.bad mid) (layer_sectors c.loop-self.self) =
+    in_use (device_on (g.N.Nand.shape mid) (g.N.Nand.bad mid) (layer_sectors c.loop-self.self)) c.next-command.result c.changed_block.result
+    names (c.changed_block.ensures goes) in
+    let used_now : c.changed_block.result < used_blocks (g.N.Nand.shape now) (g.N.Nand.bad now) (layer_sectors c.loop-self.self) =
+    omega (arith, used, blocks, ap (λ (d : Device). d.blocks) device) in
+    stopped g.N.Nand.flash g.N.Nand.shape g.N.Nand.bad _ c.changed_block.result refl
+    (same_order numbers (g.N.Nand.shape mid) (g.N.Nand.shape now) (g.N.Nand.bad mid) (g.N.Nand.bad now) c.perform.ensures.shape
+    c.perform.ensures.bad order) rest used_now
+    (blank_there (g.N.Nand.flash now) (g.N.Nand.flash now) (g.N.Nand.shape mid) (g.N.Nand.shape now) (g.N.Nand.bad mid) (g.N.Nand.bad now)
+    (layer_sectors c.loop-self.self) (layer_sectors c.loop-self.self) refl c.perform.ensures.shape c.perform.ensures.bad refl blank)
+    update updates left
+
+pub returns-then-is_last-clause-acknowledged : goal.returns-then-is_last-clause-acknowledged
+returns-then-is_last-clause-acknowledged g c updates h =
+    let inv = c.loop-self.invariant in
+    let numbers = c.loop-self.self.numbers.items in
+    let was = c.args.self.now.nand in
+    let mid = c.loop-self.self.nand in
+    let now = c.perform.new.nand in
+    let f = numbered numbers (g.N.Nand.flash mid) in
+    let t = numbered numbers (g.N.Nand.flash now) in
+    let value = value_with c.args.trimmed c.args.main.now in
+    let update : Update = record { sector = c.args.sector; value = value } in
+    let consistent = inv.consistent updates h in
+    let order = inv.order updates h in
+    let safe = c.next-command.ensures.safe f updates updates consistent in
+    let same = c.deref.ensures.value in
+    let does = c.in_default-perform.ensures.does (g.N.Nand.bad mid) (g.N.Nand.shape mid).blocks
+    (subst (λ (ns : List ℕ). IsOrder ns (g.N.Nand.bad mid) (g.N.Nand.shape mid).blocks) (sym same) order) in
+    let there = (does (subst (λ (ns : List ℕ). IsAllowed (numbered ns (g.N.Nand.flash mid)) c.next-command.result) (sym same) safe.1)).0 in
+    let completes = subst (λ (ns : List ℕ). Completes c.next-command.result c.args.sector value (numbered ns (g.N.Nand.flash mid))
+    (numbered ns (g.N.Nand.flash now))) same there in
+    let device = moved c.args.self.now.core c.loop-self.self.core (g.N.Nand.shape was) (g.N.Nand.shape mid) (g.N.Nand.bad was) (g.N.Nand.bad mid)
+    inv.device h.device inv.shape inv.bad in
+    let blank = blank_after (g.N.Nand.flash mid) (g.N.Nand.flash now) (g.N.Nand.shape mid) (g.N.Nand.bad mid) numbers (layer_sectors c.loop-self.self)
+    c.next-command.result c.args.sector value order (subst (λ (d : Device). NamesOn d c.next-command.result) device safe.0)
+    (completes_cut f t c.next-command.result c.args.sector value completes) (inv.blank updates h) in
+    let last = sym c.is_last.ensures ∙ c.if-is_last.true in
+    record {
+      mounted = inv.mounted ∙ h.mounted;
+      order = same_order numbers (g.N.Nand.shape mid) (g.N.Nand.shape now) (g.N.Nand.bad mid) (g.N.Nand.bad now) c.perform.ensures.shape
+          c.perform.ensures.bad order;
+      device = moved c.args.self.now.core c.done.new.self (g.N.Nand.shape was) (g.N.Nand.shape now) (g.N.Nand.bad was) (g.N.Nand.bad now)
+          (c.done.ensures.device ∙ inv.device) h.device (c.perform.ensures.shape ∙ inv.shape) (c.perform.ensures.bad ∙ inv.bad);
+      reserve = reserve_there c.args.self.now.core c.done.new.self (reserve_of c.args.self.now) (reserve_of c.loop-self.self) (g.N.Nand.shape was)
+          (g.N.Nand.shape now) (g.N.Nand.bad was) (g.N.Nand.bad now) inv.reserve (c.done.ensures.device ∙ inv.device)
+          (c.perform.ensures.shape ∙ inv.shape) (c.perform.ensures.bad ∙ inv.bad) h.reserve;
+      blank = blank_there (g.N.Nand.flash now) (g.N.Nand.flash now) (g.N.Nand.shape mid) (g.N.Nand.shape now) (g.N.Nand.bad mid) (g.N.Nand.bad now)
+          (layer_sectors c.loop-self.self) _ refl c.perform.ensures.shape c.perform.ensures.bad
+          (ap (λ (d : Device). d.sectors) c.done.ensures.device) blank;
+      consistent = subst (λ (us : List Update). IsConsistent t c.done.new.self us us) (adds c.next-command.result update updates last)
+          (c.done.ensures.acknowledges f t value updates updates consistent completes);
+    }
+
+pub loop-self-preserved : goal.loop-self-preserved
+loop-self-preserved g c =
+    let inv = c.loop-self.invariant in
+    let numbers = c.loop-self.self.numbers.items in
+    let was = c.args.self.now.nand in
+    let mid = c.loop-self.self.nand in
+    let now = c.perform.new.nand in
+    let f = numbered numbers (g.N.Nand.flash mid) in
+    let t = numbered numbers (g.N.Nand.flash now) in
+    let value = value_with c.args.trimmed c.args.main.now in
+    let update : Update = record { sector = c.args.sector; value = value } in
+    let others = sym c.is_last.ensures ∙ c.if-is_last.false in
+    let same = c.deref.ensures.value in
+    let completes = λ (updates : List Update) (h : IsOpenLayer g.N.Nand.flash g.N.Nand.shape g.N.Nand.bad c.args.self.now updates).
+    let does = c.in_default-perform.ensures.does (g.N.Nand.bad mid) (g.N.Nand.shape mid).blocks
+    (subst (λ (ns : List ℕ). IsOrder ns (g.N.Nand.bad mid) (g.N.Nand.shape mid).blocks) (sym same) (inv.order updates h)) in
+    let allowed = (c.next-command.ensures.safe f updates updates (inv.consistent updates h)).1 in
+    let there = (does (subst (λ (ns : List ℕ). IsAllowed (numbered ns (g.N.Nand.flash mid)) c.next-command.result) (sym same) allowed)).0 in
+    subst (λ (ns : List ℕ). Completes c.next-command.result c.args.sector value (numbered ns (g.N.Nand.flash mid))
+    (numbered ns (g.N.Nand.flash now))) same there in
+    record {
+      mounted = inv.mounted;
+      shape = c.perform.ensures.shape ∙ inv.shape;
+      bad = c.perform.ensures.bad ∙ inv.bad;
+      device = c.done.ensures.device ∙ inv.device;
+      number = c.done.ensures.number ∙ (same_number c.next-command.result c.loop-self.self.core.next_number others ∙ inv.number);
+      faults = λ cause. c.in_default-perform.ensures.cause.0 cause ∙ inv.faults cause;
+      reserve = inv.reserve;
+      order = λ updates h. same_order numbers (g.N.Nand.shape mid) (g.N.Nand.shape now) (g.N.Nand.bad mid) (g.N.Nand.bad now)
+          c.perform.ensures.shape c.perform.ensures.bad (inv.order updates h);
+      blank = λ updates h.
+          let device = moved c.args.self.now.core c.loop-self.self.core (g.N.Nand.shape was) (g.N.Nand.shape mid) (g.N.Nand.bad was) (g.N.Nand.bad mid)
+          inv.device h.device inv.shape inv.bad in
+          let names = subst (λ (d : Device). NamesOn d c.next-command.result) device
+          (c.next-command.ensures.safe f updates updates (inv.consistent updates h)).0 in
+          blank_there (g.N.Nand.flash now) (g.N.Nand.flash now) (g.N.Nand.shape mid) (g.N.Nand.shape now) (g.N.Nand.bad mid) (g.N.Nand.bad now)
+          (layer_sectors c.loop-self.self) _ refl c.perform.ensures.shape c.perform.ensures.bad (ap (λ (d : Device). d.sectors) c.done.ensures.device)
+          (blank_after (g.N.Nand.flash mid) (g.N.Nand.flash now) (g.N.Nand.shape mid) (g.N.Nand.bad mid) numbers (layer_sectors c.loop-self.self)
+          c.next-command.result c.args.sector value (inv.order updates h) names
+          (completes_cut f t c.next-command.result c.args.sector value (completes updates h)) (inv.blank updates h));
+      consistent = λ updates h.
+          subst (λ (us : List Update). IsConsistent t c.done.new.self us us) (keeps c.next-command.result update updates others)
+          (c.done.ensures.acknowledges f t value updates updates (inv.consistent updates h) (completes updates h));
+    }

@@ -1,0 +1,190 @@
+//! How a sector gets a new version, and how the layer goes on after a command that has failed.
+ghost use Rattle.std.specs.Prelude.{◌≡◌, ◌≢◌, ◌⊎◌, ◌<◌, ◌≤◌, ◌+◌, ◌^◌, ℕ, Bool, true, false, List, ◌∷◌, length, Ok, Err, OnOk, OnErr, IfErr};
+ghost use Rattle.durable.specs.Failures.{Changes};
+ghost use Rattle.durable.specs.Updates.{Update};
+ghost use Rattle.durable.specs.declared.command.Command.TheVariants as commands;
+ghost use Rattle.nand.specs.Attempts.{CanReplace, CountsStop, Leaves};
+ghost use Rattle.nand.specs.Nand.{CountsFault, Performs, value_with};
+ghost use Rattle.nand.specs.Numbers.{IsOrder, good_before, is_marked, numbered};
+ghost use Rattle.nand.specs.Opened.{CanOpen, Fails, HasMarkedFailed, IsClosed, IsOpenLayer, IsSameDevice, IsTrueCause, KeepsDevice};
+ghost use Rattle.nand.specs.Opened.{layer_sectors, number_of, reserve_of, update_of};
+ghost use Rattle.nand.specs.declared.failure.Failure.TheVariants as failure;
+ghost use Rattle.nand.specs.declared.flash.Fault.{Fault as Cause};
+ghost use Rattle.nand.specs.declared.flash.Fault.TheVariants as fault;
+ghost use Rattle.nand.specs.declared.updating.Stop.TheVariants as stop;
+
+use crate::failure::{Failure, OpenFailure};
+use crate::flash::{Fault, Nand, PowerGone, Stamp};
+use crate::layer::Durable;
+use crate::mounting::mount;
+use crate::numbers::{chip_block, chip_page};
+use durable::Command;
+
+// Why an attempt to update a sector came to no end.
+#[derive(Clone, Copy)]
+pub(crate) enum Stop {
+    // The numbers of versions have run out.
+    NoNumber,
+    // The fault of a command that changes pages of the block with this number.
+    Fault(Fault, u32),
+}
+
+// The block of which a command changes pages.
+fn changed_block(command: Command) -> u32
+    ensures { command ≢ commands.Refused → Changes command result }
+{
+    match command {
+        Command::Program(at, _) => at.block,
+        Command::Copy(_, _, to) => to.block,
+        Command::Erase(block) => block,
+        Command::Refused => 0,
+    }
+}
+
+// Has the chip do a command.
+fn perform<N: Nand>(
+    nand: &mut N,
+    numbers: &[u32],
+    command: Command,
+    sector: u32,
+    trimmed: bool,
+    main: &[u8],
+) -> Result<(), Fault>
+    requires { trimmed ≡ false → length main.now ≡ (N.shape nand.old).page_bytes }
+    ensures does { (bad : List Bool) (blocks : ℕ) → IsOrder numbers.now bad blocks → Performs command sector (value_with trimmed main.now) result
+        (numbered numbers.now (N.flash nand.old)) (numbered numbers.now (N.flash nand.new)) }
+    ensures shape { N.shape nand.new ≡ N.shape nand.old }
+    ensures bad { N.bad nand.new ≡ N.bad nand.old }
+    ensures cause { CountsFault (N.faults nand.old) (N.faults nand.new) result }
+{
+    match command {
+        Command::Program(at, number) => {
+            let stamp = Stamp {
+                sector,
+                number,
+                trimmed,
+            };
+            nand.program(chip_page(numbers, at), stamp, main)
+        }
+        Command::Copy(_, from, to) => nand.copyback(
+            chip_page(numbers, from),
+            chip_page(numbers, to),
+        ),
+        Command::Erase(number) => nand.erase(chip_block(numbers, number)),
+        Command::Refused => Ok(()),
+    }
+}
+
+impl<N: Nand> Durable<N> {
+    // Gives a sector a new version. A block whose command fails is replaced by one of the reserve, and the call goes on.
+    pub(crate) fn update(&mut self, sector: u32, trimmed: bool, main: &[u8]) -> Result<(), Failure>
+        requires sector { sector < layer_sectors self.old }
+        requires page { trimmed ≡ false → length main.now ≡ (N.shape self.old.nand).page_bytes }
+        ensures acknowledged { (updates : List Update) → IsOpenLayer N.flash N.shape N.bad self.old updates
+            → OnOk result (IsOpenLayer N.flash N.shape N.bad self.new (update_of sector (value_with trimmed main.now) ∷ updates)) }
+        ensures fails { (updates : List Update) → IsOpenLayer N.flash N.shape N.bad self.old updates
+            → IfErr result (Fails N.flash N.shape N.bad self.old self.new (update_of sector (value_with trimmed main.now)) updates) }
+        ensures cause { IfErr result (IsTrueCause N.faults self.old self.new) }
+        ensures closed { IsClosed self.old → result ≡ Err failure.Closed }
+        ensures device { KeepsDevice N.shape N.bad N.faults self.old self.new }
+        ensures marks { (updates : List Update) → IsOpenLayer N.flash N.shape N.bad self.old updates
+            → OnOk result (HasMarkedFailed N.shape N.bad N.faults self.old self.new) }
+        ensures overwrites { result ≢ Err failure.Written }
+    {
+        if !self.mounted {
+            return Err(Failure::Closed);
+        }
+        let reserve = self.reserve;
+        let mut failed = 0;
+        loop {
+            match self.attempt(sector, trimmed, main) {
+                Ok(()) => return Ok(()),
+                Err(Stop::NoNumber) => {
+                    if failed == 0 {
+                        return Err(Failure::NoNumber);
+                    }
+                    self.mounted = false;
+                    return Err(Failure::Failed);
+                }
+                Err(Stop::Fault(Fault::PowerGone, _)) => return Err(Failure::PowerGone),
+                Err(Stop::Fault(Fault::Failed, number)) => {
+                    if failed >= reserve {
+                        return Err(Failure::Failed);
+                    }
+                    if let Err(failure) = self.replace(number) {
+                        return Err(failure);
+                    }
+                }
+            }
+            failed += 1;
+        }
+    }
+
+    // The same, up to the first fault.
+    fn attempt(&mut self, sector: u32, trimmed: bool, main: &[u8]) -> Result<(), Stop>
+        requires sector { sector < layer_sectors self.old }
+        requires page { trimmed ≡ false → length main.now ≡ (N.shape self.old.nand).page_bytes }
+        ensures acknowledged { (updates : List Update) → IsOpenLayer N.flash N.shape N.bad self.old updates
+            → OnOk result (IsOpenLayer N.flash N.shape N.bad self.new (update_of sector (value_with trimmed main.now) ∷ updates)) }
+        ensures leaves { (updates : List Update) → IsOpenLayer N.flash N.shape N.bad self.old updates
+            → IfErr result (Leaves N.flash N.shape N.bad self.new (update_of sector (value_with trimmed main.now)) updates) }
+        ensures number { result ≡ Err stop.NoNumber → (number_of self.new ≡ number_of self.old) × (2 ^ 64 ≤ number_of self.new + 1) }
+        ensures counts { CountsStop (N.faults self.old.nand) (N.faults self.new.nand) result }
+        ensures device { IsSameDevice N.shape N.bad self.old self.new }
+        ensures reserve { reserve_of self.new ≡ reserve_of self.old }
+    {
+        loop {
+            let command = self.core.next(sector);
+            if matches!(command, Command::Refused) {
+                return Err(Stop::NoNumber);
+            }
+            if let Err(fault) = perform(
+                &mut self.nand,
+                &self.numbers,
+                command,
+                sector,
+                trimmed,
+                main,
+            ) {
+                self.mounted = false;
+                return Err(Stop::Fault(fault, changed_block(command)));
+            }
+            self.core.done(sector, command);
+            if command.is_last() {
+                return Ok(());
+            }
+        }
+    }
+
+    // Marks the block with this number bad, and mounts again with the next block of the reserve in its stead.
+    fn replace(&mut self, number: u32) -> Result<(), Failure>
+        ensures replaced { (updates : List Update) → CanReplace N.flash N.shape N.bad self.old number updates → 0 < reserve_of self.old
+            → OnOk result (IsOpenLayer N.flash N.shape N.bad self.new updates × (reserve_of self.new + 1 ≡ reserve_of self.old)
+            × (good_before (N.bad self.new.nand) (N.shape self.old.nand).blocks + 1
+            ≡ good_before (N.bad self.old.nand) (N.shape self.old.nand).blocks)) }
+        ensures closed { (updates : List Update) → CanReplace N.flash N.shape N.bad self.old number updates → 0 < reserve_of self.old
+            → OnErr result (IsClosed self.new × CanOpen N.flash N.shape N.bad self.new.nand (layer_sectors self.old) updates) }
+        ensures causes { OnErr result ((result ≡ Err failure.PowerGone) ⊎ (result ≡ Err failure.OutOfMemory)) }
+        ensures failures { N.faults self.new.nand fault.Failed ≡ N.faults self.old.nand fault.Failed }
+        ensures faults { OnOk result ((cause : Cause) → N.faults self.new.nand cause ≡ N.faults self.old.nand cause) }
+        ensures power { result ≡ Err failure.PowerGone → N.faults self.new.nand fault.PowerGone ≢ N.faults self.old.nand fault.PowerGone }
+        ensures marks { (b : ℕ) → is_marked (N.bad self.old.nand) b ≡ true → is_marked (N.bad self.new.nand) b ≡ true }
+        ensures shape { N.shape self.new.nand ≡ N.shape self.old.nand }
+        ensures sectors { layer_sectors self.new ≡ layer_sectors self.old }
+    {
+        if let Err(PowerGone) = self.nand.mark_bad(chip_block(&self.numbers, number)) {
+            return Err(Failure::PowerGone);
+        }
+        match mount(self.alloc, &mut self.nand, self.core.sectors()) {
+            Ok(mounted) => {
+                self.numbers = mounted.numbers;
+                self.core = mounted.core;
+                self.reserve = mounted.reserve;
+                self.mounted = true;
+                Ok(())
+            }
+            Err(OpenFailure::PowerGone) => Err(Failure::PowerGone),
+            Err(OpenFailure::Refused(_)) => Err(Failure::OutOfMemory),
+        }
+    }
+}
