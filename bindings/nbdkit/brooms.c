@@ -11,27 +11,35 @@
 #include <string.h>
 #include <sys/resource.h>
 
+#include "cold.h"
+
 enum {
     DRAINS_OF_A_SURVEY = 64,
     EVEN_PART = 16, // on a device that is more than half full no block has many more erases than others: this part of all that a block has
+    MOST_WAITING = 2, // drained blocks that a broom keeps for copies
+    MOST_LOOSE = 8, // blocks of cold data that are loosened ahead
     POOR_PART = 8, // a drain that wins back less than this part of a block is made when a write waits, and not ahead of it
     HEAD_START = 10, // how many nice values a broom's thread is below those of the requests
 };
 
-int brooms_begin(struct brooms *brooms, const struct options *options, struct stock *stock, struct luns *luns,
+int brooms_begin(struct brooms *brooms, const struct options *options, struct stock *stock, struct luns *luns, struct sector_locks *locks,
                  struct mintlintel_seat *seats) {
     uint64_t most = options->blocks * (uint64_t) (options->endurance - 1), pages = options->blocks * (uint64_t) options->pages;
-    *brooms = (struct brooms){.stock = stock, .luns = luns, .count = options->brooms, .blocks = options->blocks, .pages = options->pages};
+    *brooms = (struct brooms){.stock = stock, .luns = luns, .locks = locks, .count = options->brooms, .blocks = options->blocks, .pages = options->pages};
+    brooms->page = options->page;
+    brooms->sectors = options->sectors;
     brooms->endurance = options->endurance;
-    brooms->unevenness = 2 * (uint64_t) options->sectors > pages ? options->endurance / EVEN_PART : options->endurance;
+    brooms->is_crowded = 2 * (uint64_t) options->sectors > pages;
+    brooms->unevenness = brooms->is_crowded ? options->endurance / EVEN_PART : options->endurance;
     brooms->warn_at = (most * options->warn + 99) / 100;
     pthread_rwlock_init(&brooms->choosing, NULL);
     brooms->brooms = aligned_alloc(_Alignof(struct broom), (options->brooms + 1) * sizeof *brooms->brooms);
     brooms->erases = calloc(options->blocks, sizeof *brooms->erases);
-    int is_short = !brooms->brooms || !brooms->erases;
+    brooms->is_loose = calloc(options->blocks, sizeof *brooms->is_loose);
+    int is_short = !brooms->brooms || !brooms->erases || !brooms->is_loose;
     for (uint32_t i = 0; i < options->brooms && brooms->brooms; i++) {
         struct broom *broom = &brooms->brooms[i];
-        *broom = (struct broom){.seat = &seats[i], .all = brooms, .number = i, .destination = NO_BLOCK};
+        *broom = (struct broom){.seat = &seats[i], .all = brooms, .number = i, .destination = NO_BLOCK, .random = options->seed + i};
         broom->spare = options->blocks - options->brooms + i; // the library's choice on a new device
         broom->drained = calloc(options->blocks, sizeof *broom->drained);
         is_short |= !broom->drained;
@@ -48,6 +56,7 @@ void brooms_end(struct brooms *brooms) {
         free(brooms->brooms[i].drained);
     free(brooms->brooms);
     free((void *) brooms->erases);
+    free((void *) brooms->is_loose);
     pthread_rwlock_destroy(&brooms->choosing);
 }
 
@@ -113,10 +122,27 @@ static void take_copies(struct broom *broom, uint32_t victim, uint32_t count) {
 
 // ---- Which block is drained.
 
+// Loosens blocks of cold data, if blocks are soon filled for the last time.
+static void loosen(struct broom *broom) {
+    struct brooms *all = broom->all;
+    uint64_t until = 0;
+    if (!all->is_crowded || !brooms_retire(all, atomic_load(&all->most_erases) + 1))
+        return;
+    while (atomic_load(&all->loose_count) < MOST_LOOSE && cold_loosen(broom, &until))
+        sleep_until(broom, until);
+}
+
+static void forget_loose(struct brooms *all, uint32_t block) {
+    if (atomic_exchange(&all->is_loose[block], 0))
+        atomic_fetch_sub(&all->loose_count, 1);
+}
+
 // Notes a block that the broom has drained. The code is that of the drain.
 static void note_drained(struct broom *broom, uint32_t code, uint32_t block) {
-    if (code == MINTLINTEL_DONE)
-        broom->drained[broom->drained_count++] = block;
+    if (code != MINTLINTEL_DONE)
+        return;
+    broom->drained[broom->drained_count++] = block;
+    forget_loose(broom->all, block);
 }
 
 static int is_drained(const struct brooms *all, uint32_t block) {
@@ -127,13 +153,14 @@ static int is_drained(const struct brooms *all, uint32_t block) {
     return 0;
 }
 
-// Takes the marks of a survey away from blocks that are retired, or have more erases than this. The erase of a block that isn't drained does
-// nothing else.
-static void pass_over(struct broom *broom, uint64_t most) {
+// Takes the marks of a survey away from all blocks but one or, if none is given, from those that have more erases than this or are loose. Retired
+// blocks lose theirs in any case. The erase of a block that isn't drained does nothing else.
+static void pass_over(struct broom *broom, uint64_t most, uint32_t only) {
     struct brooms *all = broom->all;
     for (uint32_t block = 0; block < all->blocks; block++) {
         uint32_t erases = atomic_load(&all->erases[block]);
-        if ((brooms_retire(all, erases) || erases > most) && !is_drained(all, block))
+        int is_passed = only != NO_BLOCK ? block != only : erases > most || atomic_load(&all->is_loose[block]);
+        if ((is_passed || brooms_retire(all, erases)) && !is_drained(all, block))
             mintlintel_broom_erase(announced(broom->seat), block);
     }
 }
@@ -149,20 +176,50 @@ static int is_uneven(const struct brooms *all) {
     return brooms_retire(all, most) || most > even_erases(all);
 }
 
-// Drains a block by a new survey: one that isn't passed over, or if these gain nothing one with more erases that isn't retired. A drain of a dead
-// block makes a survey, also where each block is live; a dead block is drained whatever its erases are.
-static uint32_t drain_evenly(struct broom *broom, uint32_t *block, uint32_t *moved) {
-    for (uint64_t most = even_erases(broom->all);; most = UINT64_MAX) {
-        uint32_t code = mintlintel_broom_drain_dead(announced(broom->seat), block, moved);
+// Drains a block by a new survey, one that isn't passed over. A drain of a dead block makes a survey, also where each block is live; a dead block is
+// drained in any case.
+static uint32_t drain_chosen(struct broom *broom, uint64_t most, uint32_t only, uint32_t *block, uint32_t *moved) {
+    uint32_t code = mintlintel_broom_drain_dead(announced(broom->seat), block, moved);
+    note_drained(broom, code, *block);
+    pass_over(broom, most, only);
+    if (code == MINTLINTEL_NO_SPARE) {
+        code = mintlintel_broom_drain_next(announced(broom->seat), block, moved);
         note_drained(broom, code, *block);
-        pass_over(broom, most);
-        if (code == MINTLINTEL_NO_SPARE) {
-            code = mintlintel_broom_drain_next(announced(broom->seat), block, moved);
-            note_drained(broom, code, *block);
-        }
-        if (code != MINTLINTEL_NOTHING_TO_GAIN || most == UINT64_MAX)
-            return code;
     }
+    return code;
+}
+
+// Whether the broom's next copies are to be cold data: they go to a block that is filled for the last time.
+static int wants_cold(const struct broom *broom) {
+    struct brooms *all = broom->all;
+    uint32_t next = broom->destination != NO_BLOCK && broom->filled < all->pages ? broom->destination : broom->spare;
+    return next != NO_BLOCK && brooms_retire(all, atomic_load(&all->erases[next])) && atomic_load(&all->loose_count) > 0;
+}
+
+// Drains a loose block.
+static uint32_t drain_loose(struct broom *broom, uint32_t *block, uint32_t *moved) {
+    struct brooms *all = broom->all;
+    uint32_t loose = 0;
+    while (loose < all->blocks && !atomic_load(&all->is_loose[loose]))
+        loose++;
+    if (loose == all->blocks)
+        return MINTLINTEL_NOTHING_TO_GAIN;
+    broom->drains_of_survey = 0;
+    uint32_t code = drain_chosen(broom, UINT64_MAX, loose, block, moved);
+    if (code != MINTLINTEL_DONE)
+        forget_loose(all, loose);
+    return code;
+}
+
+// Drains a block by a new survey: one with few erases, or if these gain nothing one with more erases. A loose one is drained where cold data is wanted,
+// or when nothing else is left.
+static uint32_t drain_evenly(struct broom *broom, uint32_t *block, uint32_t *moved) {
+    uint32_t code = wants_cold(broom) ? drain_loose(broom, block, moved) : MINTLINTEL_NOTHING_TO_GAIN;
+    if (code == MINTLINTEL_NOTHING_TO_GAIN)
+        code = drain_chosen(broom, even_erases(broom->all), NO_BLOCK, block, moved);
+    if (code == MINTLINTEL_NOTHING_TO_GAIN)
+        code = drain_chosen(broom, UINT64_MAX, NO_BLOCK, block, moved);
+    return code == MINTLINTEL_NOTHING_TO_GAIN && broom->drained_count == 0 ? drain_loose(broom, block, moved) : code;
 }
 
 // Drains the best block of the survey that the broom keeps.
@@ -185,8 +242,9 @@ static uint32_t drain_by_survey(struct broom *broom, uint32_t *block, uint32_t *
 // passed over.
 static uint32_t drain_one(struct broom *broom, uint32_t *block, uint32_t *moved) {
     struct brooms *all = broom->all;
+    loosen(broom);
     pthread_rwlock_rdlock(&all->choosing);
-    uint32_t code = drain_next(broom, block, moved);
+    uint32_t code = wants_cold(broom) ? MINTLINTEL_NOTHING_TO_GAIN : drain_next(broom, block, moved);
     int is_alone = code == MINTLINTEL_NOTHING_TO_GAIN && is_uneven(all);
     if (is_alone) {
         pthread_rwlock_unlock(&all->choosing);
@@ -232,8 +290,10 @@ static int erase(struct broom *broom, uint32_t at) {
         return 1;
     }
     sleep_until(broom, luns_erase(broom->all->luns, block, 0));
-    if (code == MINTLINTEL_DONE)
+    if (code == MINTLINTEL_DONE) {
         stock_add_free(broom->all->stock);
+        loosen(broom);
+    }
     if (code == MINTLINTEL_KEPT) {
         tally_add(&broom->kept, 1);
         broom->spare = block;
@@ -241,12 +301,25 @@ static int erase(struct broom *broom, uint32_t at) {
     return 1;
 }
 
-// Erases the blocks that wait. 1 if there were any, even if a host still reads one: then a later round will erase it.
-static int erase_drained(struct broom *broom) {
-    int was_there = broom->drained_count > 0;
-    for (uint32_t at = 0; at < broom->drained_count;)
-        at += !erase(broom, at);
-    if (broom->drained_count > 0)
+// Whether a drained block goes on waiting until it can be the broom's spare: it is filled only once more, and copies stay live longer than what
+// clients write.
+static int waits_for_copies(const struct broom *broom, uint32_t at) {
+    struct brooms *all = broom->all;
+    return all->is_crowded && at < MOST_WAITING && broom->spare != NO_BLOCK && brooms_retire(all, atomic_load(&all->erases[broom->drained[at]]) + 1);
+}
+
+// Erases the blocks that wait, all or those that don't wait for copies. 1 if there were any, even if a host still reads one: then a later round will
+// erase it.
+static int erase_drained(struct broom *broom, int are_all) {
+    uint32_t pinned = 0, at = 0;
+    int was_there = 0;
+    while (at < broom->drained_count) {
+        int waits = !are_all && waits_for_copies(broom, at), is_pinned = !waits && !erase(broom, at);
+        was_there |= !waits;
+        pinned += (uint32_t) is_pinned;
+        at += (uint32_t) (waits || is_pinned);
+    }
+    if (pinned > 0)
         sched_yield();
     return was_there;
 }
@@ -285,9 +358,10 @@ static void *sweep(void *argument) {
     setpriority(PRIO_PROCESS, 0, getpriority(PRIO_PROCESS, 0) - HEAD_START);
     uint64_t known;
     while (stock_begin_round(stock, broom->number, &known)) {
-        int was_fruitful = erase_drained(broom);
+        int was_fruitful = erase_drained(broom, 0);
         was_fruitful |= drain(broom);
-        was_fruitful |= erase_drained(broom);
+        was_fruitful |= erase_drained(broom, 0);
+        was_fruitful = was_fruitful || erase_drained(broom, 1);
         if (!was_fruitful)
             tally_add(&broom->fruitless, 1);
         stock_end_round(stock, broom->number, known, !was_fruitful, broom->was_poor);

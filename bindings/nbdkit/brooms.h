@@ -1,8 +1,11 @@
 // Brooms: threads that collect garbage. Each drains a block and erases it, and rests while there are blocks enough.
 //
 // The last erase of a block would fail. So a block that has only this one left is retired: it is filled once more, and then no broom drains it
-// while it has a live page. That way no broom loses the block that it copies to. On a device that is more than half full brooms wear the blocks
-// evenly, too: a block with more erases than others is drained when these have nothing to gain.
+// while it has a live page. That way no broom loses the block that it copies to.
+//
+// On a device that is more than half full brooms wear the blocks evenly, too: a block with more erases than others is drained when these have nothing to
+// gain. And since a retired block keeps its dead pages, it is filled with what stays live: by copies if a broom can wait for them, and best of all by
+// cold data, whose block then has its erases for others.
 #ifndef NBDKIT_BROOMS_H
 #define NBDKIT_BROOMS_H
 
@@ -10,9 +13,8 @@
 #include <stdint.h>
 
 #include "luns.h"
+#include "sector_locks.h"
 #include "stock.h"
-
-enum { NO_BLOCK = UINT32_MAX };
 
 struct broom {
     _Alignas(64) struct mintlintel_seat *seat;
@@ -26,25 +28,30 @@ struct broom {
     int was_poor; // its last drain moved nearly a whole block
     uint32_t destination, filled; // the block that it copies to, and how many of its pages are copies; or NO_BLOCK
     uint32_t spare;               // the block after that, or NO_BLOCK
+    uint64_t random;              // for the sectors whose blocks are compared
     tally drains, copies, kept, pinned, lost, fruitless;
 };
 
 struct brooms {
     struct stock *stock;
     struct luns *luns;
+    struct sector_locks *locks;
     struct broom *brooms;
     uint32_t count, started;
-    uint32_t blocks, pages, endurance;
+    uint32_t blocks, pages, page, sectors, endurance;
     uint64_t warn_at;         // at this many erases of all blocks a warning is given, or 0
+    int is_crowded;           // more than half of the pages are in use
     uint32_t unevenness;      // erases that a block may have more than the blocks have on average
     pthread_rwlock_t choosing; // shared for a drain and for an erase; alone to pass over blocks, and to retire one
     _Atomic uint64_t all_erases;
     _Atomic uint32_t most_erases; // of a block
     _Atomic uint32_t *erases;     // of each block
+    _Atomic uint8_t *is_loose;    // of each block: it has cold data and a dead page, and is drained into a block that is filled for the last time
+    _Atomic uint32_t loose_count;
 };
 
 // 0, or -1 with an error reported if there is no memory.
-int brooms_begin(struct brooms *brooms, const struct options *options, struct stock *stock, struct luns *luns,
+int brooms_begin(struct brooms *brooms, const struct options *options, struct stock *stock, struct luns *luns, struct sector_locks *locks,
                  struct mintlintel_seat *seats);
 void brooms_end(struct brooms *brooms);
 

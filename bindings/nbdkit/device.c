@@ -46,7 +46,7 @@ int device_open(struct device *device) {
         close_seats(device);
         return -1;
     }
-    if (brooms_begin(&device->brooms, options, &device->stock, &device->luns, device->broom_seats) == -1) {
+    if (brooms_begin(&device->brooms, options, &device->stock, &device->luns, &device->locks, device->broom_seats) == -1) {
         stock_end(&device->stock);
         close_seats(device);
         return -1;

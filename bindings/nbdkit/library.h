@@ -18,4 +18,18 @@ static inline struct mintlintel_seat *announced(struct mintlintel_seat *seat) {
 }
 #endif
 
+enum { NO_BLOCK = UINT32_MAX };
+
+// The block that has a sector's page, or NO_BLOCK if it has none. The page is held for a moment by a host's seat, and copied if there is a place for it.
+static inline uint32_t block_of(struct mintlintel_seat *host, uint32_t sector, uint8_t *page, size_t bytes) {
+    struct mintlintel_page held = {.block = NO_BLOCK};
+    if (mintlintel_host_hold(announced(host), sector) != MINTLINTEL_WRITTEN)
+        return NO_BLOCK;
+    mintlintel_host_held(announced(host), &held);
+    if (page)
+        mintlintel_host_copy(announced(host), page, bytes);
+    mintlintel_host_release(announced(host));
+    return held.block;
+}
+
 #endif

@@ -71,21 +71,9 @@ static void note_end(struct times *times, uint64_t end) {
     times->request = times->request > end ? times->request : end;
 }
 
-// The block that has a sector's page, or NO_BLOCK if it has none. The page is held for a moment, and copied if there is a place for it.
-static uint32_t block_of(struct device *device, struct host *host, uint32_t sector, uint8_t *page) {
-    struct mintlintel_page held = {.block = NO_BLOCK};
-    if (mintlintel_host_hold(announced(host->seat), sector) != MINTLINTEL_WRITTEN)
-        return NO_BLOCK;
-    mintlintel_host_held(announced(host->seat), &held);
-    if (page)
-        mintlintel_host_copy(announced(host->seat), page, device->options.page);
-    mintlintel_host_release(announced(host->seat));
-    return held.block;
-}
-
 // Reads a sector, and takes the time of it.
 static uint32_t read_in_time(struct device *device, struct host *host, uint32_t sector, uint8_t *page, struct times *times) {
-    uint32_t block = block_of(device, host, sector, page);
+    uint32_t block = block_of(host->seat, sector, page, device->options.page);
     if (block == NO_BLOCK)
         return MINTLINTEL_EMPTY;
     note_end(times, luns_read(&device->luns, block, times->page));
@@ -94,7 +82,7 @@ static uint32_t read_in_time(struct device *device, struct host *host, uint32_t 
 
 // Takes the time of the program with which a sector was written.
 static void take_program(struct device *device, struct host *host, uint32_t sector, struct times *times) {
-    uint32_t block = device->luns.is_timed ? block_of(device, host, sector, NULL) : NO_BLOCK;
+    uint32_t block = device->luns.is_timed ? block_of(host->seat, sector, NULL, 0) : NO_BLOCK;
     if (block != NO_BLOCK)
         note_end(times, luns_program(&device->luns, block, times->page));
 }

@@ -190,9 +190,9 @@ static struct host *take_any(struct stock *stock) {
 }
 
 // A handle with room, or one that may take a free block; NULL if there is neither. No block is opened before it is needed.
-static struct host *take_with_room(struct stock *stock) {
+static struct host *take_with_room(struct stock *stock, int may_open) {
     struct host *host = take_idle(stock, &stock->roomy);
-    if (host || !may_open(stock))
+    if (host || !may_open)
         return host;
     host = take_idle(stock, &stock->roomless);
     if (!host)
@@ -366,16 +366,23 @@ struct host *stock_take_to_write(struct stock *stock, struct attempt *attempt) {
         return host;
     pthread_mutex_lock(&stock->mutex);
     atomic_fetch_add(&stock->waiting, 1);
-    host = take_with_room(stock);
+    host = take_with_room(stock, may_open(stock));
     while (!host) {
         attempt->is_last = has_waited_in_vain(stock, attempt);
         if (!attempt->is_last)
             wait_to_write(stock, attempt);
-        host = take_with_room(stock);
+        host = take_with_room(stock, may_open(stock));
         if (!host && attempt->is_last)
             host = take_any(stock);
     }
     atomic_fetch_sub(&stock->waiting, 1);
+    pthread_mutex_unlock(&stock->mutex);
+    return host;
+}
+
+struct host *stock_try_to_write(struct stock *stock) {
+    pthread_mutex_lock(&stock->mutex);
+    struct host *host = take_with_room(stock, !lacks_block(stock));
     pthread_mutex_unlock(&stock->mutex);
     return host;
 }

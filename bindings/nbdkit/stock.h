@@ -101,6 +101,9 @@ struct attempt {
 // A handle with room for a page, or, if no block comes free, any handle for a last try.
 struct host *stock_take_to_write(struct stock *stock, struct attempt *attempt);
 
+// A handle with room for a page, if there is one now, also while writes wait until more blocks are free: otherwise NULL.
+struct host *stock_try_to_write(struct stock *stock);
+
 // Gives a handle back after a write, a write for which the library found no block, or other changes.
 void stock_give_written(struct stock *stock, struct host *host, const struct attempt *attempt);
 void stock_give_refused(struct stock *stock, struct host *host, struct attempt *attempt);

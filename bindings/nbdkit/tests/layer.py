@@ -85,14 +85,16 @@ class Layer:
 
 
 class Timed:
-    """The layer over LUNs that take a part's times, in microseconds."""
+    """The layer over LUNs that take a part's times, in microseconds. `busy` is what all commands so far take together."""
 
     def __init__(self, layer, luns, times):
-        self.layer, self.luns, self.times, self.known = layer, [Lun() for _ in range(luns)], times, set()
+        self.layer, self.luns, self.times, self.known, self.busy = layer, [Lun() for _ in range(luns)], times, set(), 0
         self.of_one = len(layer.pages_of) // luns
 
     def _take(self, block, begin, *names):
-        return self.luns[block // self.of_one].take(begin, sum(self.times[name] for name in names))
+        length = sum(self.times[name] for name in names)
+        self.busy += length
+        return self.luns[block // self.of_one].take(begin, length)
 
     def read(self, sector, begin):
         return self._take(self.layer.place[sector][0], begin, "read", "transfer") if sector in self.layer.place else begin

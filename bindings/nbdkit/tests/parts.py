@@ -9,6 +9,7 @@ import time
 import failures
 import faults
 import files
+import filters
 import images
 import reports
 import times
@@ -188,11 +189,22 @@ def by_itself(shop, name, kind, sources, *more):
     return shop.run([*(("setarch", "-R") if kind == "thread" else ()), program], 80).strip()
 
 
+def over_device(shop, name):
+    """A test over a device without a server, under both sanitizers."""
+    library = os.environ.get("LIBRARY", HERE.parent / "out/libmintlintel.a")
+    sources = [f"{source}.c" for source in ("device", "requests", "age", "stock", "brooms", "cold", "sector_locks", "counts", "luns", "faults")]
+    told = [by_itself(shop, name, kind, sources, library) for kind in ("address", "thread")]
+    return f"{told[0]} under AddressSanitizer, {told[1]} under ThreadSanitizer" if told[0] else "under both sanitizers"
+
+
 def refusals_at_the_end(shop):
     """Small devices of random numbers: a write is refused only if no broom could have won back a block."""
-    library = os.environ.get("LIBRARY", HERE.parent / "out/libmintlintel.a")
-    sources = [f"{name}.c" for name in ("device", "requests", "age", "stock", "brooms", "sector_locks", "counts", "luns", "faults")]
-    return ", ".join(f"{by_itself(shop, 'to_the_end', kind, sources, library)} under {kind.capitalize()}Sanitizer" for kind in ("address", "thread"))
+    return over_device(shop, "to_the_end")
+
+
+def cold_data(shop):
+    """Which block is loosened, and that no sector changes by it."""
+    return over_device(shop, "cold")
 
 
 def handles(shop):
@@ -353,21 +365,23 @@ def marks_out_of_reach(shop):
     return ", ".join(told)
 
 
-# Devices that are 62 % full: blocks, endurance, brooms, how they are written, and the least share of all programs. The last one has this by even wear.
-WORN_OUT = [(60, 20, 1, "uniform", 93), (60, 20, 2, "uniform", 93), (60, 20, 2, "zipf", 93), (288, 10, 1, "zipf", 95)]
+# Devices that are 62 or 89 % full: sectors of each block, blocks, endurance, brooms, how they are written, and the least share of all programs. The fourth
+# has this by even wear, and the last two by cold data in the blocks that are filled for the last time.
+WORN_OUT = [(40, 60, 20, 1, "uniform", 93), (40, 60, 20, 2, "uniform", 93), (40, 60, 20, 2, "zipf", 93), (57, 288, 10, 2, "sequential", 92),
+            (57, 288, 10, 1, "zipf", 97.5), (57, 288, 10, 2, "zipf", 97.5)]
 
 
 def worn_out(shop):
     """Until the device is worn out: refusals are ENOSPC and come at once, and each page whose write was answered is there."""
     told = []
-    for blocks, endurance, brooms, pattern, least in WORN_OUT:
-        server = Server(shop, f"sectors={40 * blocks}", f"blocks={blocks}", "hosts=4", f"brooms={brooms}", f"endurance={endurance}")
+    for used, blocks, endurance, brooms, pattern, least in WORN_OUT:
+        server = Server(shop, f"sectors={used * blocks}", f"blocks={blocks}", "hosts=4", f"brooms={brooms}", f"endurance={endurance}")
         printed = shop.run([shop.client("wear_out"), server.uri, pattern])
         most, longest = map(float, re.search(r"nine in ten refused within ([\d.]+) ms, all within ([\d.]+) ms", printed).groups())
         want(most < 100 * slowness() and longest < 1000 * slowness(), f"a refusal isn't at once: {printed}")
         told.append(f"{pattern}, {brooms} broom{'s' * (brooms > 1)}: {share(server.stop(), least)}, nine in ten refused within {most} ms")
     for brooms in shop.scaled((1,), (1, 2)):
-        for pattern, least in (("random", 90), ("zipf:1.2", 80)):
+        for pattern, least in (("random", 90), ("zipf:1.2", 93)):
             told.append(f"fio's {pattern}, {brooms} broom{'s' * (brooms > 1)}: {share(worn_out_by_fio(shop, brooms, pattern), least)}")
     return "; ".join(told)
 
@@ -419,7 +433,7 @@ def sanitized(shop, kind):
 
 # The parts that have to refuse wrong plugins.
 REFUSING = {part.__name__: part for part in (
-    overlaps, handles, resting_brooms, worn_out, by_qemu_io, a_map_of_holes, mixed_sizes, there_and_back, stock_by_itself, refusals_at_the_end,
+    overlaps, handles, resting_brooms, worn_out, by_qemu_io, a_map_of_holes, mixed_sizes, there_and_back, stock_by_itself, refusals_at_the_end, cold_data,
     trims_inwards, worn_choices, marks_out_of_reach, faults.refused_resources, reports.statistics, reports.aged_at_start, images.image_file, images.killed,
     images.power_cuts, failures.failing_image, times.of_commands, times.under_collection)}
 REFUSING |= {f"{kind}_sanitizer": functools.partial(sanitized, kind=kind) for kind in ("address", "thread")}
@@ -450,6 +464,7 @@ def chosen(options):
         "the page's lines": files.the_page,
         "stock by itself": stock_by_itself,
         "refusals at the end": refusals_at_the_end,
+        "cold data by itself": cold_data,
         "parts and whole pages at once": overlaps,
         "1, 4, 16 and 64 handles": handles,
         "pages of other sizes": other_pages,
@@ -463,6 +478,7 @@ def chosen(options):
         "an image, and kill -9": images.killed,
         "an image, and power cuts": images.power_cuts,
         "an image whose commands fail": failures.failing_image,
+        "nbdkit's filters": filters.beside_filters,
         "files of a part's times": times.part_files,
         "a part's times": times.of_commands,
         "a part's times under a collection": times.under_collection,

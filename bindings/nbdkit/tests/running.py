@@ -204,14 +204,14 @@ class Counts:
 
 class Server:
     """An nbdkit with the plugin, on a unix socket. `kind` is that of the build: plain, or under a sanitizer. `threads` are those of a
-    connection. With an image it has no file of counts. `before` are words before nbdkit."""
+    connection. With an image it has no file of counts. `before` are words before nbdkit, and `filters` are nbdkit's own."""
 
-    def __init__(self, shop, *words, kind="", threads=16, image=None, before=()):
+    def __init__(self, shop, *words, kind="", threads=16, image=None, before=(), filters=()):
         self.shop, self.seen, self.kind, self.image = shop, 0, kind, image
         folder = pathlib.Path(tempfile.mkdtemp(dir=shop.folder))
         self.socket, self.log, self.stats, pid = (folder / name for name in ("socket", "log", "stats", "pid"))
         self.uri = f"nbd+unix:///?socket={self.socket}"
-        call = [*before, "nbdkit", "-f", "-t", threads, "-U", self.socket, "-P", pid, shop.plugin(kind)]
+        call = [*before, "nbdkit", "-f", "-t", threads, "-U", self.socket, "-P", pid, *(f"--filter={name}" for name in filters), shop.plugin(kind)]
         call += [f"image={image}" if image else f"stats={self.stats}", *words]
         environment = dict(os.environ)
         if kind:

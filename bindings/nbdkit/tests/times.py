@@ -1,8 +1,9 @@
 """A part's times: what requests take agrees with queues that are computed here, one for each LUN.
 
-No client can be answered before the time of the model, whatever the machine does: that is demanded of each request. Since other programs may take
-the processors, some are answered later: in the best of some tries the median request may be off by 15 % of a read's time, and by as many times more as
-threads are ready for each processor."""
+No client can be answered before the time of the model, whatever the machine does: that is demanded of each request. A LUN that has much to do can't
+keep requests to another LUN waiting: that is demanded by the order of the answers. Since other programs may take the processors, some are answered
+later: in the best of some tries the median request may be off by 15 % of a read's time, and by as many times more as threads are ready for each
+processor."""
 
 import random
 import statistics
@@ -24,9 +25,9 @@ STAMP = READ  # an image reads the stamp of a sector's page before the first cha
 COPYBACK, COPY = TIMES["read"] + TIMES["program"], READ + PROGRAM  # within a LUN, and to another one
 
 
-def part_file(shop):
-    path = shop.folder / "part.toml"
-    path.write_text('name = "of a test"  # made up\n' + "".join(f"{name} = {time:_}.0\n" for name, time in TIMES.items()))
+def part_file(shop, times=1):
+    path = shop.folder / f"part{times}.toml"
+    path.write_text('name = "of a test"  # made up\n' + "".join(f"{name} = {times * time:_}.0\n" for name, time in TIMES.items()))
     return path
 
 
@@ -122,15 +123,15 @@ def best_of(attempt, what):
 # ---- A device whose pages were written in order.
 
 
-def in_order(shop, kind, luns):
+def in_order(shop, kind, luns, times=1):
     words = [f"sectors={SECTORS}", f"blocks={BLOCKS}", f"pages={PAGES}", f"luns={luns}"]
     if kind == "memory":
-        return Server(shop, *words, "hosts=1", "age=1", f"part={part_file(shop)}", before=HURRY)
+        return Server(shop, *words, "hosts=1", "age=1", f"part={part_file(shop, times)}", before=HURRY)
     image = new_image(shop)
     server = Server(shop, *words, image=image)
     shop.run(["qemu-io", "-f", "raw", "-c", f"write -P 1 0 {4 * SECTORS}k", server.uri])
     server.stop()
-    return Server(shop, "sync=never", f"part={part_file(shop)}", image=image, before=HURRY)
+    return Server(shop, "sync=never", f"part={part_file(shop, times)}", image=image, before=HURRY)
 
 
 def luns_in_order(kind, luns):
@@ -172,9 +173,28 @@ def reads_at_once(shop, server, lun_of, draw):
     return statistics.median(off) / READ, f"{len(off)} reads at random times"
 
 
+SLOWER = 20  # so many times slower is the part on which one read comes before another one
+
+
+def other_luns_go_on(shop, kind):
+    """A read of a whole block keeps its LUN busy for seconds. Reads of another LUN, sent long after it, are answered before it can be done."""
+    server, lun_of = in_order(shop, kind, 4, SLOWER), luns_in_order(kind, 4)
+    long = 6 * PAGES
+    own = [sector for sector in range(0, SECTORS, PAGES) if lun_of[sector] != lun_of[long]][:4]
+    want(len(set(lun_of[long:long + PAGES])) == 1 and len(own) == 4, f"the sectors aren't on the LUNs that the test needs: {lun_of}")
+    for _ in range(3):
+        answers = played(shop, server, [(0, 0, "read", long, PAGES), *((lane, 1_500_000, "read", sector, 1) for lane, sector in enumerate(own, 1))])
+        first, *others = sorted(answers, key=lambda answer: answer.lane)
+        done = first.sent + SLOWER * PAGES * READ - SLACK
+        want(first.answered >= done, f"{PAGES} reads of one LUN took {first.took} µs, and their commands take {SLOWER * PAGES * READ}")
+        if all(answer.answered < done for answer in others):
+            return f"{kind}, reads of two LUNs in turn"
+    want(False, f"{kind}: a LUN is busy, and reads of another one, which were sent later, wait until it is done")
+
+
 def of_commands(shop):
     """What single requests take, and many at once, on devices of one LUN and of four."""
-    told = []
+    told = [other_luns_go_on(shop, kind) for kind in ("memory", "image")]
     for kind in ("memory", "image"):
         for luns in (1, 4):
             server, lun_of, draw, least = in_order(shop, kind, luns), luns_in_order(kind, luns), random.Random(luns), []
@@ -211,7 +231,10 @@ def reads_under_collection(shop, luns):
         lines += [(lane, at, "read", draw.randrange(sectors), 1) for lane in range(1, 5) for at in sorted(draw.randrange(1_800_000) for _ in range(25))]
         reads, wanted = [], []
         for answer in sorted(played(shop, server, lines), key=lambda answer: answer.sent):
+            before = model.busy
             end = getattr(model, answer.op)(answer.sector, answer.sent)
+            least = model.busy - before
+            want(answer.took >= least - SLACK, f"{luns} LUNs that collect: a {answer.op} took {answer.took} µs, and its commands take {least}")
             if answer.op == "read":
                 reads.append(answer.took)
                 wanted.append(end - answer.sent)
