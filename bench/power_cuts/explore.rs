@@ -49,6 +49,8 @@ pub struct Model {
     pub values: u8,
     /// Whether numbers are told apart only where their versions share a sector.
     pub by_overlap: bool,
+    /// Whether each page in turn becomes unreadable at each mount.
+    pub decays: bool,
 }
 
 /// A step of a run, for its report.
@@ -181,6 +183,12 @@ impl Model {
 
     /// Mounts, and checks what the mount shows.
     fn mounts(&self, device: &Device, allowed: u32, event: Event, sure: bool, out: &mut Next) -> Result<(), String> {
+        if self.tells_losses() && self.rule.losses(device) > 0 {
+            return Err(format!("{event}: a loss is told, and nothing was lost\n{device}"));
+        }
+        if self.decays {
+            self.decay(device, allowed, event)?;
+        }
         for mut mounted in self.rule.mount(device) {
             let array = self.rule.array(&mounted);
             let bits = self.bits(&array);
@@ -192,6 +200,26 @@ impl Model {
             }
             mounted.allowed = if sure { bits } else { mounted.allowed | bits };
             out.push((event, mounted));
+        }
+        Ok(())
+    }
+
+    /// Without a reserve a failed erase may leave a block with a gap as the only one with a version.
+    fn tells_losses(&self) -> bool {
+        self.sync == Sync::Always && (self.rule.failures == 0 || self.rule.has_reserve)
+    }
+
+    /// Each page in turn becomes unreadable: an older version is shown only with a loss told, or where the flash doesn't show that a page is missing.
+    fn decay(&self, device: &Device, allowed: u32, event: Event) -> Result<(), String> {
+        for place in self.rule.size.places().filter(|place| device.cell(*place).now.version().is_some()) {
+            let decayed = with(device, place, Page::Unreadable, Page::Unreadable);
+            let is_told = self.rule.losses(&decayed) > 0;
+            for mounted in self.rule.mount(&decayed) {
+                let bits = self.bits(&self.rule.array(&mounted));
+                if allowed & bits != bits && !is_told && self.rule.is_missed(&decayed, place) {
+                    return Err(format!("{event}: an older version is shown without a word\n{decayed}"));
+                }
+            }
         }
         Ok(())
     }

@@ -1,6 +1,6 @@
 //! The layer's rule: what a mount keeps, which command comes next, and what its success changes. And rules that are wrong in one point.
 
-use crate::flash::{Block, Device, Page, Place, Size, Version, PAGES, SECTORS};
+use crate::flash::{Block, Device, Page, Place, Size, Version, BLOCKS, PAGES, SECTORS};
 use std::fmt;
 
 macro_rules! wrong_rules {
@@ -86,6 +86,14 @@ wrong_rules! {
     NoSyncBeforeErase,
     /// The host's flush does nothing.
     FlushesNothing,
+    /// A page that has become unreadable is taken for a torn one.
+    LossTakenForTorn,
+    /// A torn page is taken for one that has become unreadable.
+    TornTakenForLoss,
+    /// A mount keeps the first page of a version, also in a block with a gap.
+    KeepsBehindGap,
+    /// A mount frees a block by twins in blocks with a gap.
+    FreesByTwinsBehindGap,
 }
 
 /// Which blocks a mount leaves empty, where the pages that it would keep there have twins elsewhere.
@@ -161,6 +169,43 @@ impl Rule {
             return version.first == sector;
         }
         version.covers(sector) || (self.is(Wrong::RangeOneMore) && !version.has_bytes() && sector == version.first + version.count)
+    }
+
+    /// How many pages without a version are before the last one with a version.
+    fn gaps(&self, block: &Block) -> usize {
+        let seen = self.read(block);
+        if self.is(Wrong::TornTakenForLoss) {
+            return block.cells[..self.size.pages].iter().filter(|cell| cell.now == Page::Unreadable).count();
+        }
+        let last = seen.iter().rposition(Option::is_some).unwrap_or(0);
+        seen[..last].iter().filter(|version| version.is_none()).count()
+    }
+
+    /// The gaps of blocks that have a newest version which no block without a gap has.
+    pub fn losses(&self, device: &Device) -> usize {
+        let versions = self.versions(device);
+        let mut lost = [0; BLOCKS];
+        for sector in self.size.sectors() {
+            let found = self.found(device, &versions, sector);
+            if let Some(first) = found.first().filter(|_| found.iter().all(|place| self.gaps(&device.blocks[place.0]) > 0)) {
+                lost[first.0] = self.gaps(&device.blocks[first.0]);
+            }
+        }
+        if self.is(Wrong::LossTakenForTorn) {
+            return 0;
+        }
+        lost.iter().sum()
+    }
+
+    /// Whether a page is missing of a block that keeps something which no block without a gap has.
+    pub fn is_missed(&self, device: &Device, (block, page): Place) -> bool {
+        let seen = self.read(&device.blocks[block]);
+        let versions = self.versions(device);
+        let is_alone = |sector: u8| {
+            let found = self.found(device, &versions, sector);
+            found.iter().any(|place| place.0 == block) && found.iter().all(|place| self.gaps(&device.blocks[place.0]) > 0)
+        };
+        seen[page + 1..].iter().any(Option::is_some) && self.size.sectors().any(is_alone)
     }
 
     /// The versions that a mount reads in a block.
@@ -266,6 +311,9 @@ impl Rule {
         if twins.iter().all(|place| self.may_drop(device, versions, sector, *place, newest)) {
             twins.clear();
         }
+        if !self.is(Wrong::KeepsBehindGap) {
+            twins.sort_by_key(|place| self.gaps(&device.blocks[place.0]) > 0);
+        }
         twins
     }
 
@@ -303,10 +351,16 @@ impl Rule {
             Freed::Maximal => all.iter().copied().filter(|set| !all.iter().any(|other| other != set && other & set == *set)).collect(),
             Freed::FewestFirst => self.fewest_first(found, frees),
         };
-        if chosen.is_empty() {
-            vec![0]
-        } else {
-            chosen
+        let is_kept = |place: &Place, set: u32| set >> place.0 & 1 == 0 && self.gaps(&device.blocks[place.0]) == 0;
+        let stays = |twins: &Vec<Place>, set: u32| {
+            twins.first().map_or(true, |first| set >> first.0 & 1 == 0 || twins.iter().any(|twin| is_kept(twin, set)))
+        };
+        let is_safe = |set: &u32| found.iter().all(|twins| stays(twins, *set));
+        let safe: Vec<u32> = chosen.iter().copied().filter(is_safe).collect();
+        match (chosen.is_empty(), safe.is_empty() || self.is(Wrong::FreesByTwinsBehindGap)) {
+            (true, _) => vec![0],
+            (false, true) => chosen,
+            (false, false) => safe,
         }
     }
 

@@ -27,7 +27,7 @@ fn run(blocks: usize, pages: usize, sectors: usize) -> Run {
     let size = Size { blocks, pages, sectors };
     let rule = Rule { size, failures: 0, has_reserve: false, freed: Freed::Most, drops_tombstones: true, reads_to_gap: false, wrong: None };
     let promise = if sectors > 3 { Promise::EachSector } else { Promise::Whole };
-    let model = Model { rule, sync: Sync::Always, promise, kills: false, range: 1, values: 2, by_overlap: true };
+    let model = Model { rule, sync: Sync::Always, promise, kills: false, range: 1, values: 2, by_overlap: true, decays: false };
     Run { name: size.to_string(), model, start: Start::Blank, limit: MANY, long: false, expected: Expected::Holds }
 }
 
@@ -88,6 +88,18 @@ impl Run {
         self.named("kills")
     }
 
+    fn decays(mut self) -> Run {
+        self.model.decays = true;
+        self.named("decays")
+    }
+
+    /// The rule of the proved core.
+    fn core(mut self) -> Run {
+        self.model.rule.freed = Freed::One;
+        self.model.rule.drops_tombstones = false;
+        self.named("core")
+    }
+
     fn wrong(mut self, wrong: Wrong) -> Run {
         self.model.rule.wrong = Some(wrong);
         let renumbers = matches!(wrong, Wrong::CopyRenumbered | Wrong::CopyNarrowed | Wrong::CopySplit | Wrong::NumberAboveKept);
@@ -141,6 +153,9 @@ fn on_its_device(wrong: Wrong) -> Run {
         | Wrong::CopyRenumbered
         | Wrong::DropsByFirstSector => run(3, 2, 3).ranges(3).wrong(wrong),
         Wrong::CopyMovesOneSector => run(4, 2, 5).ranges(3).one_value().starts(Start::Tombstone).wrong(wrong),
+        Wrong::LossTakenForTorn => run(3, 2, 2).one_value().core().decays().wrong(wrong),
+        Wrong::TornTakenForLoss | Wrong::KeepsBehindGap => run(3, 2, 2).one_value().core().wrong(wrong),
+        Wrong::FreesByTwinsBehindGap => run(4, 2, 3).reserve(1).one_value().wrong(wrong),
         Wrong::TwinBySector | Wrong::FreesNoBlock | Wrong::NoReserve => run(3, 2, 3).one_value().wrong(wrong),
         _ => run(3, 2, 2).wrong(wrong),
     }
@@ -158,6 +173,11 @@ pub fn all() -> Vec<Run> {
         run(5, 1, 2).reserve(1).one_value(),
         run(5, 1, 1).reserve(2).one_value(),
         run(4, 1, 2),
+        run(3, 2, 1).core().decays(),
+        run(3, 2, 2).one_value().core().decays(),
+        run(4, 1, 1).reserve(1).decays(),
+        run(3, 2, 3).one_value().core().decays().long(),
+        run(3, 3, 1).one_value().core().decays().long(),
         run(3, 2, 2).ranges(2).long(),
         run(3, 2, 2).ranges(2).keeps_tombstones().long(),
         run(4, 2, 1).failures(1).long(),

@@ -2,7 +2,8 @@
  *
  * The promise: after any run of flash commands, with any number of power cuts, each inside a command or between two, an open gives the array
  * after a list of begun calls that contains every acknowledged call, in order. It rests on three premises: the flash tells a torn page from a
- * version, a page reads the same each time, and what has succeeded is durable (or is after a sync, as the modes of an image say).
+ * version, a page reads the same each time, and what has succeeded is durable (or is after a sync, as the modes of an image say). An open refuses
+ * flash of which pages have become unreadable, as far as it shows that: see mintlintel_durable_open_despite_losses.
  *
  * Which command comes next, and what a mount makes of the stamps, is proved (`mintlintel_core_..`, at the end). The calls before it are plain C
  * that performs these commands, and not proved. For all of them holds what mintlintel.h says of handles, pointers and the allocator. */
@@ -24,6 +25,7 @@ enum mintlintel_durable_code {
     MINTLINTEL_OUT_OF_ORDER = 32,  /* a call of the core that does not come next */
     MINTLINTEL_UNREADABLE = 33,    /* the sector's page can't be read, and no older one is given for it */
     MINTLINTEL_NO_ROOM = 34,       /* bad blocks have left too few blocks for the sectors */
+    MINTLINTEL_PAGES_LOST = 35,    /* pages have become unreadable, and older versions may stand for them: see ..open_despite_losses */
     MINTLINTEL_NO_FILE = 40,       /* an image: the file can't be opened or made; errno says why */
     MINTLINTEL_IN_USE = 41,        /* an image: another handle has it open */
     MINTLINTEL_NOT_AN_IMAGE = 42,  /* an image: the file is none, or its head is damaged */
@@ -81,9 +83,17 @@ struct mintlintel_durable_numbers { uint32_t luns, blocks, pages, page_bytes, se
  * On a chip that can mark blocks one block of 50 is in reserve, less one for each bad block, and at least one if the sectors leave room for it:
  * sectors < (blocks - 1 - reserve) * pages. It takes the place of one that fails.
  * 0; 8; the first fault of the numbers, 101 to 105 and 109 (104 is of page_bytes); 6; 7 if no block can be freed, which this library leaves no
- * flash in; 28, 30 or 34. With any code but 0 the handle is as it was, and nothing was programmed or erased. */
+ * flash in unless pages have become unreadable; 28, 30 or 34; 35 if there are losses. With any code but 0 the handle is as it was, and nothing was
+ * programmed or erased. */
 uint32_t mintlintel_durable_open(struct mintlintel_durable *device, const struct mintlintel_nand *nand, uint32_t luns, uint32_t blocks,
                                  uint32_t pages, uint32_t page_bytes, uint32_t sectors);
+
+/* The same, also where there are losses: a page that has become unreadable before one that can be read, in a block that has a newest version which no
+ * block without such a page has. A power cut or a failing command leaves none: pages are programmed in order. Which sector a lost page was of
+ * isn't known; that sector has an older version then, or is empty. A page that has no readable one behind it in its block is not told. With 0
+ * `losses` is their number, and otherwise as it was. They are told until their blocks are erased. */
+uint32_t mintlintel_durable_open_despite_losses(struct mintlintel_durable *device, const struct mintlintel_nand *nand, uint32_t luns, uint32_t blocks,
+                                                uint32_t pages, uint32_t page_bytes, uint32_t sectors, uint64_t *losses);
 
 /* Frees the memory. It gives the flash no command: an open after it, or after none, finds the same. */
 void mintlintel_durable_close(struct mintlintel_durable *device);
@@ -95,7 +105,8 @@ uint32_t mintlintel_durable_read(struct mintlintel_durable *device, uint32_t sec
 /* Writes a page to a sector: 0 or 1 for what the sector was; 2, 3 or 4; 27, 28, 31 or 33. After a block has failed, the call mounts the device
  * without it and goes on elsewhere; 6 if there is no memory for it, and then each call returns 6 until the device is opened again. Calls after it move
  * what is needed out of the block, and then mark it. Where there is no room without the block, this call and each write or trim after it return 27,
- * and reads go on. After 27 and 28 the sector has this page or what it had before: the next read or open says which. */
+ * and reads go on. After 27 and 28 the sector has this page or what it had before: the next read or open says which. If such a mount finds losses, each
+ * call returns 35 until the device is opened again, unless it was opened despite losses. */
 uint32_t mintlintel_durable_write(struct mintlintel_durable *device, uint32_t sector, const void *bytes, size_t count);
 
 /* Writes a page to a sector that is empty: 0 if it wrote, 1 if the sector was written and didn't change; otherwise as a write. */
@@ -110,6 +121,9 @@ uint32_t mintlintel_durable_flush(struct mintlintel_durable *device);
 
 /* What was programmed, copied and erased since the open: 0; 2 leaves `totals` as it was. */
 uint32_t mintlintel_durable_counts(struct mintlintel_durable *device, struct mintlintel_totals *totals);
+
+/* How many losses the last mount has found, at the open or after a block had failed: 0; 2 leaves `losses` as it was. */
+uint32_t mintlintel_durable_losses(struct mintlintel_durable *device, uint64_t *losses);
 
 /* A block: 0; 2 or 10 leave `report` as it was. Its erases are those that the stamps of its pages told at the open, and those since; its live pages
  * are counted over all sectors; it is retired if it is bad. */
@@ -153,6 +167,10 @@ uint32_t mintlintel_core_done(struct mintlintel_core *core, uint32_t sector, str
 
 /* What has succeeded since the mount: 0; 2 or 9. */
 uint32_t mintlintel_core_counts(struct mintlintel_core *core, struct mintlintel_totals *totals);
+
+/* How many losses the mount has found: pages that were noted with no version, before a version in a block that has a newest version which no block
+ * without such a page has: 0; 2 or 9. */
+uint32_t mintlintel_core_losses(struct mintlintel_core *core, uint64_t *losses);
 
 /* Frees the memory. A closed handle stays closed. */
 void mintlintel_core_close(struct mintlintel_core *core);

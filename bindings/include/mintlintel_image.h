@@ -30,6 +30,10 @@ struct mintlintel_image_head { uint32_t version; struct mintlintel_durable_numbe
 uint32_t mintlintel_image_open(struct mintlintel_image *image, const char *path, enum mintlintel_image_mode mode, uint32_t luns, uint32_t blocks,
                                uint32_t pages, uint32_t page_bytes, uint32_t sectors);
 
+/* The same, also of an image with losses, as mintlintel_durable_open_despite_losses. */
+uint32_t mintlintel_image_open_despite_losses(struct mintlintel_image *image, const char *path, enum mintlintel_image_mode mode, uint32_t luns,
+                                              uint32_t blocks, uint32_t pages, uint32_t page_bytes, uint32_t sectors, uint64_t *losses);
+
 /* Closes the image: 0, or 46 if a last sync failed. A handle that is closed stays so. */
 uint32_t mintlintel_image_close(struct mintlintel_image *image);
 

@@ -26,6 +26,7 @@ static struct {
     struct mintlintel_nand nand; // of the image's file
     struct mintlintel_durable_numbers numbers;
     const uint32_t *reason; // why the file failed
+    uint64_t *losses; // of whoever opens the device despite them
     uint8_t *blocks;
     struct luns luns;
     uint64_t random;
@@ -37,9 +38,9 @@ static struct {
 } chip;
 
 uint32_t __real_mtl_durable_open(struct mintlintel_durable *device, const struct mintlintel_nand *nand, const struct mintlintel_durable_numbers *numbers,
-                                 const uint32_t *reason);
+                                 const uint32_t *reason, uint64_t *losses);
 uint32_t __wrap_mtl_durable_open(struct mintlintel_durable *device, const struct mintlintel_nand *nand, const struct mintlintel_durable_numbers *numbers,
-                                 const uint32_t *reason);
+                                 const uint32_t *reason, uint64_t *losses);
 
 static int may_fail(void) {
     return chip.options->fail_programs > 0 || chip.options->fail_erases > 0;
@@ -212,7 +213,7 @@ static uint32_t mount(struct mintlintel_durable *device) {
     nand.is_bad = chip_is_bad;
     nand.mark_bad = may_fail() && !chip.is_worn ? chip_mark_bad : NULL; // with it the layer keeps blocks in reserve
     chip.is_untimed = 1;
-    return __real_mtl_durable_open(device, &nand, &chip.numbers, chip.reason);
+    return __real_mtl_durable_open(device, &nand, &chip.numbers, chip.reason, chip.losses);
 }
 
 // Mounts with a hidden block more each time that there are too few, and in the end with all blocks, to read only.
@@ -228,10 +229,11 @@ static uint32_t mount_somehow(struct mintlintel_durable *device) {
 }
 
 uint32_t __wrap_mtl_durable_open(struct mintlintel_durable *device, const struct mintlintel_nand *nand, const struct mintlintel_durable_numbers *numbers,
-                                 const uint32_t *reason) {
+                                 const uint32_t *reason, uint64_t *losses) {
     chip.nand = *nand;
     chip.numbers = *numbers;
     chip.reason = reason;
+    chip.losses = losses;
     chip.blocks = calloc(numbers->blocks, sizeof *chip.blocks);
     if (!chip.blocks)
         return MINTLINTEL_NO_MEMORY;

@@ -13,8 +13,9 @@
 #include <sys/stat.h>
 #include <unistd.h>
 
-/* A sector's newest version: its number and one more, or 0 without one; its kind; and whether its page fits its sum. */
-struct newest { uint64_t after; uint8_t kind, fits; };
+/* A sector's newest version: its number and one more, or 0 without one; a block that has it; its kind; whether its page fits its sum; and whether each
+ * such block has a gap: a page without a version, before one with a version. */
+struct newest { uint64_t after; uint32_t block; uint8_t kind, fits, is_behind; };
 
 struct look {
     int fd;
@@ -22,6 +23,7 @@ struct look {
     struct image_layout layout;
     uint8_t *spares, *page;
     uint32_t *erases;      /* of each block, as its newest version tells */
+    uint32_t *gaps;        /* of each block */
     struct newest *sectors;
     uint64_t versions, erased, aside, broken; /* pages */
     uint64_t updates;      /* writes and trims, as the greatest number tells */
@@ -41,14 +43,17 @@ static int read_all(int fd, uint8_t *bytes, size_t count, uint64_t at)
 /* ---- Pages ---- */
 
 /* Notes a version, whose page may not fit its sum. Of two with one number, one is a copy of the other. */
-static void note(struct look *look, const struct stamp *stamp, int fits)
+static void note(struct look *look, const struct stamp *stamp, uint32_t block, int fits)
 {
     struct newest *newest = &look->sectors[stamp->sector];
     uint64_t after = stamp->number + 1;
+    uint8_t is_behind = look->gaps[block] > 0;
     if (after > newest->after)
-        *newest = (struct newest){after, (uint8_t)stamp->kind, (uint8_t)fits};
-    else if (after == newest->after)
+        *newest = (struct newest){after, block, (uint8_t)stamp->kind, (uint8_t)fits, is_behind};
+    else if (after == newest->after) {
         newest->fits &= (uint8_t)fits;
+        newest->is_behind &= is_behind;
+    }
     look->updates = after > look->updates ? after : look->updates;
 }
 
@@ -64,7 +69,7 @@ static int check_version(struct look *look, const uint8_t *spare, uint64_t at, u
     look->versions += fits && is_known;
     if (!is_known)
         return 1;
-    note(look, &stamp, fits);
+    note(look, &stamp, block, fits);
     if (stamp.number >= *newest_of_block) {
         *newest_of_block = stamp.number;
         look->erases[block] = stamp.erases;
@@ -72,11 +77,26 @@ static int check_version(struct look *look, const uint8_t *spare, uint64_t at, u
     return 1;
 }
 
+/* Counts the pages without a version before the last one with a version. */
+static void count_gaps(struct look *look, uint32_t block)
+{
+    uint32_t missing = 0;
+    look->gaps[block] = 0;
+    for (uint32_t page = 0; page < look->numbers.pages; page++) {
+        const uint8_t *spare = look->spares + (size_t)page * SPARE_BYTES;
+        if (mtl_image_reading(spare) == IS_VERSION && mintlintel_stamp_fits(spare, NULL, 0))
+            look->gaps[block] = missing;
+        else
+            missing++;
+    }
+}
+
 static int check_block(struct look *look, uint32_t block)
 {
     uint64_t at = HEAD_BYTES + block * look->layout.block_bytes, newest_of_block = 0;
     if (!read_all(look->fd, look->spares, (size_t)look->numbers.pages * SPARE_BYTES, at))
         return 0;
+    count_gaps(look, block);
     for (uint32_t page = 0; page < look->numbers.pages; page++) {
         const uint8_t *spare = look->spares + (size_t)page * SPARE_BYTES;
         enum reading reading = mtl_image_reading(spare);
@@ -120,11 +140,25 @@ static void show_device(const struct look *look, const char *path, uint32_t vers
            n->luns, n->blocks, n->pages, n->page_bytes, n->sectors, 100.0 * n->sectors / n->blocks / n->pages);
 }
 
+/* How many pages are missing of blocks that have a newest version which no block without a gap has. */
+static uint64_t count_losses(struct look *look)
+{
+    uint64_t losses = 0;
+    for (uint32_t i = 0; i < look->numbers.sectors; i++) {
+        const struct newest *newest = &look->sectors[i];
+        if (newest->after && newest->is_behind) {
+            losses += look->gaps[newest->block];
+            look->gaps[newest->block] = 0;
+        }
+    }
+    return losses;
+}
+
 /* Shows what was found, and returns the status. */
 static int show(struct look *look, uint32_t endurance)
 {
     const uint32_t *erases = look->erases;
-    uint64_t written = 0, lost = 0, all = 0;
+    uint64_t written = 0, lost = 0, all = 0, losses = count_losses(look);
     for (uint32_t i = 0; i < look->numbers.sectors; i++) {
         written += look->sectors[i].kind == STAMP_VALUE;
         lost += look->sectors[i].after && !look->sectors[i].fits;
@@ -146,7 +180,9 @@ static int show(struct look *look, uint32_t endurance)
         printf("%" PRIu64 " sectors have a newest page that doesn't fit its sum; %" PRIu64 " pages don't\n", lost, look->broken);
     else
         printf("each page fits its sums, and so does each sector's newest\n");
-    return fflush(stdout) == 0 ? lost || look->broken ? BROKEN : DONE : STREAM_FAILED;
+    if (losses)
+        printf("lost          %" PRIu64 " pages are missing before others of their blocks, and older versions may stand for them\n", losses);
+    return fflush(stdout) == 0 ? lost || look->broken || losses ? BROKEN : DONE : STREAM_FAILED;
 }
 
 /* ---- The whole image ---- */
@@ -170,8 +206,9 @@ static int look_at(struct look *look, const char *path, uint32_t endurance)
     look->spares = malloc((size_t)head.numbers.pages * SPARE_BYTES);
     look->page = malloc(head.numbers.page_bytes);
     look->erases = calloc(head.numbers.blocks, sizeof *look->erases);
+    look->gaps = calloc(head.numbers.blocks, sizeof *look->gaps);
     look->sectors = calloc(head.numbers.sectors, sizeof *look->sectors);
-    if (!look->spares || !look->page || !look->erases || !look->sectors)
+    if (!look->spares || !look->page || !look->erases || !look->gaps || !look->sectors)
         return image_refused(MINTLINTEL_NO_MEMORY);
     for (uint32_t block = 0; block < head.numbers.blocks; block++)
         if (!check_block(look, block))
@@ -187,6 +224,7 @@ int check_image(const char *path, uint32_t endurance)
     free(look.spares);
     free(look.page);
     free(look.erases);
+    free(look.gaps);
     free(look.sectors);
     if (look.fd >= 0)
         close(look.fd);

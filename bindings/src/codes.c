@@ -5,6 +5,7 @@ const char *mintlintel_durable_code_name(uint32_t code)
 {
     switch (code) {
     case MINTLINTEL_NO_ROOM: return "bad blocks have left no room";
+    case MINTLINTEL_PAGES_LOST: return "pages have become unreadable, and older versions may stand for them";
     case MINTLINTEL_POWER_GONE: return "the power is gone";
     case MINTLINTEL_FAILED: return "the flash failed";
     case MINTLINTEL_OTHER_DEVICE: return "the flash holds another device";

@@ -13,8 +13,9 @@ enum { LOOKED_AT = 4096 };
 enum { SAMPLES = 8 };
 /* Of so many blocks one is in reserve, and at least one of a device, if the sectors leave room for it. */
 enum { ONE_RESERVE_IN = 50 };
-/* A block that has failed is marked once nothing in it is needed; so a marked one is not read. */
-enum { GOOD, FAILED, MARKED };
+/* A block that has failed is marked once nothing in it is needed; so a marked one is not read. Nor is one that failed an erase: it kept nothing, and
+ * what is left in it must not be mapped, since an erase may lose pages before others. */
+enum { GOOD, FAILED, FAILED_ERASE, MARKED };
 
 /* A page as its stamp tells it: what a read of the stamp alone returned, and if that is 0 the version. */
 struct noted { uint64_t number; uint32_t sector, erases : 24, reading : 2; };
@@ -34,6 +35,8 @@ struct mintlintel_flash {
     uint32_t stranded; /* the first sector that may be in a block that isn't in use */
     int is_stuck, has_failed; /* such a sector can't be read; a block has failed and isn't marked */
     struct mintlintel_totals earlier; /* what was done before the last mount */
+    uint64_t losses; /* what the last mount has told */
+    int despite_losses; /* the caller goes on with losses */
     struct stamps stamps; /* while it mounts */
     const uint32_t *reason; /* the code in place of 28, if there is one: then the flash is an image, which tells torn pages by itself */
     uint32_t stopped; /* the code that every call returns since the power went, or a sync or a mount failed, or 0 */
@@ -261,7 +264,7 @@ static void free_stamps(struct mintlintel_flash *flash)
 /* Whether a mount reads a block. */
 static int is_read(const struct mintlintel_flash *flash, uint32_t block)
 {
-    return flash->state[flash->chip_block[block]] != MARKED;
+    return flash->state[flash->chip_block[block]] < FAILED_ERASE;
 }
 
 /* Reads what the stamps tell, of a flash that doesn't tell torn pages by itself. */
@@ -291,7 +294,7 @@ static int read_noted(struct mintlintel_flash *flash, uint32_t block, uint32_t p
     return noted->reading;
 }
 
-/* Notes the stamps of a block, and none of a marked one. At an open its erases are those that its newest version tells: the copies in it tell those of
+/* Notes the stamps of a block that is read. At an open its erases are those that its newest version tells: the copies in it tell those of
  * other blocks. */
 static uint32_t note_block(struct mintlintel_durable *device, uint32_t block, struct opening *opening)
 {
@@ -299,7 +302,7 @@ static uint32_t note_block(struct mintlintel_durable *device, uint32_t block, st
     uint64_t newest = 0;
     for (uint32_t page = 0; page < flash->numbers.pages; page++) {
         struct stamp stamp = {0, 0, 0, 0, 0};
-        int reading = is_read(flash, block) ? read_noted(flash, block, page, &stamp) : 2;
+        int reading = is_read(flash, block) ? read_noted(flash, block, page, &stamp) : 1;
         if (reading == 3)
             return MINTLINTEL_POWER_GONE;
         if (reading == 0 && (stamp.kind > STAMP_TRIM || stamp.count != 1))
@@ -345,6 +348,14 @@ static void add_earlier(const struct mintlintel_flash *flash, struct mintlintel_
     totals->erases += flash->earlier.erases;
 }
 
+/* Asks for the losses of the mount, which stop it unless the caller goes on with them. */
+static uint32_t tell_losses(struct mintlintel_durable *device)
+{
+    struct mintlintel_flash *flash = device->flash;
+    mintlintel_core_losses(&device->core, &flash->losses);
+    return flash->losses > 0 && !flash->despite_losses ? MINTLINTEL_PAGES_LOST : MINTLINTEL_DONE;
+}
+
 /* Mounts the core by these numbers of the blocks. */
 static uint32_t mount_core(struct mintlintel_durable *device, struct opening *opening)
 {
@@ -364,7 +375,9 @@ static uint32_t mount_core(struct mintlintel_durable *device, struct opening *op
     free_stamps(flash);
     flash->stranded = 0;
     flash->is_stuck = 0;
-    return code == MINTLINTEL_DONE ? mintlintel_core_finish(&device->core) : code;
+    if (code == MINTLINTEL_DONE)
+        code = mintlintel_core_finish(&device->core);
+    return code == MINTLINTEL_DONE ? tell_losses(device) : code;
 }
 
 /* Mounts without the bad blocks and the reserve. Where no block of the others can be freed, the reserve comes in use. */
@@ -391,7 +404,7 @@ static uint32_t open_flash(struct mintlintel_durable *device)
 }
 
 uint32_t mtl_durable_open(struct mintlintel_durable *device, const struct mintlintel_nand *nand, const struct mintlintel_durable_numbers *numbers,
-                          const uint32_t *reason)
+                          const uint32_t *reason, uint64_t *losses)
 {
     if (device->flash)
         return MINTLINTEL_ALREADY_OPEN;
@@ -402,9 +415,12 @@ uint32_t mtl_durable_open(struct mintlintel_durable *device, const struct mintli
     if (!device->flash)
         return MINTLINTEL_NO_MEMORY;
     device->flash->reason = reason;
+    device->flash->despite_losses = losses != NULL;
     code = stops(device->flash, open_flash(device));
     if (code != MINTLINTEL_DONE)
         mintlintel_durable_close(device);
+    else if (losses)
+        *losses = device->flash->losses;
     return code;
 }
 
@@ -412,7 +428,14 @@ uint32_t mintlintel_durable_open(struct mintlintel_durable *device, const struct
                                  uint32_t pages, uint32_t page_bytes, uint32_t sectors)
 {
     struct mintlintel_durable_numbers numbers = {luns, blocks, pages, page_bytes, sectors};
-    return mtl_durable_open(device, nand, &numbers, NULL);
+    return mtl_durable_open(device, nand, &numbers, NULL, NULL);
+}
+
+uint32_t mintlintel_durable_open_despite_losses(struct mintlintel_durable *device, const struct mintlintel_nand *nand, uint32_t luns, uint32_t blocks,
+                                                uint32_t pages, uint32_t page_bytes, uint32_t sectors, uint64_t *losses)
+{
+    struct mintlintel_durable_numbers numbers = {luns, blocks, pages, page_bytes, sectors};
+    return mtl_durable_open(device, nand, &numbers, NULL, losses);
 }
 
 void mintlintel_durable_close(struct mintlintel_durable *device)
@@ -472,7 +495,7 @@ static uint32_t retire(struct mintlintel_durable *device, const struct mintlinte
 {
     struct mintlintel_flash *flash = device->flash;
     uint32_t block = flash->chip_block[command->block];
-    flash->state[block] = FAILED;
+    flash->state[block] = command->kind == ERASE ? FAILED_ERASE : FAILED;
     flash->has_failed = 1;
     uint32_t code = mount(device, NULL);
     if (code == MINTLINTEL_NO_ROOM) {
@@ -514,7 +537,7 @@ static void mark_blocks(struct mintlintel_durable *device)
     struct mintlintel_flash *flash = device->flash;
     flash->has_failed = 0;
     for (uint32_t block = 0; block < flash->numbers.blocks && !flash->stopped; block++) {
-        if (flash->state[block] != FAILED)
+        if (flash->state[block] == GOOD || flash->state[block] == MARKED)
             continue;
         flash->state[block] = MARKED;
         if (flash->nand.mark_bad && flash->nand.mark_bad(flash->nand.chip, block) != 0)
@@ -641,6 +664,14 @@ uint32_t mintlintel_durable_counts(struct mintlintel_durable *device, struct min
     mintlintel_core_counts(&device->core, &done); /* a core whose mount failed has done nothing */
     add_earlier(device->flash, &done);
     *totals = done;
+    return MINTLINTEL_DONE;
+}
+
+uint32_t mintlintel_durable_losses(struct mintlintel_durable *device, uint64_t *losses)
+{
+    if (!device->flash)
+        return MINTLINTEL_CLOSED;
+    *losses = device->flash->losses;
     return MINTLINTEL_DONE;
 }
 

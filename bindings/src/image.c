@@ -486,10 +486,9 @@ static uint32_t open_image(struct mintlintel_image_file *file, const char *path,
     return code == MINTLINTEL_DONE ? take_image(file, numbers) : code;
 }
 
-uint32_t mintlintel_image_open(struct mintlintel_image *image, const char *path, enum mintlintel_image_mode mode, uint32_t luns, uint32_t blocks,
-                               uint32_t pages, uint32_t page_bytes, uint32_t sectors)
+static uint32_t open_device(struct mintlintel_image *image, const char *path, enum mintlintel_image_mode mode,
+                            const struct mintlintel_durable_numbers *numbers, uint64_t *losses)
 {
-    struct mintlintel_durable_numbers numbers = {luns, blocks, pages, page_bytes, sectors};
     struct mintlintel_image_file *file = image->file ? NULL : calloc(1, sizeof *file);
     if (!file)
         return image->file ? MINTLINTEL_ALREADY_OPEN : MINTLINTEL_NO_MEMORY;
@@ -497,9 +496,9 @@ uint32_t mintlintel_image_open(struct mintlintel_image *image, const char *path,
     file->fd = -1;
     file->mode = mode;
     file->is_mounting = 1;
-    uint32_t code = open_image(file, path, &numbers);
+    uint32_t code = open_image(file, path, numbers);
     if (code == MINTLINTEL_DONE)
-        code = mtl_durable_open(&image->device, &nand, &file->numbers, &file->reason);
+        code = mtl_durable_open(&image->device, &nand, &file->numbers, &file->reason, losses);
     file->is_mounting = 0;
     if (code == MINTLINTEL_DONE) {
         image->file = file;
@@ -509,6 +508,20 @@ uint32_t mintlintel_image_open(struct mintlintel_image *image, const char *path,
     free_file(file);
     errno = error;
     return code;
+}
+
+uint32_t mintlintel_image_open(struct mintlintel_image *image, const char *path, enum mintlintel_image_mode mode, uint32_t luns, uint32_t blocks,
+                               uint32_t pages, uint32_t page_bytes, uint32_t sectors)
+{
+    struct mintlintel_durable_numbers numbers = {luns, blocks, pages, page_bytes, sectors};
+    return open_device(image, path, mode, &numbers, NULL);
+}
+
+uint32_t mintlintel_image_open_despite_losses(struct mintlintel_image *image, const char *path, enum mintlintel_image_mode mode, uint32_t luns,
+                                              uint32_t blocks, uint32_t pages, uint32_t page_bytes, uint32_t sectors, uint64_t *losses)
+{
+    struct mintlintel_durable_numbers numbers = {luns, blocks, pages, page_bytes, sectors};
+    return open_device(image, path, mode, &numbers, losses);
 }
 
 uint32_t mintlintel_image_close(struct mintlintel_image *image)

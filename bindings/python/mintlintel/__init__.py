@@ -15,7 +15,7 @@ from .device import Block, Counts, Device
 from .durable import Chip, ChipDevice, CommandFailed, DurableDevice, DurableNumbers, Image, PageLost, PowerLost
 from .faults import (
     BadNumbers, Closed, CutShort, FileFailed, FlashFailed, InUse, MintlintelError, NoBlock, NoRoom, NoSuchBlock, NoSuchSector, NoSuchWord, NotAPage,
-    NotAnImage, OtherDevice, OtherNumbers, OtherVersion, OutOfMemory, OutOfNumbers, PowerGone, Released, Unreadable, WornOut, WrongKind,
+    NotAnImage, OtherDevice, OtherNumbers, OtherVersion, OutOfMemory, OutOfNumbers, PagesLost, PowerGone, Released, Unreadable, WornOut, WrongKind,
 )
 from .numbers import Numbers, nearest
 from .replaying import Request, replay
@@ -26,6 +26,6 @@ __all__ = [
     "CommandFailed", "Counts", "CutShort", "Device", "Drain", "Drained", "DurableDevice", "DurableNumbers", "Erase",
     "FileFailed", "FlashFailed", "Held", "Host", "Image", "InUse", "MintlintelError", "NoBlock", "NoRoom", "NoSuchBlock",
     "NoSuchSector", "NoSuchWord", "NotAPage", "NotAnImage", "Numbers", "OtherDevice", "OtherNumbers", "OtherVersion",
-    "OutOfMemory", "OutOfNumbers", "Page", "PageLost", "Phase", "PowerGone", "PowerLost", "Released", "Request", "SharedDevice",
+    "OutOfMemory", "OutOfNumbers", "Page", "PageLost", "PagesLost", "Phase", "PowerGone", "PowerLost", "Released", "Request", "SharedDevice",
     "State", "Tally", "Unreadable", "WornOut", "WritableBuffer", "WrongKind", "__version__", "nearest", "replay",
 ]

@@ -32,6 +32,7 @@ class Code(enum.IntEnum):
     OUT_OF_ORDER = 32
     UNREADABLE = 33
     NO_ROOM = 34
+    PAGES_LOST = 35
     NO_FILE = 40
     IN_USE = 41
     NOT_AN_IMAGE = 42

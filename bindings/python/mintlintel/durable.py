@@ -124,6 +124,13 @@ class DurableDevice(Owner):
             self._checked(LIBRARY.mintlintel_durable_counts(self._device, totals))
         return Counts(totals.programs, totals.copies, totals.erases)
 
+    def losses(self) -> int:
+        """How many pages had become unreadable at the last mount, as far as the flash shows it: 0 unless it was opened with `despite_losses`."""
+        losses = ctypes.c_uint64()
+        with self._lock:
+            self._checked(LIBRARY.mintlintel_durable_losses(self._device, losses))
+        return losses.value
+
     def block(self, block: int) -> Block:
         """A block's erases as far as its stamps told them, its live pages, and whether it is bad."""
         report, place = _library.Block(), number(block)
@@ -148,6 +155,8 @@ class Image(DurableDevice):
     `mode` says what survives a power cut of the machine: with `always` each acknowledged call, with `flush` a beginning of the history that has all
     that was flushed, with `never` nothing is promised. All of them survive the end of the process, kill -9 too.
 
+    An image of which pages have become unreadable raises `PagesLost`, unless `despite_losses`: `losses` tells then how many.
+
     >>> import tempfile
     >>> folder = tempfile.TemporaryDirectory()
     >>> with Image(f"{folder.name}/disk.img", blocks=8, pages=16, page_bytes=512, sectors=100) as image:
@@ -162,14 +171,17 @@ class Image(DurableDevice):
     _close_handle = LIBRARY.mintlintel_image_close
 
     def __init__(self, path: Union[str, os.PathLike[str]], *, blocks: int = 0, pages: int = 0, page_bytes: int = 0, sectors: int = 0,
-                 luns: int = 0, mode: str = "flush") -> None:
+                 luns: int = 0, mode: str = "flush", despite_losses: bool = False) -> None:
         handle = _library.Image()
         super().__init__(handle, handle.device)
         if mode not in MODES:
             raise ValueError(f"a mode is one of {', '.join(MODES)}, and not {mode}")
         self._path = os.fspath(path)
         given = DurableNumbers(luns or int(blocks > 0), blocks, pages, page_bytes, sectors)
-        code = LIBRARY.mintlintel_image_open(handle, os.fsencode(path), MODES[mode], *map(number, given))
+        if despite_losses:
+            code = LIBRARY.mintlintel_image_open_despite_losses(handle, os.fsencode(path), MODES[mode], *map(number, given), ctypes.c_uint64())
+        else:
+            code = LIBRARY.mintlintel_image_open(handle, os.fsencode(path), MODES[mode], *map(number, given))
         if code:
             self._refuse(code, given)
         self._learn()
@@ -236,17 +248,21 @@ class Chip:
 
 
 class ChipDevice(DurableDevice):
-    """A device that survives power cuts, on a `Chip`."""
+    """A device that survives power cuts, on a `Chip`. It raises `PagesLost` as an `Image` does, unless `despite_losses`."""
 
     _close_handle = LIBRARY.mintlintel_durable_close
 
-    def __init__(self, chip: Chip, *, blocks: int, pages: int, page_bytes: int, sectors: int, luns: int = 1) -> None:
+    def __init__(self, chip: Chip, *, blocks: int, pages: int, page_bytes: int, sectors: int, luns: int = 1,
+                 despite_losses: bool = False) -> None:
         handle = _library.Durable()
         super().__init__(handle, handle)
         self._chip, self._chip_bytes, self._raised = chip, page_bytes, None
         self._nand = _library.Nand(None, **self._functions())
         given = DurableNumbers(luns, blocks, pages, page_bytes, sectors)
-        code = LIBRARY.mintlintel_durable_open(handle, self._nand, *map(number, given))
+        if despite_losses:
+            code = LIBRARY.mintlintel_durable_open_despite_losses(handle, self._nand, *map(number, given), ctypes.c_uint64())
+        else:
+            code = LIBRARY.mintlintel_durable_open(handle, self._nand, *map(number, given))
         self._raise_again()
         if code:
             _refuse_open(code, given)

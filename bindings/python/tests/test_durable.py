@@ -152,6 +152,19 @@ class Chips(unittest.TestCase):
                 self.assertIn(device.read(sector), (sectors[sector], value))
                 sectors[sector] = device.read(sector)
 
+    def test_a_lost_page_is_told(self):
+        chip = CutChip()
+        with mintlintel.ChipDevice(chip, **NUMBERS) as device:
+            for sector in range(4):
+                device.write(sector, page(sector))
+            self.assertEqual(device.losses(), 0)
+        chip.pages[sorted(chip.pages)[1]] = "torn"
+        with self.assertRaises(mintlintel.PagesLost):
+            mintlintel.ChipDevice(chip, **NUMBERS)
+        with mintlintel.ChipDevice(chip, despite_losses=True, **NUMBERS) as device:
+            self.assertEqual(device.losses(), 1)
+            self.assertEqual([device.read(sector) for sector in range(4)], [page(0), None, page(2), page(3)])
+
     def test_an_exception_of_the_chip_is_raised(self):
         chip = CutChip()
         with mintlintel.ChipDevice(chip, **NUMBERS) as device:

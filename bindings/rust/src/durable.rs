@@ -90,6 +90,8 @@ pub enum DurableFault {
     NoNumber,
     /// The sector's page can't be read, and no older one is given for it.
     Unreadable,
+    /// Pages have become unreadable, and older versions may stand for them. `open_despite_losses` opens the device all the same.
+    PagesLost,
     InUse,
     NotAnImage,
     OtherVersion,
@@ -115,6 +117,7 @@ impl DurableFault {
             30 => DurableFault::OtherDevice,
             31 => DurableFault::NoNumber,
             33 => DurableFault::Unreadable,
+            35 => DurableFault::PagesLost,
             40 | 46 => DurableFault::File(file()),
             41 => DurableFault::InUse,
             42 => DurableFault::NotAnImage,
@@ -148,6 +151,7 @@ impl Display for DurableFault {
             DurableFault::OtherDevice => "the flash holds another device",
             DurableFault::NoNumber => "the numbers have run out",
             DurableFault::Unreadable => "the page can't be read",
+            DurableFault::PagesLost => "pages have become unreadable, and older versions may stand for them",
             DurableFault::InUse => "the image is in use",
             DurableFault::NotAnImage => "not an image, or its head is damaged",
             DurableFault::OtherVersion => "an image of another version",
@@ -209,6 +213,13 @@ macro_rules! calls {
             Ok(Counts { programs, copies, erases })
         }
 
+        /// How many pages had become unreadable at the last mount, as far as the flash shows it: 0 unless it was opened despite losses.
+        pub fn losses(&self) -> Result<u64, DurableFault> {
+            let mut losses = 0;
+            self.was(unsafe { raw::mintlintel_durable_losses(self.$handle(), &mut losses) })?;
+            Ok(losses)
+        }
+
         /// A block's erases as far as its stamps told them, its live pages, and whether it is bad.
         pub fn block(&self, block: u32) -> Result<Block, DurableFault> {
             let mut report = raw::Block::default();
@@ -252,6 +263,15 @@ unsafe impl<N: Nand + Send> Send for Durable<N> {}
 impl<N: Nand> Durable<N> {
     /// Mounts the device that the flash holds. Flash that was never written is an empty device.
     pub fn open(nand: N, shape: Shape) -> Result<Durable<N>, DurableFault> {
+        Durable::open_with(nand, shape, false)
+    }
+
+    /// The same, also where pages have become unreadable: `losses` tells how many.
+    pub fn open_despite_losses(nand: N, shape: Shape) -> Result<Durable<N>, DurableFault> {
+        Durable::open_with(nand, shape, true)
+    }
+
+    fn open_with(nand: N, shape: Shape, despite_losses: bool) -> Result<Durable<N>, DurableFault> {
         let chip = Box::into_raw(Box::new(Chip { nand, page_bytes: shape.page_bytes as usize }));
         let device = Durable { handle: UnsafeCell::new(raw::Durable::CLOSED), chip };
         let functions = raw::Nand {
@@ -265,7 +285,14 @@ impl<N: Nand> Durable<N> {
             sync: Some(sync::<N>),
         };
         let Shape { luns, blocks, pages, page_bytes, sectors } = shape;
-        let code = unsafe { raw::mintlintel_durable_open(device.at(), &functions, luns, blocks, pages, page_bytes, sectors) };
+        let mut losses = 0;
+        let code = if despite_losses {
+            unsafe {
+                raw::mintlintel_durable_open_despite_losses(device.at(), &functions, luns, blocks, pages, page_bytes, sectors, &mut losses)
+            }
+        } else {
+            unsafe { raw::mintlintel_durable_open(device.at(), &functions, luns, blocks, pages, page_bytes, sectors) }
+        };
         device.was(code)?;
         Ok(device)
     }
@@ -377,13 +404,26 @@ fn c_path(path: &Path) -> Result<CString, DurableFault> {
     CString::new(path.as_os_str().as_bytes()).map_err(|error| DurableFault::File(error.into()))
 }
 
+const NO_NUMBERS: Shape = Shape { luns: 0, blocks: 0, pages: 0, page_bytes: 0, sectors: 0 };
+
 impl Image {
     /// Opens the image, and makes it if there is no such file.
     pub fn open(path: impl AsRef<Path>, mode: Mode, shape: Shape) -> Result<Image, DurableFault> {
-        let name = c_path(path.as_ref())?;
+        Image::open_with(path.as_ref(), mode, shape, false)
+    }
+
+    fn open_with(path: &Path, mode: Mode, shape: Shape, despite_losses: bool) -> Result<Image, DurableFault> {
+        let name = c_path(path)?;
         let mut handle = raw::Image::CLOSED;
+        let mut losses = 0;
+        let (path, mode) = (name.as_ptr(), mode as c_int);
         let Shape { luns, blocks, pages, page_bytes, sectors } = shape;
-        match unsafe { raw::mintlintel_image_open(&mut handle, name.as_ptr(), mode as c_int, luns, blocks, pages, page_bytes, sectors) } {
+        let code = if despite_losses {
+            unsafe { raw::mintlintel_image_open_despite_losses(&mut handle, path, mode, luns, blocks, pages, page_bytes, sectors, &mut losses) }
+        } else {
+            unsafe { raw::mintlintel_image_open(&mut handle, path, mode, luns, blocks, pages, page_bytes, sectors) }
+        };
+        match code {
             0 => Ok(Image { handle: UnsafeCell::new(handle) }),
             code => Err(DurableFault::of(code, io::Error::last_os_error)),
         }
@@ -391,7 +431,12 @@ impl Image {
 
     /// Opens an image that is there, with its own numbers.
     pub fn open_existing(path: impl AsRef<Path>, mode: Mode) -> Result<Image, DurableFault> {
-        Image::open(path, mode, Shape { luns: 0, blocks: 0, pages: 0, page_bytes: 0, sectors: 0 })
+        Image::open(path, mode, NO_NUMBERS)
+    }
+
+    /// The same, also of an image of which pages have become unreadable: `losses` tells how many.
+    pub fn open_despite_losses(path: impl AsRef<Path>, mode: Mode) -> Result<Image, DurableFault> {
+        Image::open_with(path.as_ref(), mode, NO_NUMBERS, true)
     }
 
     calls!(at);

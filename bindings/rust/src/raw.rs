@@ -176,6 +176,9 @@ extern "C" {
     pub fn mintlintel_durable_open(
         h: *mut Durable, nand: *const Nand, luns: u32, blocks: u32, pages: u32, page_bytes: u32, sectors: u32,
     ) -> u32;
+    pub fn mintlintel_durable_open_despite_losses(
+        h: *mut Durable, nand: *const Nand, luns: u32, blocks: u32, pages: u32, page_bytes: u32, sectors: u32, losses: *mut u64,
+    ) -> u32;
     pub fn mintlintel_durable_close(h: *mut Durable);
     pub fn mintlintel_durable_read(h: *mut Durable, sector: u32, out: *mut c_void, bytes: usize) -> u32;
     pub fn mintlintel_durable_write(h: *mut Durable, sector: u32, bytes: *const c_void, count: usize) -> u32;
@@ -183,10 +186,14 @@ extern "C" {
     pub fn mintlintel_durable_trim(h: *mut Durable, first: u32, count: u32) -> u32;
     pub fn mintlintel_durable_flush(h: *mut Durable) -> u32;
     pub fn mintlintel_durable_counts(h: *mut Durable, totals: *mut Totals) -> u32;
+    pub fn mintlintel_durable_losses(h: *mut Durable, losses: *mut u64) -> u32;
     pub fn mintlintel_durable_block(h: *mut Durable, block: u32, report: *mut Block) -> u32;
     pub fn mintlintel_durable_numbers(h: *mut Durable, numbers: *mut DurableNumbers) -> u32;
     pub fn mintlintel_image_open(
         h: *mut Image, path: *const c_char, mode: c_int, luns: u32, blocks: u32, pages: u32, page_bytes: u32, sectors: u32,
+    ) -> u32;
+    pub fn mintlintel_image_open_despite_losses(
+        h: *mut Image, path: *const c_char, mode: c_int, luns: u32, blocks: u32, pages: u32, page_bytes: u32, sectors: u32, losses: *mut u64,
     ) -> u32;
     pub fn mintlintel_image_close(h: *mut Image) -> u32;
     pub fn mintlintel_image_copy(h: *mut Image, path: *const c_char) -> u32;

@@ -113,6 +113,27 @@ fn bad_blocks_leave_no_room() {
 }
 
 #[test]
+fn a_lost_page_is_told() -> Result<(), DurableFault> {
+    let chip = Chip { pages: vec![Page::Erased; 96], left: u32::MAX, good: 12 };
+    let mut device = Durable::open(chip, SHAPE)?;
+    for sector in 0..4 {
+        device.write(sector, &[1; 16])?;
+    }
+    assert_eq!(device.losses()?, 0);
+    let mut chip = device.into_nand();
+    let first = chip.pages.iter().position(|page| matches!(page, Page::Version(..))).expect("a page was programmed");
+    chip.pages[first + 1] = Page::Torn;
+    let pages = chip.pages.clone();
+    assert!(matches!(Durable::open(chip, SHAPE), Err(DurableFault::PagesLost)));
+    let mut device = Durable::open_despite_losses(Chip { pages, left: u32::MAX, good: 12 }, SHAPE)?;
+    assert_eq!(device.losses()?, 1);
+    let mut page = [0; 16];
+    let found: Vec<Was> = (0..4).map(|sector| device.read(sector, &mut page)).collect::<Result<_, _>>()?;
+    assert_eq!(found, [Was::Written, Was::Empty, Was::Written, Was::Written]);
+    Ok(())
+}
+
+#[test]
 fn image_keeps_what_was_written() -> Result<(), Box<dyn std::error::Error>> {
     let path = std::env::temp_dir().join(format!("mintlintel-test-{}.img", std::process::id()));
     let copied = path.with_extension("copy");

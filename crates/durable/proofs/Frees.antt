@@ -1,5 +1,5 @@
 -- Which block is free after a mount.
-use Rattle.std.proofs.Common.{◌≡◌, ◌≢◌, inl, inr, ⊎_elim, ◌<◌, ◌≤◌, ℕ, List, length, Option, None, Some, get_or, refl, sym, ◌∙◌, ap, subst, arith}
+use Rattle.std.proofs.Common.{◌≡◌, ◌≢◌, inl, inr, ⊎_elim, ◌<◌, ◌≤◌, ℕ, List, [], length, Option, None, Some, get_or, refl, sym, ◌∙◌, ap, subst, arith}
 use Rattle.geometry.specs.Sectors.{Sector}
 use Rattle.geometry.specs.declared.page_addr.PageAddr.{PageAddr}
 use Rattle.durable.specs.declared.found.Candidate.{Candidate}
@@ -8,22 +8,23 @@ use Rattle.durable.specs.Flash.{Version, Flash, HoldsNewest, Recovers}
 use Rattle.durable.specs.Collecting.{IsFree, CanCollect}
 use Rattle.durable.specs.Spare.{IsDuplicated, IsSparedAt, LeavesSpare}
 use Rattle.durable.specs.Candidates.{IsEntryOf, HasTwin, IsFreeable}
-use Rattle.durable.specs.Mounting.{IsRead, IsBest, IsSpan, last_block, Finds}
+use Rattle.durable.specs.Mounting.{IsRead, IsBest, IsLone, Finds}
 use Rattle.durable.proofs.Cells.{same_held}
 use Rattle.durable.proofs.Scans.{shows_best}
 use Rattle.durable.proofs.Counts.{none_counted}
 use Rattle.durable.proofs.Collects.{none_some}
 
--- a version that was found in a later block too has a twin there
-twin_after : (at : PageAddr) (twin : Option PageAddr) (b : ℕ) → at.block ≡ b → b < last_block at twin → (t : PageAddr) × (twin ≡ Some t) × (t.block ≢ b)
-twin_after at None b here later = absurd (omega (arith, here, later))
-twin_after at (Some t) b here later = (t, refl, (λ e. omega (arith, e, later)))
+-- a version that was found in another block too has a twin there
+twin_there : (found : Candidate) (b : ℕ) → found.at.block ≡ b → ((t : PageAddr) → found.twin ≡ Some t → t.block ≢ found.at.block) → (k : Option PageAddr)
+    → found.twin ≡ k → k ≢ None → HasTwin [] found b
+twin_there found b here apart None is some = absurd (some refl)
+twin_there found b here apart (Some t) is some = (t, is, (λ e. apart t is (e ∙ sym here)), refl)
 
 -- a free block, where its versions that were found have pages elsewhere
 module _ (found : List (Option Candidate)) (map : List (Option PageAddr)) (avoided : ℕ) (size : length map ≡ length found)
     (entries : (s : ℕ) → s < length found → IsEntryOf (get_or found s None) (get_or map s None))
     (away : (s : ℕ) (x : Candidate) (at : PageAddr) → s < length found → get_or found s None ≡ Some x → get_or map s None ≡ Some at
-    → (x.at.block ≡ avoided → HasTwin x avoided) → at.block ≢ avoided) (freeable : IsFreeable found avoided) where
+    → (x.at.block ≡ avoided → HasTwin [] x avoided) → at.block ≢ avoided) (freeable : IsFreeable [] found avoided) where
   away_from : (s : ℕ) (at : PageAddr) (k : Option Candidate) → s < length found → get_or found s None ≡ k → IsEntryOf k (get_or map s None)
       → get_or map s None ≡ Some at → at.block ≢ avoided
   away_from s at None lt is entry mapped = absurd (none_some at (sym entry ∙ mapped))
@@ -39,10 +40,10 @@ free_collects map blocks pages b lt free = ((λ closed live. omega (arith, live 
 module _ (f : Flash) (array : ℕ → Sector) (pages b p below : ℕ) (found : List (Option Candidate)) (finds : Finds f pages b p found below)
     (all : (s d q m : ℕ) (v : Sector) → f d q ≡ Version s m v → IsRead pages b p d q) (recovers : Recovers f (length found) array) where
   -- each version that was found in a block whose newest versions are all elsewhere too has a twin
-  pub duplicated_freeable : (e : ℕ) → IsDuplicated f (length found) e → IsFreeable found e
+  pub duplicated_freeable : (e : ℕ) → IsDuplicated f (length found) e → IsFreeable [] found e
   duplicated_freeable e doubled = λ s x lt is here.
       let best : IsBest f pages b p s (Some x) = subst (IsBest f pages b p s) is (finds.best s lt) in
-      let span : IsSpan f pages b p s (Some x) = subst (IsSpan f pages b p s) is (finds.spans s lt) in
+      let lone : IsLone f pages b p s (Some x) = subst (IsLone f pages b p s) is (finds.lone s lt) in
       let shows = shows_best f pages b p s (array s) x best (all s) (recovers s lt) x.at best.0.0 best.0.1 in
       let other = doubled s x.at.page (array s) lt (subst (λ (c : ℕ). HoldsNewest f s (array s) c x.at.page) here shows) in
       let mine : shows.number ≡ x.number = sym (same_held s x.number best.0.0 s shows.number (array s) (sym best.0.1 ∙ shows.held)).1 in
@@ -51,10 +52,8 @@ module _ (f : Flash) (array : ℕ → Sector) (pages b p below : ℕ) (found : L
       let lower : shows.number ≤ other.4.number = ⊎_elim (λ less. omega (arith, less)) (λ same. omega (arith, same.0))
       (other.4.newest x.at.block x.at.page shows.number (array s) shows.held) in
       let number : other.4.number ≡ x.number = omega (arith, mine, upper, lower) in
-      let bounds = span.1 other.0 other.1 other.2 (all s other.0 other.1 other.4.number other.2 other.4.held)
-      (other.4.held ∙ ap (λ (n : ℕ). Version s n other.2) number) in
-      let apart = other.3 in
-      twin_after x.at x.twin e here (omega (arith, bounds.0, bounds.1, apart, here))
+      twin_there x e here lone.1 x.twin refl (λ alone. other.3 (lone.0 alone other.0 other.1 other.2
+      (all s other.0 other.1 other.4.number other.2 other.4.held) (other.4.held ∙ ap (λ (n : ℕ). Version s n other.2) number) ∙ here))
 
   -- the map misses no version
   known_of : (s : ℕ) (k : Option Candidate) (entry : Option PageAddr) → IsBest f pages b p s k → IsEntryOf k entry → entry ≡ None

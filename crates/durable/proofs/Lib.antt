@@ -11,3 +11,8 @@ pub mod Noting
 pub mod Reserves
 pub mod Subsequences
 pub mod Exact
+mod Losses
+mod Counted
+mod Telling
+mod Whole
+mod Unharmed

@@ -179,10 +179,10 @@ module _ (mount : Mount) (at_end : mount.read_blocks ≤ mount.block) (f : Flash
   all_read : (s d q m : ℕ) (v : Sector) → f d q ≡ Version s m v → IsRead mount.pages mount.block mount.page d q
   all_read s d q m v e = let w = is.written d q s m v e in (w.1, inl (omega (arith, w.0, at_end)))
 
-  pub some_freeable : CanFree f mount.blocks (length mount.found.items) → ((b : ℕ) → b < mount.blocks → IsFreeable mount.found.items b → ⊥) → ⊥
+  pub some_freeable : CanFree f mount.blocks (length mount.found.items) → ((b : ℕ) → b < mount.blocks → IsFreeable [] mount.found.items b → ⊥) → ⊥
   some_freeable spare none = none spare.0 spare.1 (duplicated_freeable f (array_after is.keeps.updates) mount.pages mount.block mount.page mount.next_number
       mount.found.items
-      noted all_read is.keeps.recovers spare.0 spare.2)
+      noted.finds all_read is.keeps.recovers spare.0 spare.2)
 
   pub remounted : (core : Core) (avoided : ℕ) → core.blocks ≡ mount.blocks → core.read_blocks ≡ mount.read_blocks
       → core.pages ≡ mount.pages → length core.map.items ≡ length mount.found.items
@@ -195,10 +195,10 @@ module _ (mount : Mount) (at_end : mount.read_blocks ≤ mount.block) (f : Flash
         updates = is.keeps.updates;
         includes = is.keeps.includes;
         included = is.keeps.included;
-        represents = finished f array mount.pages mount.block mount.page mount.next_number mount.found.items core noted all_read is.keeps.recovers size
+        represents = finished f array mount.pages mount.block mount.page mount.next_number mount.found.items core noted.finds all_read is.keeps.recovers size
             entries closed number;
         written = written_on f (device_in mount) (device_of core) same is.written;
-        spare = spares f array mount.pages mount.block mount.page mount.next_number mount.found.items noted all_read is.keeps.recovers core avoided size
+        spare = spares f array mount.pages mount.block mount.page mount.next_number mount.found.items noted.finds all_read is.keeps.recovers core avoided size
             entries closed lt free;
       }
 
@@ -213,7 +213,7 @@ erased_recoverable f device erased some =
     }
 
 -- a device with room has blocks
-some_blocks : (blocks pages sectors : ℕ) → sectors < (blocks - 1) * pages → 0 < blocks
+pub some_blocks : (blocks pages sectors : ℕ) → sectors < (blocks - 1) * pages → 0 < blocks
 some_blocks blocks pages sectors few = ⊎_elim
     (λ is. absurd (omega (arith, subst (λ (b : ℕ). sectors < (b - 1) * pages) is few)))
     (λ differs. omega (arith, differs))
@@ -272,7 +272,7 @@ readable_renumbered f t old new acked begun renumbered same is = record {
 }
 
 -- whole runs
-readable_on : (f : Flash) (old new : Device) (acked begun : List Update) → new ≡ old → IsReadable f old acked begun → IsReadable f new acked begun
+pub readable_on : (f : Flash) (old new : Device) (acked begun : List Update) → new ≡ old → IsReadable f old acked begun → IsReadable f new acked begun
 readable_on f old new acked begun same = subst (λ (d : Device). IsReadable f d acked begun) (sym same)
 
 pub remounts : (f : Flash) (device : Device) (new : Core) (acked begun : List Update) → IsMountedFrom f new → device_of new ≡ device

@@ -9,10 +9,10 @@ use Rattle.durable.specs.Calls.{IsSafe, SurvivesCut}
 use Rattle.durable.specs.Commands.{CutLeaves}
 use Rattle.durable.specs.Device.{Device, NamesOn, device_of}
 use Rattle.durable.specs.Failures.{Changes, HoldsNoVersion, IsRenumbered, IsSwapped, swapped}
-use Rattle.durable.specs.Flash.{Flash, Version}
+use Rattle.durable.specs.Flash.{Flash}
 use Rattle.durable.specs.Promise.{IsRecoverable}
 use Rattle.durable.specs.Updates.{Update}
-use Rattle.durable.specs.Runs.{Event, Completed, CutBetween, CutInside, Failed, HappensOnReserve, Runs, RunsOnReserve, acknowledged_in, begun_in, failures_in}
+use Rattle.durable.specs.Runs.{Event, Completed, CutBetween, CutInside, Failed, Runs, RunsOnReserve, acknowledged_in, begun_in, failures_in}
 use Rattle.durable.proofs.Cells.{erased_holds_none}
 use Rattle.durable.proofs.Promises.{blank_recoverable, completes_cut, readable, readable_renumbered, runs_consistent}
 

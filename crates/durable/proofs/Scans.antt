@@ -1,5 +1,6 @@
 -- One stamp more is read.
-use Rattle.std.proofs.Common.{◌≡◌, ◌≢◌, ◌⊎◌, inl, inr, ⊎_elim, ◌+◌, ◌<◌, ◌≤◌, ℕ, List, length, Option, None, Some, get_or, set, refl, sym, ◌∙◌, ap}
+use Rattle.std.proofs.Common.{◌≡◌, ◌≢◌, ◌⊎◌, inl, inr, ⊎_elim, ◌+◌, ◌<◌, ◌≤◌, ◌==◌, if◌then◌else◌, ℕ, Bool, true, false, List, length, Option, None, Some}
+use Rattle.std.proofs.Common.{get_or, set, refl, sym, ◌∙◌, ap}
 use Rattle.std.proofs.Common.{subst, arith}
 use Rattle.std.proofs.lemmas.Bool.{cases_eq, cases_lt}
 use Rattle.std.proofs.lemmas.Bool.Decides.{nat_tests}
@@ -11,8 +12,9 @@ use Rattle.durable.specs.declared.found.Stamp.{Stamp}
 use Rattle.durable.specs.declared.memory.Core.{Core}
 use Rattle.durable.specs.Flash.{Version, Flash, HoldsNewest, RecoversSector, Recovers}
 use Rattle.durable.specs.Memory.{IsMappedTo, IsErasedFrom, Represents}
-use Rattle.durable.specs.Candidates.{newer_of, IsEntryOf, found_with, number_above}
-use Rattle.durable.specs.Mounting.{IsRead, IsStampOf, IsBest, IsSpan, Finds}
+use Rattle.durable.specs.Candidates.{twin_with, with_twin, newer_of, IsEntryOf, found_with, number_above}
+use Rattle.durable.specs.Losses.{has_gap}
+use Rattle.durable.specs.Mounting.{IsRead, IsStampOf, IsBest, IsLone, Finds}
 use Rattle.durable.proofs.Cells.{same_held}
 
 pub seen_next : (pages b p c q : ℕ) → IsRead pages b (p + 1) c q → IsRead pages b p c q ⊎ ((c ≡ b) × (q ≡ p))
@@ -27,21 +29,75 @@ seen_wrap pages b p c q full seen = ⊎_elim
     (λ here. absurd (omega (arith, here.1)))
     seen.1
 
-pub later_old : (old : Candidate) (at : PageAddr) (n : ℕ) → n < old.number → newer_of (Some old) at n ≡ Some old
-later_old old at n lt = grind (arith, nat_tests)
+pub later_old : (gaps : List ℕ) (old : Candidate) (at : PageAddr) (n : ℕ) → n < old.number → newer_of gaps (Some old) at n ≡ Some old
+later_old gaps old at n lt = grind (arith, nat_tests)
 
-pub later_new : (old : Candidate) (at : PageAddr) (n : ℕ) → old.number < n → newer_of (Some old) at n ≡ Some (record { at = at; number = n; twin = None })
-later_new old at n lt = grind (arith, nat_tests)
+pub later_new : (gaps : List ℕ) (old : Candidate) (at : PageAddr) (n : ℕ) → old.number < n
+    → newer_of gaps (Some old) at n ≡ Some (record { at = at; number = n; twin = None })
+later_new gaps old at n lt = grind (arith, nat_tests)
 
-pub later_twin : (old : Candidate) (at : PageAddr) (n : ℕ) → n ≡ old.number → newer_of (Some old) at n ≡ Some
-    (record { at = old.at; number = old.number; twin = Some at })
-later_twin old at n is = grind (arith, nat_tests)
+pub later_same : (gaps : List ℕ) (old : Candidate) (at : PageAddr) (n : ℕ) → n ≡ old.number → newer_of gaps (Some old) at n ≡ Some (with_twin gaps old at)
+later_same gaps old at n is = grind (arith, nat_tests)
 
-some_is : (x y : PageAddr) → Some x ≡ Some y → x ≡ y
+pub some_is : (x y : PageAddr) → Some x ≡ Some y → x ≡ y
 some_is x y e = cc e
 
-none_is : (y : PageAddr) → None ≢ Some y
+pub none_is : (y : PageAddr) → None ≢ Some y
 none_is y e = cc e
+
+some_not : (x : PageAddr) → Some x ≢ None
+some_not x e = cc e
+
+either : (k : Bool) → (k ≡ true) ⊎ (k ≡ false)
+either true = inl refl
+either false = inr refl
+
+-- what becomes of a page that was found where another has the same number: it stays, or it gives way, or it gets a twin
+pub twin_cases : (gaps : List ℕ) (old : Candidate) (at : PageAddr)
+    → ((at.block ≡ old.at.block) × (with_twin gaps old at ≡ old))
+    ⊎ (((at.block ≢ old.at.block) × (has_gap gaps old.at.block ≡ true)
+    × (with_twin gaps old at ≡ record { at = at; number = old.number; twin = Some old.at }))
+    ⊎ ((at.block ≢ old.at.block) × (has_gap gaps old.at.block ≡ false)
+    × (with_twin gaps old at ≡ record { at = old.at; number = old.number; twin = Some (twin_with gaps old.twin at) })))
+twin_cases gaps old at = ⊎_elim
+    (λ here.
+    let is : (at.block == old.at.block) ≡ true = grind (arith, nat_tests) in
+    inl (
+      here,
+      λ i. if is i then old else if has_gap gaps old.at.block then record { at = at; number = old.number; twin = Some old.at }
+          else record { at = old.at; number = old.number; twin = Some (twin_with gaps old.twin at) },
+    ))
+    (λ differs.
+    let is : (at.block == old.at.block) ≡ false = grind (arith, nat_tests) in
+    let tests : with_twin gaps old at ≡ (if has_gap gaps old.at.block then record { at = at; number = old.number; twin = Some old.at }
+    else record { at = old.at; number = old.number; twin = Some (twin_with gaps old.twin at) }) =
+    λ i. if is i then old else if has_gap gaps old.at.block then record { at = at; number = old.number; twin = Some old.at }
+    else record { at = old.at; number = old.number; twin = Some (twin_with gaps old.twin at) } in
+    inr (⊎_elim
+    (λ gap. inl (
+      differs,
+      gap,
+      tests ∙ (λ i. if gap i then record { at = at; number = old.number; twin = Some old.at }
+          else record { at = old.at; number = old.number; twin = Some (twin_with gaps old.twin at) }),
+    ))
+    (λ none. inr (
+      differs,
+      none,
+      tests ∙ (λ i. if none i then record { at = at; number = old.number; twin = Some old.at }
+          else record { at = old.at; number = old.number; twin = Some (twin_with gaps old.twin at) }),
+    ))
+    (either (has_gap gaps old.at.block))))
+    (cases_eq at.block old.at.block)
+
+-- what holds of the twin so far and of this page holds of the twin then
+chosen_twin : (P : PageAddr → Type 0) (k : Bool) (at twin : PageAddr) → P at → P twin → P (if k then at else twin)
+chosen_twin P true at twin here there = here
+chosen_twin P false at twin here there = there
+
+pub twin_is : (P : PageAddr → Type 0) (gaps : List ℕ) (k : Option PageAddr) (at : PageAddr) → ((t : PageAddr) → k ≡ Some t → P t) → P at
+    → P (twin_with gaps k at)
+twin_is P gaps None at old here = here
+twin_is P gaps (Some twin) at old here = chosen_twin P (has_gap gaps twin.block) at twin here (old twin refl)
 
 module _ (f : Flash) (pages b p : ℕ) where
   pub at_page : (c q : ℕ) → (c ≡ b) × (q ≡ p) → f b p ≡ f c q
@@ -59,38 +115,49 @@ module _ (f : Flash) (pages b p : ℕ) where
   pub here_number : (s n : ℕ) (d : Sector) → f b p ≡ Version s n d → (c q m : ℕ) (v : Sector) → (c ≡ b) × (q ≡ p) → f c q ≡ Version s m v → n ≡ m
   here_number s n d is c q m v here e = (same_held s n d s m v (sym is ∙ (at_page c q here ∙ e))).1
 
-  best_later : (s n : ℕ) (d : Sector) (at : PageAddr) (k : Option Candidate) → at.block ≡ b → at.page ≡ p → f b p ≡ Version s n d → IsBest f pages b p s k
-      → IsBest f pages b (p + 1) s (newer_of k at n)
-  best_later s n d at None is_b is_p is best = (
+  best_twin : (gaps : List ℕ) (s n : ℕ) (d : Sector) (at : PageAddr) (old : Candidate) → at.block ≡ b → at.page ≡ p → f b p ≡ Version s n d
+      → n ≡ old.number → IsBest f pages b p s (Some old) → IsBest f pages b (p + 1) s (Some (with_twin gaps old at))
+  best_twin gaps s n d at old is_b is_p is eq best =
+      let here : (v : Sector) × (f at.block at.page ≡ Version s old.number v) =
+      (d, (λ i. f (is_b i) (is_p i)) ∙ (is ∙ ap (λ (x : ℕ). Version s x d) eq)) in
+      let most : (c q m : ℕ) (v : Sector) → IsRead pages b (p + 1) c q → f c q ≡ Version s m v → m ≤ old.number =
+      λ c q m v seen e. ⊎_elim (λ o. best.1 c q m v o e) (λ at_p. let same = here_number s n d is c q m v at_p e in omega (arith, same, eq))
+      (seen_next pages b p c q seen) in
+      let Held : PageAddr → Type 0 = λ t. (v : Sector) × (f t.block t.page ≡ Version s old.number v) in
+      ⊎_elim
+      (λ same. subst (λ (x : Candidate). IsBest f pages b (p + 1) s (Some x)) (sym same.1) (best.0, most, best.2))
+      (λ other. ⊎_elim
+      (λ takes. subst (λ (x : Candidate). IsBest f pages b (p + 1) s (Some x)) (sym takes.2)
+      (here, most, λ t e. subst Held (some_is old.at t e) best.0))
+      (λ keeps. subst (λ (x : Candidate). IsBest f pages b (p + 1) s (Some x)) (sym keeps.2)
+      (best.0, most, λ t e. subst Held (some_is (twin_with gaps old.twin at) t e) (twin_is Held gaps old.twin at best.2 here)))
+      other)
+      (twin_cases gaps old at)
+
+  best_later : (gaps : List ℕ) (s n : ℕ) (d : Sector) (at : PageAddr) (k : Option Candidate) → at.block ≡ b → at.page ≡ p → f b p ≡ Version s n d
+      → IsBest f pages b p s k → IsBest f pages b (p + 1) s (newer_of gaps k at n)
+  best_later gaps s n d at None is_b is_p is best = (
     (d, (λ i. f (is_b i) (is_p i)) ∙ is),
     (λ c q m v seen e. ⊎_elim (λ old. absurd (best c q m v old e)) (λ here. let same = here_number s n d is c q m v here e in omega (arith, same))
         (seen_next pages b p c q seen)),
     (λ t e. absurd (none_is t e)),
   )
-  best_later s n d at (Some old) is_b is_p is best = ⊎_elim
-      (λ lt. subst (IsBest f pages b (p + 1) s) (sym (later_old old at n lt)) (
+  best_later gaps s n d at (Some old) is_b is_p is best = ⊎_elim
+      (λ lt. subst (IsBest f pages b (p + 1) s) (sym (later_old gaps old at n lt)) (
         best.0,
         (λ c q m v seen e. ⊎_elim (λ o. best.1 c q m v o e) (λ here. let same = here_number s n d is c q m v here e in omega (arith, same, lt))
             (seen_next pages b p c q seen)),
         best.2,
       ))
       (λ le. ⊎_elim
-      (λ gt. subst (IsBest f pages b (p + 1) s) (sym (later_new old at n gt)) (
+      (λ gt. subst (IsBest f pages b (p + 1) s) (sym (later_new gaps old at n gt)) (
         (d, (λ i. f (is_b i) (is_p i)) ∙ is),
         (λ c q m v seen e. ⊎_elim (λ o. let most = best.1 c q m v o e in omega (arith, most, gt)) (λ here. let same = here_number s n d is c q m v here e in
             omega (arith, same)) (seen_next pages b p c q seen)),
         (λ t e. absurd (none_is t e)),
       ))
-      (λ ge. let eq : n ≡ old.number = omega (arith, le, ge) in subst (IsBest f pages b (p + 1) s) (sym (later_twin old at n eq)) (
-        best.0,
-        (λ c q m v seen e. ⊎_elim (λ o. best.1 c q m v o e) (λ here. let same = here_number s n d is c q m v here e in omega (arith, same, eq))
-            (seen_next pages b p c q seen)),
-        (λ t e. (
-          d,
-          (λ i. f (sym (some_is at t e) i).block (sym (some_is at t e) i).page) ∙
-              ((λ i. f (is_b i) (is_p i)) ∙ (is ∙ ap (λ (x : ℕ). Version s x d) eq)),
-        )),
-      ))
+      (λ ge. let eq : n ≡ old.number = omega (arith, le, ge) in subst (IsBest f pages b (p + 1) s) (sym (later_same gaps old at n eq))
+      (best_twin gaps s n d at old is_b is_p is eq best))
       (cases_lt old.number n))
       (cases_lt n old.number)
 
@@ -149,88 +216,108 @@ finished f array pages b p below found core finds all recovers size entries clos
   erased = subst (IsErasedFrom f) (sym closed) tt;
 }
 
-seen_low : (pages b p c q : ℕ) → IsRead pages b p c q → c ≤ b
-seen_low pages b p c q seen = ⊎_elim (λ lt. omega (arith, lt)) (λ here. omega (arith, here.0)) seen.1
-
 module _ (f : Flash) (pages b p : ℕ) where
-  span_beside : (s : ℕ) (k : Option Candidate) → IsSpan f pages b p s k → ((m : ℕ) (d : Sector) → f b p ≢ Version s m d) → IsSpan f pages b (p + 1) s k
-  span_beside s None span none = tt
-  span_beside s (Some x) span none = (
-    span.0,
-    λ c q d seen e. ⊎_elim (λ old. span.1 c q d old e) (λ here. absurd (none x.number d (at_page f pages b p c q here ∙ e)))
-        (seen_next pages b p c q seen),
+  lone_beside : (s : ℕ) (k : Option Candidate) → IsLone f pages b p s k → ((m : ℕ) (d : Sector) → f b p ≢ Version s m d) → IsLone f pages b (p + 1) s k
+  lone_beside s None lone none = tt
+  lone_beside s (Some x) lone none = (
+    (λ alone c q d seen e. ⊎_elim (λ old. lone.0 alone c q d old e) (λ here. absurd (none x.number d (at_page f pages b p c q here ∙ e)))
+        (seen_next pages b p c q seen)),
+    lone.1,
+    lone.2,
   )
 
-  span_later : (s n : ℕ) (d : Sector) (at : PageAddr) (k : Option Candidate) → at.block ≡ b → f b p ≡ Version s n d → IsBest f pages b p s k
-      → IsSpan f pages b p s k → IsSpan f pages b (p + 1) s (newer_of k at n)
-  span_later s n d at None is_b is best span = (
+  lone_twin : (gaps : List ℕ) (s n : ℕ) (d : Sector) (at : PageAddr) (old : Candidate) → at.block ≡ b → IsLone f pages b p s (Some old)
+      → IsLone f pages b (p + 1) s (Some (with_twin gaps old at))
+  lone_twin gaps s n d at old is_b lone = ⊎_elim
+      (λ same. subst (λ (x : Candidate). IsLone f pages b (p + 1) s (Some x)) (sym same.1) (
+        (λ alone c q v seen e. ⊎_elim (λ o. lone.0 alone c q v o e) (λ here. omega (arith, here.0, is_b, same.0)) (seen_next pages b p c q seen)),
+        lone.1,
+        lone.2,
+      ))
+      (λ other. ⊎_elim
+      (λ takes. subst (λ (x : Candidate). IsLone f pages b (p + 1) s (Some x)) (sym takes.2) (
+        (λ alone. absurd (some_not old.at alone)),
+        (λ t e same. takes.0 (sym same ∙ ap (λ (a : PageAddr). a.block) (sym (some_is old.at t e)))),
+        omega (arith, is_b),
+      ))
+      (λ keeps. subst (λ (x : Candidate). IsLone f pages b (p + 1) s (Some x)) (sym keeps.2) (
+        (λ alone. absurd (some_not (twin_with gaps old.twin at) alone)),
+        (λ t e. subst (λ (a : PageAddr). a.block ≢ old.at.block) (some_is (twin_with gaps old.twin at) t e)
+            (twin_is (λ a. a.block ≢ old.at.block) gaps old.twin at lone.1 keeps.0)),
+        lone.2,
+      ))
+      other)
+      (twin_cases gaps old at)
+
+  lone_later : (gaps : List ℕ) (s n : ℕ) (d : Sector) (at : PageAddr) (k : Option Candidate) → at.block ≡ b → f b p ≡ Version s n d → IsBest f pages b p s k
+      → IsLone f pages b p s k → IsLone f pages b (p + 1) s (newer_of gaps k at n)
+  lone_later gaps s n d at None is_b is best lone = (
+    (λ alone c q v seen e. ⊎_elim (λ old. absurd (best c q n v old e)) (λ here. omega (arith, is_b, here.0)) (seen_next pages b p c q seen)),
+    (λ t e. absurd (none_is t e)),
     omega (arith, is_b),
-    λ c q v seen e. ⊎_elim (λ old. absurd (best c q n v old e)) (λ here. (omega (arith, is_b, here.0), omega (arith, is_b, here.0)))
-        (seen_next pages b p c q seen),
   )
-  span_later s n d at (Some old) is_b is best span = ⊎_elim
-      (λ lt. subst (IsSpan f pages b (p + 1) s) (sym (later_old old at n lt)) (
-        span.0,
-        λ c q v seen e. ⊎_elim (λ o. span.1 c q v o e) (λ here. let same = here_number f pages b p s n d is c q old.number v here e in
-            absurd (omega (arith, same, lt))) (seen_next pages b p c q seen),
+  lone_later gaps s n d at (Some old) is_b is best lone = ⊎_elim
+      (λ lt. subst (IsLone f pages b (p + 1) s) (sym (later_old gaps old at n lt)) (
+        (λ alone c q v seen e. ⊎_elim (λ o. lone.0 alone c q v o e) (λ here. let same = here_number f pages b p s n d is c q old.number v here e in
+            absurd (omega (arith, same, lt))) (seen_next pages b p c q seen)),
+        lone.1,
+        lone.2,
       ))
       (λ le. ⊎_elim
-      (λ gt. subst (IsSpan f pages b (p + 1) s) (sym (later_new old at n gt)) (
+      (λ gt. subst (IsLone f pages b (p + 1) s) (sym (later_new gaps old at n gt)) (
+        (λ alone c q v seen e. ⊎_elim (λ o. let most = best.1 c q n v o e in absurd (omega (arith, most, gt))) (λ here. omega (arith, is_b, here.0))
+            (seen_next pages b p c q seen)),
+        (λ t e. absurd (none_is t e)),
         omega (arith, is_b),
-        λ c q v seen e. ⊎_elim (λ o. let most = best.1 c q n v o e in absurd (omega (arith, most, gt)))
-            (λ here. (omega (arith, is_b, here.0), omega (arith, is_b, here.0))) (seen_next pages b p c q seen),
       ))
-      (λ ge. let eq : n ≡ old.number = omega (arith, le, ge) in subst (IsSpan f pages b (p + 1) s) (sym (later_twin old at n eq)) (
-        span.0,
-        λ c q v seen e. ⊎_elim (λ o. ((span.1 c q v o e).0, omega (arith, is_b, seen_low pages b p c q o)))
-            (λ here. (omega (arith, here.0, span.0), omega (arith, is_b, here.0))) (seen_next pages b p c q seen),
-      ))
+      (λ ge. subst (IsLone f pages b (p + 1) s) (sym (later_same gaps old at n (omega (arith, le, ge)))) (lone_twin gaps s n d at old is_b lone))
       (cases_lt old.number n))
       (cases_lt n old.number)
 
+-- what holds of the new page at its sector and of the old ones at the others holds after the change
+pub set_each : (gaps : List ℕ) (found : List (Option Candidate)) (at : PageAddr) (stamp : Stamp) (Q : ℕ → Option Candidate → Type 0)
+    → (stamp.sector < length found → Q stamp.sector (newer_of gaps (get_or found stamp.sector None) at stamp.number))
+    → ((s : ℕ) → s < length found → s ≢ stamp.sector → Q s (get_or found s None))
+    → (s : ℕ) → s < length (found_with gaps found at (Some stamp)) → Q s (get_or (found_with gaps found at (Some stamp)) s None)
+set_each gaps found at stamp Q here others s lt =
+    let k = stamp.sector in
+    let newer = newer_of gaps (get_or found k None) at stamp.number in
+    let is_in : s < length found = subst (λ (l : ℕ). s < l) (length-set found k newer) lt in
+    ⊎_elim
+    (λ is.
+    let k_in : k < length found = subst (λ (x : ℕ). x < length found) is is_in in
+    subst (λ (x : ℕ). Q x (get_or (set found k newer) x None)) (sym is) (subst (Q k) (sym (get_or-set_same found k newer None k_in)) (here k_in)))
+    (λ differs. subst (Q s) (sym (get_or-set_other found k s newer None differs)) (others s is_in differs))
+    (cases_eq s k)
+
 -- one stamp more
-pub finds_next : (f : Flash) (pages b p : ℕ) (found : List (Option Candidate)) (below : ℕ) (at : PageAddr) (stamp : Option Stamp) → at.block ≡ b → at.page ≡ p
-    → Finds f pages b p found below → IsStampOf f b p stamp → Finds f pages b (p + 1) (found_with found at stamp) (number_above below stamp)
-finds_next f pages b p found below at None is_b is_p finds none = record {
+pub finds_next : (f : Flash) (pages b p : ℕ) (gaps : List ℕ) (found : List (Option Candidate)) (below : ℕ) (at : PageAddr) (stamp : Option Stamp)
+    → at.block ≡ b → at.page ≡ p → Finds f pages b p found below → IsStampOf f b p stamp
+    → Finds f pages b (p + 1) (found_with gaps found at stamp) (number_above below stamp)
+finds_next f pages b p gaps found below at None is_b is_p finds none = record {
   best = λ s lt. best_beside f pages b p s (get_or found s None) (finds.best s lt) (λ m d. none s m d);
   numbers = λ c q s m d seen e. ⊎_elim (λ old. finds.numbers c q s m d old e) (λ here. absurd (none s m d (at_page f pages b p c q here ∙ e)))
       (seen_next pages b p c q seen);
-  spans = λ s lt. span_beside f pages b p s (get_or found s None) (finds.spans s lt) (λ m d. none s m d);
+  lone = λ s lt. lone_beside f pages b p s (get_or found s None) (finds.lone s lt) (λ m d. none s m d);
 }
-finds_next f pages b p found below at (Some stamp) is_b is_p finds matches =
+finds_next f pages b p gaps found below at (Some stamp) is_b is_p finds matches =
     let n = stamp.number in
     let k = stamp.sector in
-    let newer = newer_of (get_or found k None) at n in
     record {
-      best = set_each (IsBest f pages b (p + 1)) (λ k_in. best_later f pages b p k n matches.0 at (get_or found k None) is_b is_p matches.1 (finds.best k k_in))
+      best = set_each gaps found at stamp (IsBest f pages b (p + 1))
+          (λ k_in. best_later f pages b p gaps k n matches.0 at (get_or found k None) is_b is_p matches.1 (finds.best k k_in))
           (λ s is_in differs. best_beside f pages b p s (get_or found s None) (finds.best s is_in) (other_sector s differs));
       numbers = λ c q s m d seen e. ⊎_elim
           (λ old. let lt = finds.numbers c q s m d old e in omega (arith, lt))
           (λ here. let same = (same_held k n matches.0 s m d (sym matches.1 ∙ (at_page f pages b p c q here ∙ e))).1 in omega (arith, same))
           (seen_next pages b p c q seen);
-      spans = set_each (IsSpan f pages b (p + 1)) (λ k_in. span_later f pages b p k n matches.0 at (get_or found k None) is_b matches.1 (finds.best k k_in)
-          (finds.spans k k_in))
-          (λ s is_in differs. span_beside f pages b p s (get_or found s None) (finds.spans s is_in) (other_sector s differs));
+      lone = set_each gaps found at stamp (IsLone f pages b (p + 1)) (λ k_in. lone_later f pages b p gaps k n matches.0 at (get_or found k None) is_b
+          matches.1 (finds.best k k_in) (finds.lone k k_in))
+          (λ s is_in differs. lone_beside f pages b p s (get_or found s None) (finds.lone s is_in) (other_sector s differs));
     }
   where
     other_sector : (s : ℕ) → s ≢ stamp.sector → (m : ℕ) (d : Sector) → f b p ≢ Version s m d
     other_sector s differs m d e = differs (sym (same_held stamp.sector stamp.number matches.0 s m d (sym matches.1 ∙ e)).0)
-
-    -- what holds of the new page at its sector and of the old ones at the others holds after the change
-    set_each : (Q : ℕ → Option Candidate → Type 0) → (stamp.sector < length found → Q stamp.sector (newer_of (get_or found stamp.sector None) at stamp.number))
-        → ((s : ℕ) → s < length found → s ≢ stamp.sector → Q s (get_or found s None))
-        → (s : ℕ) → s < length (set found stamp.sector (newer_of (get_or found stamp.sector None) at stamp.number))
-        → Q s (get_or (set found stamp.sector (newer_of (get_or found stamp.sector None) at stamp.number)) s None)
-    set_each Q here others s lt =
-        let k = stamp.sector in
-        let newer = newer_of (get_or found k None) at stamp.number in
-        let is_in : s < length found = subst (λ (l : ℕ). s < l) (length-set found k newer) lt in
-        ⊎_elim
-        (λ is.
-        let k_in : k < length found = subst (λ (x : ℕ). x < length found) is is_in in
-        subst (λ (x : ℕ). Q x (get_or (set found k newer) x None)) (sym is) (subst (Q k) (sym (get_or-set_same found k newer None k_in)) (here k_in)))
-        (λ differs. subst (Q s) (sym (get_or-set_other found k s newer None differs)) (others s is_in differs))
-        (cases_eq s k)
 
 -- the block's last page was read
 pub finds_wrap : (f : Flash) (pages b p : ℕ) (found : List (Option Candidate)) (below : ℕ) → p + 1 ≡ pages → Finds f pages b (p + 1) found below
@@ -238,24 +325,24 @@ pub finds_wrap : (f : Flash) (pages b p : ℕ) (found : List (Option Candidate))
 finds_wrap f pages b p found below full finds = record {
   best = λ s lt. best_wrapped (get_or found s None) s (finds.best s lt);
   numbers = λ c q s m d seen e. finds.numbers c q s m d (seen_wrap pages b p c q full seen) e;
-  spans = λ s lt. span_wrapped (get_or found s None) s (finds.spans s lt);
+  lone = λ s lt. lone_wrapped (get_or found s None) s (finds.lone s lt);
 }
   where
     best_wrapped : (k : Option Candidate) (s : ℕ) → IsBest f pages b (p + 1) s k → IsBest f pages (b + 1) 0 s k
     best_wrapped None s best = λ c q m d seen e. best c q m d (seen_wrap pages b p c q full seen) e
     best_wrapped (Some x) s best = (best.0, (λ c q m d seen e. best.1 c q m d (seen_wrap pages b p c q full seen) e), best.2)
 
-    span_wrapped : (k : Option Candidate) (s : ℕ) → IsSpan f pages b (p + 1) s k → IsSpan f pages (b + 1) 0 s k
-    span_wrapped None s span = tt
-    span_wrapped (Some x) s span = (omega (arith, span.0), λ c q d seen e. span.1 c q d (seen_wrap pages b p c q full seen) e)
+    lone_wrapped : (k : Option Candidate) (s : ℕ) → IsLone f pages b (p + 1) s k → IsLone f pages (b + 1) 0 s k
+    lone_wrapped None s lone = tt
+    lone_wrapped (Some x) s lone = ((λ alone c q d seen e. lone.0 alone c q d (seen_wrap pages b p c q full seen) e), lone.1, omega (arith, lone.2))
 
 -- the same, of what a call has left
-pub noted : (f : Flash) (pages b p : ℕ) (found : List (Option Candidate)) (below : ℕ) (at : PageAddr) (stamp : Option Stamp)
+pub noted : (f : Flash) (pages b p : ℕ) (gaps : List ℕ) (found : List (Option Candidate)) (below : ℕ) (at : PageAddr) (stamp : Option Stamp)
     (found' : List (Option Candidate)) (below' : ℕ)
-    → at.block ≡ b → at.page ≡ p → found' ≡ found_with found at stamp → below' ≡ number_above below stamp → Finds f pages b p found below
+    → at.block ≡ b → at.page ≡ p → found' ≡ found_with gaps found at stamp → below' ≡ number_above below stamp → Finds f pages b p found below
     → IsStampOf f b p stamp
     → Finds f pages b (p + 1) found' below'
-noted f pages b p found below at stamp found' below' is_b is_p is_found is_below finds matches =
+noted f pages b p gaps found below at stamp found' below' is_b is_p is_found is_below finds matches =
     subst (λ (xs : List (Option Candidate)). Finds f pages b (p + 1) xs below') (sym is_found)
-    (subst (λ (n : ℕ). Finds f pages b (p + 1) (found_with found at stamp) n) (sym is_below)
-    (finds_next f pages b p found below at stamp is_b is_p finds matches))
+    (subst (λ (n : ℕ). Finds f pages b (p + 1) (found_with gaps found at stamp) n) (sym is_below)
+    (finds_next f pages b p gaps found below at stamp is_b is_p finds matches))

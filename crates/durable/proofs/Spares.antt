@@ -32,7 +32,7 @@ kept_away t s b c None kept none far = inr (none refl)
 kept_away t s b c (Some at) kept none far = inl (at.block, at.page, c, far at refl, kept)
 
 module _ (f t : Flash) (b p : ℕ) (x : PageContents) (erased : f b p ≡ Erased) (puts : SetsPage f t b p x) where
-  nothing_put : (s : ℕ) → ((d q m : ℕ) (v : Sector) → f d q ≢ Version s m v) → ((m : ℕ) (v : Sector) → x ≢ Version s m v) → (d q m : ℕ) (v : Sector)
+  pub nothing_put : (s : ℕ) → ((d q m : ℕ) (v : Sector) → f d q ≢ Version s m v) → ((m : ℕ) (v : Sector) → x ≢ Version s m v) → (d q m : ℕ) (v : Sector)
       → t d q ≢ Version s m v
   nothing_put s none other d q m v e = ⊎_elim (λ h. other m v h) (λ h. none d q m v h) (was f t b p x erased puts d q s m v e)
 
@@ -156,7 +156,8 @@ module _ (f t : Flash) (core : Core) (array : ℕ → Sector) (stands : Represen
   cut_spare s x Refused next cut = same_spare cut
 
 -- a command that succeeds leaves the layer's memory such that a crash then leaves a spare
-none_set : (kept : List (Option PageAddr)) (k : ℕ) (to : PageAddr) (b : ℕ) → k < length kept → IsFree kept b → b ≢ to.block → IsFree (set kept k (Some to)) b
+pub none_set : (kept : List (Option PageAddr)) (k : ℕ) (to : PageAddr) (b : ℕ) → k < length kept → IsFree kept b → b ≢ to.block
+    → IsFree (set kept k (Some to)) b
 none_set kept k to b lt none apart = counted_none b (set kept k (Some to)) (stays_free kept k to b lt none apart)
 
 some_is_not_none : (at : PageAddr) → Some at ≢ None

@@ -1,11 +1,12 @@
 -- What the public calls keep of the promise.
-use Rattle.std.specs.Prelude.{ℕ, List, ◌∷◌}
+use Rattle.std.specs.Prelude.{◌≡◌, ◌<◌, ℕ, List, ◌∷◌, length, None, slice_index_or}
 use Rattle.geometry.specs.Sectors.{Sector}
 use Rattle.durable.specs.Updates.{Update}
 use Rattle.durable.specs.Flash.{Flash}
 use Rattle.durable.specs.Commands.{Completes, CutLeaves, IsAllowed, updates_with}
-use Rattle.durable.specs.Device.{device_of, device_in, NamesOn}
+use Rattle.durable.specs.Device.{device_of, device_in, IsWrittenOn, NamesOn}
 use Rattle.durable.specs.Mounting.{Finds}
+use Rattle.durable.specs.Losses.{CountsGaps, IsPreferred, HasNoLoss}
 use Rattle.durable.specs.Promise.{IsReadable, IsRecoverable, IsConsistent}
 use Rattle.durable.specs.declared.command.Command.{Command}
 use Rattle.durable.specs.declared.memory.Core.{Core}
@@ -29,11 +30,23 @@ abbrev pub Acknowledges : Core → ℕ → Command → Core → Type 0
 Acknowledges old s command new = (f t : Flash) (value : Sector) (acked begun : List Update) → IsConsistent f old acked begun → Completes command s value f t
     → let update : Update = record { sector = s; value = value } in IsConsistent t new (updates_with command update acked) (updates_with command update begun)
 
--- the stamps that were noted are those of the flash's pages, block by block
-abbrev pub HasNoted : Flash → Mount → Type 0
-HasNoted f mount = Finds f mount.pages mount.block mount.page mount.found.items mount.next_number
+-- the stamps that were noted are those of the flash's pages, block by block, and their gaps were counted
+pub record HasNoted (f : Flash) (mount : Mount) : Type 0 where
+  pub finds : Finds f mount.pages mount.block mount.page mount.found.items mount.next_number
+  pub counts : CountsGaps f mount.pages mount.block mount.page mount.gaps.items mount.versions
+  pub prefers : (s : ℕ) → s < length mount.found.items
+      → IsPreferred f mount.pages mount.block mount.page mount.gaps.items s (slice_index_or mount.found.items s None)
 
 -- the layer that a mount gives is consistent with the flash, and keeps each acknowledged update
 abbrev pub Remounts : Mount → Core → Type 0
 Remounts mount core = (f : Flash) (acked begun : List Update) → HasNoted f mount → IsReadable f (device_in mount) acked begun
     → IsConsistent f core acked begun
+
+-- a mount that tells no loss has found the newest version of each sector in a block without a gap
+abbrev pub TellsLosses : Mount → Core → Type 0
+TellsLosses mount core = (f : Flash) → HasNoted f mount → IsWrittenOn (device_in mount) f → core.losses ≡ 0 → HasNoLoss f (device_in mount).sectors
+
+-- a mount tells no loss where each sector's newest version is in a block without a gap
+abbrev pub TellsNoFalseLoss : Mount → Core → Type 0
+TellsNoFalseLoss mount core = (f : Flash) (acked begun : List Update) → HasNoted f mount → IsReadable f (device_in mount) acked begun
+    → HasNoLoss f (device_in mount).sectors → core.losses ≡ 0

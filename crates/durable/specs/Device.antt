@@ -28,6 +28,10 @@ device_in mount = record { blocks = mount.blocks; read_blocks = mount.read_block
 abbrev pub next_number_of : Core → ℕ
 next_number_of core = core.next_number
 
+-- how many losses the mount has told
+abbrev pub losses_of : Core → ℕ
+losses_of core = core.losses
+
 -- the page to be programmed next, if a block is open
 abbrev pub next_page_of : Core → Option PageAddr
 next_page_of core = core.next_page

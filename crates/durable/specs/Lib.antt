@@ -7,11 +7,13 @@ pub mod Promise
 pub mod Calls
 pub mod Failures
 pub mod Runs
+pub mod Whole
 pub mod Faults
 -- How the layer chooses its commands, and what a mount has found: internal.
 pub mod Collecting
 pub mod Memory
 pub mod Choice
 pub mod Spare
+pub mod Losses
 pub mod Candidates
 pub mod Mounting

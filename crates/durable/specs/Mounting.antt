@@ -38,19 +38,16 @@ IsBest f pages b p s (Some x) =
     × ((c q m : ℕ) (v : Sector) → IsRead pages b p c q → f c q ≡ Version s m v → m ≤ x.number)
     × ((t : PageAddr) → x.twin ≡ Some t → (v : Sector) × (f t.block t.page ≡ Version s x.number v))
 
--- the last block in which the version was found
-abbrev pub last_block : PageAddr → Option PageAddr → ℕ
-last_block at None = at.block
-last_block at (Some twin) = twin.block
-
--- each page with the version that was found is in its first block, its last one, or between
-abbrev pub IsSpan : Flash → ℕ → ℕ → ℕ → ℕ → Option Candidate → Type 0
-IsSpan f pages b p s None = Unit {0}
-IsSpan f pages b p s (Some x) =
-    (x.at.block ≤ b) × ((c q : ℕ) (v : Sector) → IsRead pages b p c q → f c q ≡ Version s x.number v → (x.at.block ≤ c) × (c ≤ last_block x.at x.twin))
+-- the twin is in another block, and without a twin no other block has the version; no later block was read
+abbrev pub IsLone : Flash → ℕ → ℕ → ℕ → ℕ → Option Candidate → Type 0
+IsLone f pages b p s None = Unit {0}
+IsLone f pages b p s (Some x) =
+    (x.twin ≡ None → (c q : ℕ) (v : Sector) → IsRead pages b p c q → f c q ≡ Version s x.number v → c ≡ x.at.block)
+    × ((t : PageAddr) → x.twin ≡ Some t → t.block ≢ x.at.block)
+    × (x.at.block ≤ b)
 
 -- what was found before page p of block b
 pub record Finds (f : Flash) (pages b p : ℕ) (found : List (Option Candidate)) (next : ℕ) : Type 0 where
   pub best : (s : ℕ) → s < length found → IsBest f pages b p s (slice_index_or found s None)
   pub numbers : (c q s m : ℕ) (v : Sector) → IsRead pages b p c q → f c q ≡ Version s m v → m < next
-  pub spans : (s : ℕ) → s < length found → IsSpan f pages b p s (slice_index_or found s None)
+  pub lone : (s : ℕ) → s < length found → IsLone f pages b p s (slice_index_or found s None)

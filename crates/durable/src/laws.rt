@@ -2,19 +2,21 @@
 ghost use Rattle.std.specs.Prelude.{◌≡◌, ◌≢◌, ◌⊎◌, ◌<◌, ◌+◌, ◌-◌, ◌^◌, ℕ, List, [], ◌∷◌, None, Some, true, false, length, codes};
 ghost use Rattle.geometry.specs.Sectors.{Sector};
 ghost use Rattle.geometry.specs.declared.page_addr.PageAddr.{PageAddr as Addr};
-ghost use Rattle.durable.specs.Candidates.{IsEntryOf, IsFreeable, found_with, number_above};
-ghost use Rattle.durable.specs.Calls.{Acknowledges, HasNoted, IsSafe, Remounts, SurvivesCut, SurvivesIdleCut};
+ghost use Rattle.durable.specs.Candidates.{IsEntryOf, IsFreeable, found_with, number_above, with_twin};
+ghost use Rattle.durable.specs.Calls.{Acknowledges, HasNoted, IsSafe, Remounts, SurvivesCut, SurvivesIdleCut, TellsLosses, TellsNoFalseLoss};
 ghost use Rattle.durable.specs.Choice.{IsNext, Spends, StaysOpen, left, number_after};
 ghost use Rattle.durable.specs.Collecting.{AreLiveCounts, CanCollect, HasCapacity, IsFree, IsPageOn, live_in};
 ghost use Rattle.durable.specs.Commands.{Completes, CutLeaves, IsAllowed, is_program, updates_with};
-ghost use Rattle.durable.specs.Device.{Device, IsReadOn, IsWrittenOn, NamesOn, device_in, device_of, next_number_of, next_page_of};
+ghost use Rattle.durable.specs.Device.{Device, IsReadOn, IsWrittenOn, NamesOn, device_in, device_of, losses_of, next_number_of, next_page_of};
 ghost use Rattle.durable.specs.Failures.{Changes, HasVersionlessBlock, HoldsNoVersion, IsRenumbered, IsSameFlashOf, IsSwapped, swapped};
 ghost use Rattle.durable.specs.Faults.{mount_fault_text};
 ghost use Rattle.durable.specs.Flash.{Erased, Flash, HoldsNewest, IsErased, RecoversSector, SetsPage, Torn, Version};
+ghost use Rattle.durable.specs.Losses.{HasNoLoss, IsGapless, gaps_before, gaps_noted, losses_in, versions_before, versions_noted};
 ghost use Rattle.durable.specs.Memory.{IsMappedTo, map_entry};
 ghost use Rattle.durable.specs.Mounting.{IsStampOf, next_in, after_in};
 ghost use Rattle.durable.specs.Promise.{IsConsistent, IsReadable, IsRecoverable, KeepsAcknowledged};
 ghost use Rattle.durable.specs.Runs.{Completed, CutBetween, CutInside, Event, Failed, IsMountedFrom, Runs, RunsOnReserve};
+ghost use Rattle.durable.specs.Whole.{CutsIdleUnharmed, CutsUnharmed, IsMountedWhole, IsSafelyDuplicated, IsUnharmed, KeepsWhole, RunsWhole, StaysWhole};
 ghost use Rattle.durable.specs.Runs.{acknowledged_in, begun_in, outcomes_in, failures_in};
 ghost use Rattle.durable.specs.Updates.{AreMade, IsSubsequence, Makes, Update, array_after, changed};
 ghost use Rattle.durable.specs.declared.command.Command.TheVariants as command;
@@ -189,18 +191,81 @@ pub fn candidates()
     ensures found { IsEntryOf (Some (record { at = record { block = 1; page = 0 }; number = 5; twin = None })) (Some (record { block = 1; page = 0 })) }
     ensures other { ¬ IsEntryOf (Some (record { at = record { block = 1; page = 0 }; number = 5; twin = None })) (Some (record { block = 2; page = 0 })) }
     ensures lost { ¬ IsEntryOf (Some (record { at = record { block = 1; page = 0 }; number = 5; twin = None })) None }
-    ensures newer { found_with (Some (record { at = record { block = 1; page = 0 }; number = 5; twin = None }) ∷ []) (record { block = 2; page = 3 })
+    ensures newer { found_with [] (Some (record { at = record { block = 1; page = 0 }; number = 5; twin = None }) ∷ []) (record { block = 2; page = 3 })
         (Some (record { sector = 0; number = 6 })) ≡ Some (record { at = record { block = 2; page = 3 }; number = 6; twin = None }) ∷ [] }
-    ensures older { found_with (Some (record { at = record { block = 1; page = 0 }; number = 5; twin = None }) ∷ []) (record { block = 2; page = 3 })
+    ensures older { found_with [] (Some (record { at = record { block = 1; page = 0 }; number = 5; twin = None }) ∷ []) (record { block = 2; page = 3 })
         (Some (record { sector = 0; number = 4 })) ≡ Some (record { at = record { block = 1; page = 0 }; number = 5; twin = None }) ∷ [] }
-    ensures twin { found_with (Some (record { at = record { block = 1; page = 0 }; number = 5; twin = None }) ∷ []) (record { block = 2; page = 3 })
+    ensures twin { found_with [] (Some (record { at = record { block = 1; page = 0 }; number = 5; twin = None }) ∷ []) (record { block = 2; page = 3 })
         (Some (record { sector = 0; number = 5 }))
         ≡ Some (record { at = record { block = 1; page = 0 }; number = 5; twin = Some (record { block = 2; page = 3 }) }) ∷ [] }
-    ensures empty { IsFreeable [] 1 }
-    ensures alone { ¬ IsFreeable (Some (record { at = record { block = 1; page = 0 }; number = 5; twin = None }) ∷ []) 1 }
-    ensures elsewhere { IsFreeable (Some (record { at = record { block = 1; page = 0 }; number = 5; twin = None }) ∷ []) 2 }
-    ensures same_block { ¬ IsFreeable (Some (record { at = record { block = 1; page = 0 }; number = 5; twin = Some (record { block = 1; page = 2 }) }) ∷ []) 1 }
+    ensures gap { found_with (0 ∷ 1 ∷ []) (Some (record { at = record { block = 1; page = 0 }; number = 5; twin = None }) ∷ [])
+        (record { block = 2; page = 3 }) (Some (record { sector = 0; number = 5 }))
+        ≡ Some (record { at = record { block = 2; page = 3 }; number = 5; twin = Some (record { block = 1; page = 0 }) }) ∷ [] }
+    ensures third { with_twin (0 ∷ 0 ∷ 1 ∷ []) (record { at = record { block = 1; page = 0 }; number = 5; twin = Some (record { block = 2; page = 3 }) })
+        (record { block = 4; page = 0 })
+        ≡ record { at = record { block = 1; page = 0 }; number = 5; twin = Some (record { block = 4; page = 0 }) } }
+    ensures second { with_twin (0 ∷ 0 ∷ 0 ∷ []) (record { at = record { block = 1; page = 0 }; number = 5; twin = Some (record { block = 2; page = 3 }) })
+        (record { block = 4; page = 0 })
+        ≡ record { at = record { block = 1; page = 0 }; number = 5; twin = Some (record { block = 2; page = 3 }) } }
+    ensures within { with_twin [] (record { at = record { block = 1; page = 0 }; number = 5; twin = None }) (record { block = 1; page = 3 })
+        ≡ record { at = record { block = 1; page = 0 }; number = 5; twin = None } }
+    ensures empty { IsFreeable [] [] 1 }
+    ensures alone { ¬ IsFreeable [] (Some (record { at = record { block = 1; page = 0 }; number = 5; twin = None }) ∷ []) 1 }
+    ensures elsewhere { IsFreeable [] (Some (record { at = record { block = 1; page = 0 }; number = 5; twin = None }) ∷ []) 2 }
+    ensures same_block { ¬ IsFreeable [] (Some (record { at = record { block = 1; page = 0 }; number = 5; twin = Some (record { block = 1; page = 2 }) }) ∷ [])
+        1 }
+    ensures behind_gap { ¬ IsFreeable (0 ∷ 0 ∷ 1 ∷ [])
+        (Some (record { at = record { block = 1; page = 0 }; number = 5; twin = Some (record { block = 2; page = 2 }) }) ∷ []) 1 }
     ensures text { mount_fault_text NoFreeBlock ≡ codes "no block can be freed" }
+{}
+
+/// Which pages are gaps, and which gaps are losses.
+pub fn losses()
+    ensures erased { (f : Flash) → IsErased f → IsGapless f 1 }
+    ensures gap { (f : Flash) (v : Sector) → f 1 0 ≡ Torn → f 1 1 ≡ Version 7 5 v → ¬ IsGapless f 1 }
+    ensures erased_gap { (f : Flash) (v : Sector) → f 1 0 ≡ Erased → f 1 1 ≡ Version 7 5 v → ¬ IsGapless f 1 }
+    ensures counted { (f : Flash) (v : Sector) → f 1 0 ≡ Torn → f 1 1 ≡ Version 7 5 v → gaps_before f 1 2 ≡ 1 }
+    ensures torn_last { (f : Flash) (v : Sector) → f 1 0 ≡ Version 7 5 v → f 1 1 ≡ Torn → gaps_before f 1 2 ≡ 0 }
+    ensures versions { (f : Flash) (v : Sector) → f 1 0 ≡ Torn → f 1 1 ≡ Version 7 5 v → versions_before f 1 2 ≡ 1 }
+    ensures noted { gaps_noted (0 ∷ 0 ∷ []) 1 3 1 (Some (record { sector = 7; number = 5 })) ≡ 0 ∷ 2 ∷ [] }
+    ensures not_noted { gaps_noted (0 ∷ 4 ∷ []) 1 3 1 None ≡ 0 ∷ 4 ∷ [] }
+    ensures one_more { versions_noted 1 (Some (record { sector = 7; number = 5 })) ≡ 2 }
+    ensures as_many { versions_noted 1 None ≡ 1 }
+    ensures new { (f : Flash) → IsErased f → HasNoLoss f 8 }
+    ensures lost { (f : Flash) (v : Sector) → f 1 0 ≡ Torn → HoldsNewest f 7 v 1 1 → ((d q : ℕ) → HoldsNewest f 7 v d q → d ≡ 1)
+        → ((d q : ℕ) (w : Sector) → HoldsNewest f 7 w d q → w ≡ v) → ¬ HasNoLoss f 8 }
+    ensures elsewhere { (f : Flash) (s : ℕ) (v : Sector) → HasNoLoss f 8 → s < 8 → HoldsNewest f s v 1 1
+        → (d : ℕ) × (q : ℕ) × (w : Sector) × IsGapless f d × HoldsNewest f s w d q }
+    ensures in_use { losses_in (Some (record { at = record { block = 1; page = 1 }; number = 5; twin = None }) ∷ []) (3 ∷ 2 ∷ []) 2 ≡ 2 }
+    ensures unused { losses_in (None ∷ []) (3 ∷ 2 ∷ []) 2 ≡ 0 }
+    ensures tells { (mount : Reading) (core : Layer) (f : Flash) → TellsLosses mount core → HasNoted f mount → IsWrittenOn (device_in mount) f
+        → ¬ HasNoLoss f (device_in mount).sectors → core.losses ≢ 0 }
+    ensures quiet { (mount : Reading) (core : Layer) (f : Flash) (acked begun : List Update) → TellsNoFalseLoss mount core → HasNoted f mount
+        → IsReadable f (device_in mount) acked begun → HasNoLoss f (device_in mount).sectors → core.losses ≡ 0 }
+{}
+
+/// What keeps a loss from being told where no page was lost.
+pub fn unharmed()
+    ensures spare { (f : Flash) (device : Device) → IsUnharmed f device → (b : ℕ) × (b < device.blocks) × IsSafelyDuplicated f device.sectors b }
+    ensures no_loss { (f : Flash) (device : Device) → IsUnharmed f device → HasNoLoss f device.sectors }
+    ensures alone { (f : Flash) (v : Sector) → HoldsNewest f 7 v 1 1 → ((d q : ℕ) (w : Sector) → HoldsNewest f 7 w d q → d ≡ 1)
+        → ¬ IsSafelyDuplicated f 8 1 }
+    ensures mapped { (f : Flash) (layer : Layer) → KeepsWhole f layer → 7 < length layer.map.items → map_entry layer 7 ≡ Some (record { block = 1; page = 1 })
+        → IsGapless f 1 }
+    ensures full { (f : Flash) (layer : Layer) → KeepsWhole f layer → layer.next_page ≡ Some (record { block = 1; page = 2 }) → f 1 1 ≢ Torn }
+    ensures spared { (f : Flash) (layer : Layer) → KeepsWhole f layer → layer.next_page ≡ None → (b : ℕ) × (b < layer.blocks) × IsFree layer.map.items b }
+    ensures mounted { (f : Flash) (layer : Layer) (acked begun : List Update) (from : IsMountedWhole f layer) → IsReadable f (device_in from.0) acked begun
+        → IsUnharmed f (device_in from.0) → KeepsWhole f layer × (layer.losses ≡ 0) }
+    ensures first { (f : Flash) (layer : Layer) → RunsWhole [] f layer → IsErased f × IsMountedWhole f layer }
+    ensures done { (events : List Event) (t : Flash) (new : Layer) (u : Update) → RunsWhole (Completed u (command.Erase 1) ∷ events) t new
+        → (f : Flash) × (old : Layer) × RunsWhole events f old × StaysWhole old u.sector (command.Erase 1) new × (losses_of new ≡ losses_of old) }
+    ensures failed { (events : List Event) (t : Flash) (new : Layer) (u : Update) → RunsWhole (Failed u (command.Erase 1) ∷ events) t new
+        → (f : Flash) × (old : Layer) × RunsWhole events f old × CutsUnharmed old u.sector (command.Erase 1) × IsMountedWhole t new
+        × HasVersionlessBlock t (device_of new) }
+    ensures inside { (events : List Event) (t : Flash) (new : Layer) (u : Update) → RunsWhole (CutInside u (command.Erase 1) ∷ events) t new
+        → (f : Flash) × (old : Layer) × RunsWhole events f old × CutsUnharmed old u.sector (command.Erase 1) × IsMountedWhole t new }
+    ensures idle { (events : List Event) (t : Flash) (new : Layer) → RunsWhole (CutBetween ∷ events) t new
+        → (f : Flash) × (old : Layer) × RunsWhole events f old × CutsIdleUnharmed old × IsMountedWhole t new }
 {}
 
 /// What the promise says of an erased flash, and of one with a version that nobody began.

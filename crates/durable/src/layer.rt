@@ -10,11 +10,12 @@ use geometry::PageAddr;
 impl Core {
     ghost use Rattle.durable.specs.Flash.{Flash};
     ghost use Rattle.durable.specs.Updates.{Update, array_after};
-    ghost use Rattle.durable.specs.Device.{device_of, next_page_of, next_number_of};
+    ghost use Rattle.durable.specs.Device.{device_of, losses_of, next_page_of, next_number_of};
     ghost use Rattle.durable.specs.Memory.{IsMappedTo};
     ghost use Rattle.durable.specs.Choice.{IsNext, StaysOpen, Spends, left, number_after};
     ghost use Rattle.durable.specs.Promise.{IsConsistent};
     ghost use Rattle.durable.specs.Calls.{IsSafe, SurvivesCut, SurvivesIdleCut, Acknowledges};
+    ghost use Rattle.durable.specs.Whole.{CutsIdleUnharmed, CutsUnharmed, StaysWhole};
     ghost use Rattle.durable.specs.declared.command.Command.TheVariants.{Refused};
 
     /// How many sectors the device has.
@@ -22,6 +23,14 @@ impl Core {
         ensures { result ≡ (device_of self.now).sectors }
     {
         self.map.len() as u32
+    }
+
+    /// How many losses the mount has found: pages that have become unreadable before others in their blocks, which have newest versions still. An
+    /// older version may stand for each of theirs.
+    pub fn losses(&self) -> u64
+        ensures { result ≡ losses_of self.now }
+    {
+        self.losses
     }
 
     /// The page with the sector's value, or with its trim; none for a sector that was never written.
@@ -40,6 +49,8 @@ impl Core {
         ensures safe { IsSafe self.now result }
         ensures cut { SurvivesCut self.now sector result }
         ensures idle { SurvivesIdleCut self.now }
+        ensures unharmed { CutsUnharmed self.now sector result }
+        ensures idle_unharmed { CutsIdleUnharmed self.now }
 
         // It is refused only if the numbers have run out.
         ensures progress { next_number_of self.now + 1 < 2 ^ 64 → result ≢ Refused }
@@ -52,7 +63,9 @@ impl Core {
         requires sector { sector < (device_of self.old).sectors }
         requires next { IsNext self.old command }
         ensures device { device_of self.new ≡ device_of self.old }
+        ensures losses { losses_of self.new ≡ losses_of self.old }
         ensures acknowledges { Acknowledges self.old sector command self.new }
+        ensures whole { StaysWhole self.old sector command self.new }
         ensures number { next_number_of self.new ≡ number_after command (next_number_of self.old) }
 
         // Each command but the program brings the call nearer to its end.

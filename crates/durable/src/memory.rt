@@ -21,6 +21,8 @@ pub struct Core {
     // None: no block is open.
     pub(crate) next_page: Option<PageAddr>,
     pub(crate) next_number: u64,
+    // How many losses the mount has told.
+    pub(crate) losses: u64,
     pub ghost on_device: { IsPageOn blocks pages next_page },
     pub ghost all_read: { blocks ≤ read_blocks },
     pub ghost counts_sized: { length counts ≡ blocks },

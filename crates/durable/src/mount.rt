@@ -1,4 +1,4 @@
-ghost use Rattle.std.specs.Prelude.{◌<◌, ◌≤◌, ◌^◌, length};
+ghost use Rattle.std.specs.Prelude.{◌≡◌, ◌<◌, ◌≤◌, ◌^◌, length};
 ghost use Rattle.durable.specs.Collecting.{HasCapacity};
 
 use crate::found::Candidate;
@@ -13,12 +13,17 @@ pub struct Mount {
     pub(crate) pages: u32,
     pub(crate) found: Vec<Option<Candidate>>,
     pub(crate) next_number: u64,
-    // The page whose stamp comes next.
+    // How many gaps each block has that is read.
+    pub(crate) gaps: Vec<u32>,
+    // The page whose stamp comes next, and how many pages before it in its block have versions.
     pub(crate) block: u32,
     pub(crate) page: u32,
+    pub(crate) versions: u32,
     pub ghost few_sectors: { length found.items < 2 ^ 32 },
     pub ghost has_capacity: { HasCapacity (length found.items) blocks pages },
     pub ghost page_within: { page < pages },
     pub ghost block_within: { block ≤ read_blocks },
     pub ghost all_read: { blocks ≤ read_blocks },
+    pub ghost gaps_sized: { length gaps.items ≡ read_blocks },
+    pub ghost versions_within: { versions ≤ page },
 }

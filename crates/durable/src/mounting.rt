@@ -5,6 +5,7 @@ use crate::candidates::{entries_of, freeable, is_of_device, take};
 use crate::counting::counts_of;
 use crate::fault::MountFault;
 use crate::found::Stamp;
+use crate::gaps::{count_gaps, losses};
 use crate::memory::Core;
 use crate::mount::Mount;
 use crate::owners::Owners;
@@ -13,11 +14,13 @@ use std::alloc::Global;
 
 impl Mount {
     ghost use Rattle.durable.specs.Updates.{Update};
-    ghost use Rattle.durable.specs.Device.{device_of, device_in, IsWrittenOn};
+    ghost use Rattle.durable.specs.Device.{device_of, device_in, losses_of, IsWrittenOn};
+    ghost use Rattle.durable.specs.Losses.{losses_in};
+    ghost use Rattle.durable.specs.Whole.{MountsWhole};
     ghost use Rattle.durable.specs.Collecting.{HasCapacity};
     ghost use Rattle.durable.specs.Mounting.{IsStampOf, next_in, after_in};
     ghost use Rattle.durable.specs.Promise.{IsRecoverable};
-    ghost use Rattle.durable.specs.Calls.{HasNoted, Remounts};
+    ghost use Rattle.durable.specs.Calls.{HasNoted, Remounts, TellsLosses, TellsNoFalseLoss};
     ghost use Rattle.durable.specs.declared.fault.MountFault.TheVariants.{TooManySectors, ForeignStamp, NoFreeBlock, OutOfMemory};
 
     /// A mount that has noted nothing, of a device whose blocks are all in use.
@@ -54,14 +57,19 @@ impl Mount {
         let Ok(found) = vec![in alloc; None; sectors as usize] else {
             return Err(MountFault::OutOfMemory);
         };
+        let Ok(gaps) = vec![in alloc; 0; read_blocks as usize] else {
+            return Err(MountFault::OutOfMemory);
+        };
         Ok(Mount {
             blocks,
             read_blocks,
             pages,
             found,
             next_number: 0,
+            gaps,
             block: 0,
             page: 0,
+            versions: 0,
         })
     }
 
@@ -94,12 +102,20 @@ impl Mount {
             block: self.block,
             page: self.page,
         };
-        take(&mut self.found, &mut self.next_number, at, stamp);
+        take(
+            &mut self.found,
+            &self.gaps,
+            &mut self.next_number,
+            at,
+            stamp,
+        );
+        count_gaps(&mut self.gaps, &mut self.versions, at, stamp);
         if self.page + 1 < self.pages {
             self.page += 1;
         } else {
             self.page = 0;
             self.block += 1;
+            self.versions = 0;
         }
         Ok(())
     }
@@ -109,10 +125,16 @@ impl Mount {
         requires { next_in self ≡ None }
         ensures device { IfOk result (λ core. device_of core ≡ device_in self) }
         ensures remounts { IfOk result (Remounts self) }
+
+        // The losses are the gaps in blocks that have a newest version which no block without a gap has.
+        ensures losses { IfOk result (λ core. losses_of core ≡ losses_in self.found.items self.gaps.items self.read_blocks) }
+        ensures tells { IfOk result (TellsLosses self) }
+        ensures quiet { IfOk result (TellsNoFalseLoss self) }
+        ensures whole { IfOk result (MountsWhole self) }
         ensures frees { (f : Flash) (acked begun : List Update) → HasNoted f self → IsRecoverable f (device_in self) acked begun → result ≢ Err NoFreeBlock }
         ensures cause { OnErr result ((result ≡ Err NoFreeBlock) ⊎ (result ≡ Err OutOfMemory)) }
     {
-        let avoided = freeable(&self.found, self.blocks);
+        let avoided = freeable(&self.found, &self.gaps, self.blocks);
         if avoided >= self.blocks {
             return Err(MountFault::NoFreeBlock);
         }
@@ -135,6 +157,7 @@ impl Mount {
             hand: 0,
             next_page: None,
             next_number: self.next_number,
+            losses: losses(&self.found, &self.gaps),
         })
     }
 }

@@ -1,9 +1,10 @@
 ghost use Rattle.std.specs.Prelude.{◌≡◌, ◌<◌, ◌≤◌, ◌+◌, ℕ, List, [], ◌∷◌};
 ghost use Rattle.durable.specs.Flash.{Flash, IsErased, Recovers};
-ghost use Rattle.durable.specs.Device.{Device, device_of, NamesOn};
+ghost use Rattle.durable.specs.Device.{Device, device_of, losses_of, NamesOn};
 ghost use Rattle.durable.specs.Commands.{CutLeaves};
 ghost use Rattle.durable.specs.Calls.{IsSafe, SurvivesCut};
 ghost use Rattle.durable.specs.Failures.{Changes, HasVersionlessBlock, HoldsNoVersion, IsRenumbered, IsSameFlashOf, IsSwapped};
+ghost use Rattle.durable.specs.Whole.{IsUnharmed, KeepsWhole, RunsWhole};
 ghost use Rattle.geometry.specs.Sectors.{Sector};
 ghost use Rattle.durable.specs.Updates.{AreMade, Update, array_after};
 ghost use Rattle.durable.specs.declared.command.Command.{Command as Next};
@@ -50,4 +51,12 @@ pub fn survives_as_many_failures_as_spares()
     ensures untouched { (events : List Event) (f : Flash) (layer : Layer) (spare c : ℕ) → RunsOnReserve events f layer
         → (device_of layer).read_blocks ≡ (device_of layer).blocks + spare → failures_in events ≤ spare
         → (device_of layer).blocks + failures_in events ≤ c → HoldsNoVersion f c }
+{}
+
+/// No loss is told where no page was lost: in any run of commands with any number of power cuts, and of commands that fail after which a block without
+/// versions comes in use, each mount tells none. It computes nothing: its clauses are the theorem.
+pub fn tells_no_false_loss()
+    ensures new { (f : Flash) (device : Device) → IsErased f → 0 < device.blocks → IsUnharmed f device }
+    ensures runs { (events : List Event) (f : Flash) (layer : Layer) → RunsWhole events f layer → Runs events f layer }
+    ensures whole { (events : List Event) (f : Flash) (layer : Layer) → RunsWhole events f layer → KeepsWhole f layer × (losses_of layer ≡ 0) }
 {}

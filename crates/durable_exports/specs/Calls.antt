@@ -3,12 +3,14 @@ use Rattle.std.specs.Prelude.{◌≡◌, ◌≢◌, ◌<◌, ℕ, Bool, nat_le, 
 use Rattle.geometry.specs.declared.page_addr.PageAddr.{PageAddr}
 use Rattle.durable.specs.Flash.{Flash}
 use Rattle.durable.specs.Updates.{Update, array_after}
-use Rattle.durable.specs.Device.{Device, device_of, device_in, next_page_of, next_number_of, IsWrittenOn}
+use Rattle.durable.specs.Device.{Device, device_of, device_in, losses_of, next_page_of, next_number_of, IsWrittenOn}
 use Rattle.durable.specs.Memory.{IsMappedTo}
 use Rattle.durable.specs.Mounting.{IsStampOf, next_in, after_in}
 use Rattle.durable.specs.Choice.{IsNext, Spends, StaysOpen, left, number_after}
 use Rattle.durable.specs.Promise.{IsRecoverable, IsConsistent}
-use Rattle.durable.specs.Calls.{IsSafe, SurvivesCut, SurvivesIdleCut, Acknowledges, HasNoted, Remounts}
+use Rattle.durable.specs.Calls.{IsSafe, SurvivesCut, SurvivesIdleCut, Acknowledges, HasNoted, Remounts, TellsLosses, TellsNoFalseLoss}
+use Rattle.durable.specs.Losses.{losses_in}
+use Rattle.durable.specs.Whole.{CutsIdleUnharmed, CutsUnharmed, MountsWhole, StaysWhole}
 use Rattle.durable.specs.declared.command.Command.{Command}
 use Rattle.durable.specs.declared.command.Command.TheVariants.{Refused}
 use Rattle.durable.specs.declared.found.Stamp.{Stamp}
@@ -22,6 +24,10 @@ use Rattle.durable_exports.specs.Reports.{report_of, no_totals, totals_with}
 -- the device of a layer
 abbrev pub layer_device : Layer → Device
 layer_device l = device_of l.core
+
+-- how many losses the mount of a layer has told
+abbrev pub layer_losses : Layer → ℕ
+layer_losses l = losses_of l.core
 
 -- the code of a call for a mount: 2 for a closed handle, and 9 for a layer
 abbrev pub code_of_mount : Option Seat → (Mount → ℕ) → ℕ
@@ -94,7 +100,10 @@ FreesBlock code m = (f : Flash) (acked begun : List Update) → HasNoted f m →
 
 -- a layer that a mount gave: it is consistent with the flash, and has done nothing yet
 abbrev pub IsMounted : Mount → Layer → Type 0
-IsMounted m l = (layer_device l ≡ device_in m) × Remounts m l.core × (l.totals ≡ no_totals)
+IsMounted m l =
+    (layer_device l ≡ device_in m) × Remounts m l.core × (l.totals ≡ no_totals)
+    × (layer_losses l ≡ losses_in m.found.items m.gaps.items m.read_blocks) × TellsLosses m l.core × TellsNoFalseLoss m l.core
+    × MountsWhole m l.core
 
 -- the code of a call for a sector of a layer
 abbrev pub sector_code : ℕ → ℕ → Layer → ℕ
@@ -110,12 +119,14 @@ abbrev pub IsCommandFor : ℕ → CommandReport → Layer → Type 0
 IsCommandFor s out l =
     (command : Command) × (out ≡ report_of s command) × (command ≢ Refused)
     × IsNext l.core command × IsSafe l.core command × SurvivesCut l.core s command × SurvivesIdleCut l.core
+    × CutsUnharmed l.core s command × CutsIdleUnharmed l.core
 
 -- the command of this report has succeeded for the sector
 abbrev pub IsDone : ℕ → CommandReport → Layer → Layer → Type 0
 IsDone s did l after =
     (command : Command) × (did ≡ report_of s command) × IsNext l.core command
     × (layer_device after ≡ layer_device l) × Acknowledges l.core s command after.core
+    × (layer_losses after ≡ layer_losses l) × StaysWhole l.core s command after.core
     × (next_number_of after.core ≡ number_after command (next_number_of l.core))
     × Spends command (layer_device l).pages (left l.core) (left after.core)
     × StaysOpen command (layer_device l).pages (next_page_of after.core)

@@ -6,7 +6,7 @@ ghost use Rattle.durable_exports.specs.Handles.{seat_of};
 ghost use Rattle.durable_exports.specs.Reports.{found_page};
 ghost use Rattle.durable_exports.specs.Calls.{code_of_mount, code_of_layer, OfMount, OfLayer, HasMount, HasLayer, begin_code, note_code};
 ghost use Rattle.durable_exports.specs.Calls.{finish_code, FreesBlock, Accepts, IsBegun, IsNoted, IsMounted};
-ghost use Rattle.durable_exports.specs.Calls.{sector_code, IsNewestPageOf, IsCommandFor, IsDone, stamp_of};
+ghost use Rattle.durable_exports.specs.Calls.{sector_code, IsNewestPageOf, IsCommandFor, IsDone, layer_losses, stamp_of};
 
 use crate::codes::{
     ALREADY_OPEN, CLOSED, DONE, NO_BLOCK, NO_MEMORY, OUT_OF_ORDER, TOO_FEW_BLOCKS, WRONG_KIND,
@@ -279,6 +279,28 @@ pub extern "C" fn mintlintel_core_counts(
     let code = match &*seat {
         Seat::Mounted(layer) => {
             *out = layer.totals;
+            DONE
+        }
+        Seat::Mounting(_) => WRONG_KIND,
+    };
+    handle.put(seat);
+    code
+}
+
+/// How many losses the mount has found.
+#[unsafe(no_mangle)]
+pub extern "C" fn mintlintel_core_losses(alloc: Global, handle: &mut Handle, out: &mut u64) -> u32
+    ensures code { result ≡ code_of_layer (seat_of handle.old) (λ _. 0) }
+    ensures losses { OfLayer (seat_of handle.old) (λ l. out.new ≡ layer_losses l) }
+    ensures report { result ≢ 0 → out.new ≡ out.old }
+    ensures same { seat_of handle.new ≡ seat_of handle.old }
+{
+    let Some(seat) = handle.take(alloc) else {
+        return CLOSED;
+    };
+    let code = match &*seat {
+        Seat::Mounted(layer) => {
+            *out = layer.core.losses();
             DONE
         }
         Seat::Mounting(_) => WRONG_KIND,

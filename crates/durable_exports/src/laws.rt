@@ -7,7 +7,9 @@ ghost use Rattle.durable.specs.Updates.{Update};
 ghost use Rattle.durable.specs.Device.{Device, device_in};
 ghost use Rattle.durable.specs.Mounting.{next_in, after_in};
 ghost use Rattle.durable.specs.Promise.{IsRecoverable};
-ghost use Rattle.durable.specs.Calls.{HasNoted, Remounts};
+ghost use Rattle.durable.specs.Calls.{HasNoted, Remounts, TellsLosses, TellsNoFalseLoss};
+ghost use Rattle.durable.specs.Losses.{losses_in};
+ghost use Rattle.durable.specs.Whole.{CutsIdleUnharmed, CutsUnharmed, MountsWhole, StaysWhole};
 ghost use Rattle.durable.specs.declared.command.Command.{Command as Next};
 ghost use Rattle.durable.specs.declared.command.Command.TheVariants as command;
 ghost use Rattle.durable.specs.declared.found.Stamp.{Stamp};
@@ -20,7 +22,7 @@ ghost use Rattle.durable_exports.specs.declared.seat.Seat.{Seat};
 ghost use Rattle.durable_exports.specs.declared.seat.Seat.TheVariants.{Mounting, Mounted};
 ghost use Rattle.durable_exports.specs.Handles.{seat_of};
 ghost use Rattle.durable_exports.specs.Reports.{found_page, place_of, page_at, report_of, one_more, no_totals, totals_with};
-ghost use Rattle.durable_exports.specs.Calls.{layer_device, code_of_mount, code_of_layer, OfMount, OfLayer, HasMount, HasLayer};
+ghost use Rattle.durable_exports.specs.Calls.{layer_device, layer_losses, code_of_mount, code_of_layer, OfMount, OfLayer, HasMount, HasLayer};
 ghost use Rattle.durable_exports.specs.Calls.{begin_code, note_code, finish_code, sector_code, stamp_of};
 ghost use Rattle.durable_exports.specs.Calls.{Accepts, FreesBlock, IsBegun, IsNoted, IsMounted, IsNewestPageOf, IsCommandFor, IsDone};
 
@@ -99,6 +101,14 @@ pub fn calls()
     ensures mounted { (m : Mount) (l : Layer) → IsMounted m l → Remounts m l.core }
     ensures idle { (m : Mount) (l : Layer) → IsMounted m l → l.totals ≡ no_totals }
     ensures sizes { (m : Mount) (l : Layer) → IsMounted m l → layer_device l ≡ device_in m }
+    ensures losses { (m : Mount) (l : Layer) → IsMounted m l → layer_losses l ≡ losses_in m.found.items m.gaps.items m.read_blocks }
+    ensures tells { (m : Mount) (l : Layer) → IsMounted m l → TellsLosses m l.core }
+    ensures quiet { (m : Mount) (l : Layer) → IsMounted m l → TellsNoFalseLoss m l.core }
+    ensures whole { (m : Mount) (l : Layer) → IsMounted m l → MountsWhole m l.core }
+    ensures unharmed { (out : CommandReport) (l : Layer) → IsCommandFor 7 out l → (c : Next) × (out ≡ report_of 7 c) × CutsUnharmed l.core 7 c }
+    ensures idle_unharmed { (out : CommandReport) (l : Layer) → IsCommandFor 7 out l → CutsIdleUnharmed l.core }
+    ensures stays { (did : CommandReport) (l k : Layer) → IsDone 7 did l k → (c : Next) × (did ≡ report_of 7 c) × StaysWhole l.core 7 c k.core }
+    ensures keeps { (did : CommandReport) (l k : Layer) → IsDone 7 did l k → layer_losses k ≡ layer_losses l }
     ensures beyond { (l : Layer) → (layer_device l).sectors ≡ 8 → IsNewestPageOf 8 None l }
     ensures told { (out : CommandReport) (l : Layer) → IsCommandFor 7 out l → (c : Next) × (out ≡ report_of 7 c) }
     ensures done { (did : CommandReport) (l k : Layer) → IsDone 7 did l k → (c : Next) × (did ≡ report_of 7 c) × (k.totals ≡ totals_with c l.totals) }

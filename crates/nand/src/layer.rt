@@ -5,7 +5,7 @@ ghost use Rattle.geometry.specs.declared.answer.Was.TheVariants as was;
 ghost use Rattle.durable.specs.Collecting.{HasCapacity};
 ghost use Rattle.durable.specs.Updates.{Update, array_after};
 ghost use Rattle.durable.specs.declared.fault.MountFault.TheVariants as mount_fault;
-ghost use Rattle.durable.specs.Device.{IsWrittenOn};
+ghost use Rattle.durable.specs.Device.{IsWrittenOn, losses_of};
 ghost use Rattle.durable.specs.Flash.{IsErased};
 ghost use Rattle.nand.specs.Numbers.{good_before};
 ghost use Rattle.nand.specs.Opened.{CanOpen, Fails, HasMarkedFailed, IsClosed, IsOpenLayer, IsSameDevice, IsTrueCause, KeepsDevice, ReadsSector};
@@ -118,6 +118,14 @@ impl<N: Nand> Durable<N> {
         ensures { result ≡ layer_sectors self.now }
     {
         self.core.sectors()
+    }
+
+    /// How many losses the open has found: pages that have become unreadable before others of their blocks, which have newest versions still. An
+    /// older version may stand for each of theirs.
+    pub fn losses(&self) -> u64
+        ensures { result ≡ losses_of self.now.core }
+    {
+        self.core.losses()
     }
 
     /// How many blocks are in reserve: so many commands may fail before a call tells one.

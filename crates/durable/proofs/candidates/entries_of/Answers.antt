@@ -15,8 +15,11 @@ pushed Q map new k n size is before here = below_more _ n
     (subst (λ (xs : List (Option PageAddr)). Q n (get_or xs n None)) (sym is) (subst (Q n) (sym (get_or_push map k None n size)) here))
 
 abbrev AwayAt : List (Option Candidate) → ℕ → ℕ → Option PageAddr → Type 0
-AwayAt found avoided s k = (x : Candidate) (at : PageAddr) → get_or found s None ≡ Some x → k ≡ Some at → (x.at.block ≡ avoided → HasTwin x avoided)
+AwayAt found avoided s k = (x : Candidate) (at : PageAddr) → get_or found s None ≡ Some x → k ≡ Some at → (x.at.block ≡ avoided → HasTwin [] x avoided)
     → at.block ≢ avoided
+
+abbrev StaysAt : List (Option Candidate) → ℕ → ℕ → Option PageAddr → Type 0
+StaysAt found avoided s k = (x : Candidate) (at : PageAddr) → get_or found s None ≡ Some x → k ≡ Some at → at ≢ x.at → x.at.block ≡ avoided
 
 pub loop-candidate-preserved : goal.loop-candidate-preserved
 loop-candidate-preserved c =
@@ -30,6 +33,8 @@ loop-candidate-preserved c =
           items before.entries c.entry_of.ensures.entry;
       away = λ s x at lt. pushed (AwayAt found c.args.avoided) map c.push.new.self.items c.entry_of.result c.loop-candidate.candidate-index before.size items
           (λ j l y to. before.away j y to l) c.entry_of.ensures.away s lt x at;
+      stays = λ s x at lt. pushed (StaysAt found c.args.avoided) map c.push.new.self.items c.entry_of.result c.loop-candidate.candidate-index before.size
+          items (λ j l y to. before.stays j y to l) c.entry_of.ensures.stays s lt x at;
     }
 
 pub returns-clause-free : goal.returns-clause-free
@@ -40,3 +45,8 @@ returns-clause-free c freeable =
     avoided_free c.args.found.now loop.map.items c.args.avoided size
     (λ s lt. loop.invariant.entries s (omega (arith, size, loop.invariant.size, lt)))
     (λ s x at lt. loop.invariant.away s x at (omega (arith, size, loop.invariant.size, lt))) freeable
+
+pub returns-clause-stays : goal.returns-clause-stays
+returns-clause-stays c s x at lt =
+    let loop = c.loop-candidate in
+    loop.invariant.stays s x at (omega (arith, lt, loop.invariant.size, c.loop-candidate-test.false, loop.auto.candidate-index-end))

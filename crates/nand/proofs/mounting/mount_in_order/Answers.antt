@@ -1,11 +1,13 @@
-use Rattle.std.proofs.Common.{◌∙◌, Option, Err, IfSome, sym, ap, subst, arith}
+use Rattle.std.proofs.Common.{◌∙◌, Option, Err, IfSome, refl, sym, ap, subst, arith}
 use Rattle.geometry.specs.declared.page_addr.PageAddr.{PageAddr}
 use Rattle.durable.specs.Device.{Device, IsWrittenOn}
 use Rattle.durable.specs.Flash.{Flash}
 use Rattle.durable.specs.Mounting.{IsStampOf}
 use Rattle.durable.specs.Promise.{IsReadable, IsRecoverable}
 use Rattle.nand.specs.Nand.{ReadsStamp}
+use Rattle.nand.specs.declared.flash.Shape.{Shape}
 use Rattle.nand.specs.Numbers.{numbered}
+use Rattle.nand.specs.Opened.{device_using}
 use Rattle.nand.proofs.Mounted.{noted, falls}
 use Rattle.nand.proofs.mounting.mount_in_order.Goals as goal
 
@@ -23,6 +25,16 @@ returns-in-Err-note-clause-foreign g c is =
     let known = subst (λ (x : Option PageAddr). IfSome x (λ a. IsStampOf f a.block a.page c.noted.result)) (sym next) stamp in
     let accepted = c.note.ensures.accepts f (subst (λ (d : Device). IsWrittenOn d f) (sym inv.device) is) known in
     absurd (cc (sym accepted ∙ c.in-Err-note.is))
+
+pub loop-at-init : goal.loop-at-init
+loop-at-init g c = record {
+  device = c.in-Ok.ensures.device ∙ ap (λ (s : Shape). device_using c.args.used s c.args.sectors) c.shape-shape.ensures;
+  flash = refl;
+  shape = refl;
+  bad = refl;
+  faults = λ cause. refl;
+  noted = c.in-Ok.ensures.notes (numbered c.args.numbers.now (g.N.Nand.flash c.args.nand.now));
+}
 
 pub loop-at-smaller : goal.loop-at-smaller
 loop-at-smaller g c =

@@ -7,6 +7,7 @@ use Rattle.durable.specs.declared.command.Command.{Command}
 use Rattle.durable.proofs.Done.{Becomes}
 use Rattle.durable.proofs.Collects.{collects_after, spends_after, page_after_on, first_page_on}
 use Rattle.durable.proofs.Promises.{acknowledges}
+use Rattle.durable.proofs.Whole.{remains_whole}
 use Rattle.durable.proofs.memory.Core.done.Goals as goal
 
 pub invariant_of-self-clause-on_device : goal.invariant_of-self-clause-on_device
@@ -103,3 +104,33 @@ returns-in-Erase-clause-acknowledges c =
     (subst (λ (m : Command). Becomes core c.args.sector m core.map.items core.next_number (Some (record { block = c.in-Erase.block; page = 0 })))
     (sym c.in-Erase.is)
     (refl, refl, refl)) refl refl refl
+
+pub returns-in-Program-clause-whole : goal.returns-in-Program-clause-whole
+returns-in-Program-clause-whole c =
+    let core = c.args.self.now in
+    remains_whole core _ c.args.sector c.args.command c.requires.sector c.requires.next
+    (subst (λ (m : Command). Becomes core c.args.sector m c.remap.new.map.items
+    (c.in-Program.number + 1) c.page_after-self.result)
+    (sym c.in-Program.is) (c.remap.ensures.map, refl, (c.page_after-self.ensures.next, c.page_after-self.ensures.last))) refl
+
+pub returns-in-Copy-clause-whole : goal.returns-in-Copy-clause-whole
+returns-in-Copy-clause-whole c =
+    let core = c.args.self.now in
+    remains_whole core _ c.args.sector c.args.command c.requires.sector c.requires.next
+    (subst (λ (m : Command). Becomes core c.args.sector m c.remap-in-Copy.new.map.items core.next_number
+    c.page_after-self-in-Copy.result)
+    (sym c.in-Copy.is) (c.remap-in-Copy.ensures.map, refl, (c.page_after-self-in-Copy.ensures.next, c.page_after-self-in-Copy.ensures.last))) refl
+
+pub returns-in-Erase-clause-whole : goal.returns-in-Erase-clause-whole
+returns-in-Erase-clause-whole c =
+    let core = c.args.self.now in
+    remains_whole core _ c.args.sector c.args.command c.requires.sector c.requires.next
+    (subst (λ (m : Command). Becomes core c.args.sector m core.map.items core.next_number (Some (record { block = c.in-Erase.block; page = 0 })))
+    (sym c.in-Erase.is)
+    (refl, refl, refl)) refl
+
+pub returns-in-Refused-clause-whole : goal.returns-in-Refused-clause-whole
+returns-in-Refused-clause-whole c =
+    let core = c.args.self.now in
+    remains_whole core core c.args.sector c.args.command c.requires.sector c.requires.next
+    (subst (λ (m : Command). Becomes core c.args.sector m core.map.items core.next_number core.next_page) (sym c.in-Refused.is) (refl, refl, refl)) refl

@@ -1,27 +1,42 @@
-use Rattle.std.proofs.Common.{refl, arith, ◌≡◌, ◌+◌, ◌<◌, ◌^◌, ◌∙◌, sym, subst, ℕ, length, IfSome}
+use Rattle.std.proofs.Common.{refl, arith, ◌≡◌, ◌+◌, ◌<◌, ◌^◌, ◌∙◌, sym, ap, subst, ℕ, List, length, IfSome}
 use Rattle.std.proofs.lemmas.Bool.{false≢true}
 use Rattle.geometry.specs.declared.page_addr.PageAddr.{PageAddr}
 use Rattle.durable.specs.Device.{device_in}
 use Rattle.durable.specs.Mounting.{IsStampOf}
-use Rattle.durable.proofs.Noting.{of_next, fits_device}
-use Rattle.durable.proofs.Scans.{noted, finds_wrap}
+use Rattle.durable.specs.Candidates.{found_with}
+use Rattle.durable.proofs.Noting.{of_next, some_left, fits_device}
+use Rattle.durable.proofs.Scans.{finds_wrap}
+use Rattle.durable.proofs.Counted.{noted_all, counts_wrap, prefers_wrap}
 use Rattle.durable.proofs.mount.Mount.note.Goals as goal
 
 pub returns-then-self-clause-notes : goal.returns-then-self-clause-notes
-returns-then-self-clause-notes c f finds stamp =
+returns-then-self-clause-notes c f was stamp =
     let mount = c.args.self.now in
     let at : PageAddr = record { block = mount.block; page = mount.page } in
-    noted f mount.pages mount.block mount.page mount.found.items mount.next_number at c.args.stamp c.take.new.found.items c.take.new.next_number refl refl
-    c.take.ensures.found c.take.ensures.number finds (of_next mount.read_blocks at (λ at. IsStampOf f at.block at.page c.args.stamp) c.requires stamp)
+    let lt : mount.block < length mount.gaps.items = omega (arith, some_left mount.read_blocks at c.requires, mount.gaps_sized) in
+    let now = noted_all f mount.pages mount.block mount.page mount.gaps.items mount.versions mount.found.items mount.next_number at c.args.stamp
+    c.take.new.found.items c.take.new.next_number c.count_gaps.new.gaps.items c.count_gaps.new.versions refl refl lt
+    (c.take.ensures.found ∙ ap (λ (g : List ℕ). found_with g mount.found.items at c.args.stamp) c.deref.ensures.value) c.take.ensures.number
+    c.count_gaps.ensures.gaps c.count_gaps.ensures.versions
+    (of_next mount.read_blocks at (λ at. IsStampOf f at.block at.page c.args.stamp) c.requires stamp) (was.finds, was.counts, was.prefers) in
+    record { finds = now.0; counts = now.1; prefers = now.2 }
 
 pub returns-else-self-clause-notes : goal.returns-else-self-clause-notes
-returns-else-self-clause-notes c f finds stamp =
+returns-else-self-clause-notes c f was stamp =
     let mount = c.args.self.now in
     let at : PageAddr = record { block = mount.block; page = mount.page } in
     let full : mount.page + 1 ≡ mount.pages = omega (arith, c.if-self.false, mount.page_within) in
-    finds_wrap f mount.pages mount.block mount.page c.take.new.found.items c.take.new.next_number full
-    (noted f mount.pages mount.block mount.page mount.found.items mount.next_number at c.args.stamp c.take.new.found.items c.take.new.next_number refl refl
-    c.take.ensures.found c.take.ensures.number finds (of_next mount.read_blocks at (λ at. IsStampOf f at.block at.page c.args.stamp) c.requires stamp))
+    let lt : mount.block < length mount.gaps.items = omega (arith, some_left mount.read_blocks at c.requires, mount.gaps_sized) in
+    let now = noted_all f mount.pages mount.block mount.page mount.gaps.items mount.versions mount.found.items mount.next_number at c.args.stamp
+    c.take.new.found.items c.take.new.next_number c.count_gaps.new.gaps.items c.count_gaps.new.versions refl refl lt
+    (c.take.ensures.found ∙ ap (λ (g : List ℕ). found_with g mount.found.items at c.args.stamp) c.deref.ensures.value) c.take.ensures.number
+    c.count_gaps.ensures.gaps c.count_gaps.ensures.versions
+    (of_next mount.read_blocks at (λ at. IsStampOf f at.block at.page c.args.stamp) c.requires stamp) (was.finds, was.counts, was.prefers) in
+    record {
+      finds = finds_wrap f mount.pages mount.block mount.page c.take.new.found.items c.take.new.next_number full now.0;
+      counts = counts_wrap f mount.pages mount.block (mount.page + 1) c.count_gaps.new.gaps.items c.count_gaps.new.versions full now.1;
+      prefers = prefers_wrap f mount.pages mount.block (mount.page + 1) c.count_gaps.new.gaps.items c.take.new.found.items full now.2;
+    }
 
 pub returns-then-not-is_of_device-clause-accepts : goal.returns-then-not-is_of_device-clause-accepts
 returns-then-not-is_of_device-clause-accepts c f written stamp =

@@ -1,0 +1,366 @@
+-- A flash that has lost no page is told no loss of: what each command leaves.
+use Rattle.std.proofs.Common.{◌≡◌, ◌≢◌, ◌⊎◌, inl, inr, ⊎_elim, ◌+◌, ◌<◌, ◌≤◌, ℕ, List, length, Option, None, Some, get_or, set, refl, sym, ◌∙◌, ap, subst}
+use Rattle.std.proofs.Common.{arith}
+use Rattle.std.proofs.lemmas.Bool.{cases_eq, cases_lt}
+use Rattle.std.proofs.lemmas.List.{get_or-set_same, get_or-set_other, length-set}
+use Rattle.geometry.specs.Sectors.{Sector}
+use Rattle.geometry.specs.declared.page_addr.PageAddr.{PageAddr}
+use Rattle.durable.specs.declared.command.Command.{Command}
+use Rattle.durable.specs.declared.command.Command.TheVariants.{Program, Copy, Erase, Refused}
+use Rattle.durable.specs.declared.memory.Core.{Core}
+use Rattle.durable.specs.Flash.{PageContents, Erased, Torn, Version, Flash, HoldsNewest, SetsPage, LosesPages}
+use Rattle.durable.specs.Collecting.{IsFree}
+use Rattle.durable.specs.Commands.{CutLeaves, Completes}
+use Rattle.durable.specs.Device.{device_of}
+use Rattle.durable.specs.Losses.{version_count, IsGapless, HasNoLoss}
+use Rattle.durable.specs.Memory.{Represents, IsMappedTo, IsErasedFrom, map_entry}
+use Rattle.durable.specs.Choice.{IsNext}
+use Rattle.durable.specs.Spare.{LeavesSpare}
+use Rattle.durable.specs.Whole.{IsSafelyDuplicated, IsUnharmed, IsFullBefore, IsSafelySpared, KeepsWhole}
+use Rattle.durable.specs.Whole.{CutsUnharmed, CutsIdleUnharmed, StaysWhole}
+use Rattle.durable.specs.Updates.{array_after}
+use Rattle.durable.proofs.Cells.{was, stays, same_held, torn_holds_none, erased_holds_none, kept_in_loss, kept_beside}
+use Rattle.durable.proofs.Moments.{erased_next, source_shows, programmed_kept, programmed_shows, copied_kept, copied_shows}
+use Rattle.durable.proofs.Done.{IsPageAfter, BecomesCore}
+use Rattle.durable.proofs.Collects.{not_last, copy_apart}
+use Rattle.durable.proofs.Spares.{nothing_put, none_set}
+
+module _ (f t : Flash) where
+  -- a block whose pages are the same has no gap still
+  same_whole : (b : ℕ) → ((p : ℕ) → t b p ≡ f b p) → IsGapless f b → IsGapless t b
+  same_whole b same whole = λ p q s m v lt e. ap version_count (same p) ∙ whole p q s m v lt (sym (same q) ∙ e)
+
+  -- nor has the open block, whatever is put into its next page
+  put_here : (b p : ℕ) (x : PageContents) → ((q : ℕ) → p ≤ q → f b q ≡ Erased) → ((q : ℕ) → q < p → version_count (f b q) ≡ 1) → SetsPage f t b p x
+      → IsGapless t b
+  put_here b p x erased full puts = λ i j s m v lt e. ⊎_elim
+      (λ behind. absurd (erased_holds_none s m v
+      (sym (puts.others b j (inr (λ is. omega (arith, is, behind))) ∙ erased j (omega (arith, behind))) ∙ e)))
+      (λ before. ap version_count (puts.others b i (inr (λ is. omega (arith, is, lt, before)))) ∙ full i (omega (arith, lt, before)))
+      (cases_lt p j)
+
+  put_whole : (b p : ℕ) (x : PageContents) → ((q : ℕ) → p ≤ q → f b q ≡ Erased) → ((q : ℕ) → q < p → version_count (f b q) ≡ 1) → SetsPage f t b p x
+      → (c : ℕ) → IsGapless f c → IsGapless t c
+  put_whole b p x erased full puts c whole = ⊎_elim
+      (λ here. subst (IsGapless t) (sym here) (put_here b p x erased full puts))
+      (λ differs. same_whole c (λ q. puts.others c q (inl differs)) whole)
+      (cases_eq c b)
+
+  lost_whole : (b : ℕ) → LosesPages f t b → (c : ℕ) → c ≢ b → IsGapless f c → IsGapless t c
+  lost_whole b loses c differs whole = same_whole c (λ q. loses.outside c q differs) whole
+
+-- the sector's newest version is in such a block, or it has none
+abbrev Stands : Flash → (ℕ → Type 0) → ℕ → Type 0
+Stands t P s = ((d : ℕ) × (q : ℕ) × (v : Sector) × P d × HoldsNewest t s v d q) ⊎ ((d q m : ℕ) (v : Sector) → t d q ≢ Version s m v)
+
+kept_stands : (t : Flash) (P : ℕ → Type 0) (s : ℕ) (c : Sector) (k : Option PageAddr) → IsMappedTo t s c k
+    → (k ≡ None → (d q m : ℕ) (v : Sector) → t d q ≢ Version s m v) → ((at : PageAddr) → k ≡ Some at → P at.block) → Stands t P s
+kept_stands t P s c None kept none holds = inr (none refl)
+kept_stands t P s c (Some at) kept none holds = inl (at.block, at.page, c, holds at refl, kept)
+
+no_loss_of : (t : Flash) (sectors : ℕ) → ((s : ℕ) → s < sectors → Stands t (IsGapless t) s) → HasNoLoss t sectors
+no_loss_of t sectors all = λ s b p v lt shows. ⊎_elim (λ there. there) (λ none. absurd (none b p shows.number v shows.held)) (all s lt)
+
+abbrev WholeBeside : Flash → ℕ → ℕ → Type 0
+WholeBeside t b d = (d ≢ b) × IsGapless t d
+
+safe_of : (t : Flash) (sectors b : ℕ) → ((s : ℕ) → s < sectors → Stands t (WholeBeside t b) s) → IsSafelyDuplicated t sectors b
+safe_of t sectors b all = λ s p v lt shows. ⊎_elim
+    (λ there. (there.0, there.1, there.2, there.3.0, there.3.1, there.4))
+    (λ none. absurd (none b p shows.number v shows.held))
+    (all s lt)
+
+module _ (f t : Flash) (b p : ℕ) (x : PageContents) (erased : f b p ≡ Erased) (puts : SetsPage f t b p x)
+    (stay : (c : ℕ) → IsGapless f c → IsGapless t c) where
+  -- a block stays safely doubled where one page more holds nothing, or a version that stands outside of it
+  safe_put : (sectors c : ℕ) → IsSafelyDuplicated f sectors c
+      → ((s m : ℕ) (v : Sector) → x ≡ Version s m v → (d : ℕ) × (q : ℕ) × (d ≢ c) × IsGapless f d × (f d q ≡ Version s m v))
+      → IsSafelyDuplicated t sectors c
+  safe_put sectors c doubled source = λ s q v lt shows. ⊎_elim
+      (λ h. let from = source s shows.number v h in (
+        from.0,
+        from.1,
+        v,
+        from.2,
+        stay from.0 from.3,
+        record {
+          number = shows.number;
+          held = stays f t b p x erased puts from.0 from.1 s shows.number v from.4;
+          newest = shows.newest;
+        },
+      ))
+      (λ h. let before : HoldsNewest f s v c q = record {
+        number = shows.number;
+        held = h;
+        newest = λ e r m w g. shows.newest e r m w (stays f t b p x erased puts e r s m w g);
+      } in
+      let other = doubled s q v lt before in (
+        other.0,
+        other.1,
+        other.2,
+        other.3,
+        stay other.0 other.4,
+        record {
+          number = other.5.number;
+          held = stays f t b p x erased puts other.0 other.1 s other.5.number other.2 other.5.held;
+          newest = λ e r m w g. ⊎_elim (λ y. let from = source s m w y in other.5.newest from.0 from.1 m w from.4) (λ y. other.5.newest e r m w y)
+              (was f t b p x erased puts e r s m w g);
+        },
+      ))
+      (was f t b p x erased puts c q s shows.number v shows.held)
+
+module _ (f t : Flash) (core : Core) (array : ℕ → Sector) (stands : Represents f core array) (clears : LeavesSpare f core) (keeps : KeepsWhole f core) where
+  abbrev sectors : ℕ
+  sectors = length core.map.items
+
+  from_map : (P : ℕ → Type 0) → ((s : ℕ) (at : PageAddr) → s < sectors → map_entry core s ≡ Some at → P at.block) → (s : ℕ) → s < sectors → Stands f P s
+  from_map P holds = λ s lt. kept_stands f P s (array s) (map_entry core s) (stands.mapped s lt) (λ is d q m v. clears.known s d q m v lt is)
+      (λ at is. holds s at lt is)
+
+  free_safe : (b : ℕ) → IsFree core.map.items b → IsSafelyDuplicated f sectors b
+  free_safe b none = safe_of f sectors b (from_map (WholeBeside f b) (λ s at lt is. (none s at lt is, keeps.mapped s at lt is)))
+
+  spare_now : (k : Option PageAddr) → IsSafelySpared f core.map.items core.blocks k → (b : ℕ) × (b < core.blocks) × IsSafelyDuplicated f sectors b
+  spare_now None spare = (spare.0, spare.1, free_safe spare.0 spare.2)
+  spare_now (Some to) (inl spare) = (spare.0, spare.1, free_safe spare.0 spare.3)
+  spare_now (Some to) (inr here) = (to.block, here.0, here.1)
+
+  pub idle_unharmed : IsUnharmed f (device_of core)
+  idle_unharmed = record { no_loss = no_loss_of f sectors (from_map (IsGapless f) keeps.mapped); spare = spare_now core.next_page keeps.spared }
+
+  same_unharmed : ((b p : ℕ) → t b p ≡ f b p) → IsUnharmed t (device_of core)
+  same_unharmed same = subst (λ (g : Flash). IsUnharmed g (device_of core)) (λ i b p. sym (same b p) i) idle_unharmed
+
+  -- the open block has versions up to its next page, and is erased from there
+  module _ (at : PageAddr) (x : PageContents) (is : core.next_page ≡ Some at) (puts : SetsPage f t at.block at.page x) where
+    pub opens : IsGapless t at.block
+    opens = put_here f t at.block at.page x (subst (IsErasedFrom f) is stands.erased) (subst (IsFullBefore f) is keeps.full) puts
+
+    pub stay_whole : (c : ℕ) → IsGapless f c → IsGapless t c
+    stay_whole = put_whole f t at.block at.page x (subst (IsErasedFrom f) is stands.erased) (subst (IsFullBefore f) is keeps.full) puts
+
+    pub nothing_there : (s : ℕ) → s < sectors → map_entry core s ≡ None → ((m : ℕ) (v : Sector) → x ≢ Version s m v) → (d q m : ℕ) (v : Sector)
+        → t d q ≢ Version s m v
+    nothing_there s lt nowhere other = nothing_put f t at.block at.page x (erased_next f t core array stands at is) puts s
+        (λ d q m v. clears.known s d q m v lt nowhere) other
+
+  torn_unharmed : (at : PageAddr) → core.next_page ≡ Some at → SetsPage f t at.block at.page Torn → IsUnharmed t (device_of core)
+  torn_unharmed at is puts = record {
+    no_loss = no_loss_of t sectors (λ s lt. kept_stands t (IsGapless t) s (array s) (map_entry core s)
+        (kept_beside f t at.block at.page Torn (erased_next f t core array stands at is) puts s (array s) (map_entry core s) (stands.mapped s lt)
+        (torn_holds_none s))
+        (λ nowhere. nothing_there at Torn is puts s lt nowhere (torn_holds_none s))
+        (λ to there. stay_whole at Torn is puts to.block (keeps.mapped s to lt there)));
+    spare = torn_spare (spare_now core.next_page keeps.spared);
+  }
+    where
+      torn_spare : (b : ℕ) × (b < core.blocks) × IsSafelyDuplicated f sectors b → (b : ℕ) × (b < core.blocks) × IsSafelyDuplicated t sectors b
+      torn_spare spare = (
+        spare.0,
+        spare.1,
+        safe_put f t at.block at.page Torn (erased_next f t core array stands at is) puts (stay_whole at Torn is puts) sectors spare.0 spare.2
+            (λ s m v e. absurd (torn_holds_none s m v e)),
+      )
+
+  -- a program: its sector's newest version is there, and that of each other sector where it was
+  module _ (at : PageAddr) (is : core.next_page ≡ Some at) (k n : ℕ) (c : Sector) (number : n ≡ core.next_number)
+      (puts : SetsPage f t at.block at.page (Version k n c)) where
+    program_stands : (P : ℕ → Type 0) → P at.block → ((s : ℕ) (to : PageAddr) → s < sectors → map_entry core s ≡ Some to → P to.block)
+        → (s : ℕ) → s < sectors → Stands t P s
+    program_stands P here holds = λ s lt. ⊎_elim
+        (λ same. inl (
+          at.block,
+          at.page,
+          c,
+          here,
+          subst (λ (j : ℕ). HoldsNewest t j c at.block at.page) (sym same) (programmed_shows f t core array stands at is k n c number puts),
+        ))
+        (λ differs. kept_stands t P s (array s) (map_entry core s) (programmed_kept f t core array stands at is k n c number puts s lt differs)
+        (λ nowhere. nothing_there at (Version k n c) is puts s lt nowhere (λ m v h. differs (sym (same_held k n c s m v h).0)))
+        (λ to there. holds s to lt there))
+        (cases_eq s k)
+
+    program_unharmed : (b : ℕ) → b < core.blocks → b ≢ at.block → IsFree core.map.items b → IsUnharmed t (device_of core)
+    program_unharmed b within apart none =
+        let open_whole = opens at (Version k n c) is puts in
+        let still = stay_whole at (Version k n c) is puts in
+        record {
+          no_loss = no_loss_of t sectors (program_stands (IsGapless t) open_whole (λ s to lt there. still to.block (keeps.mapped s to lt there)));
+          spare = (
+            b,
+            within,
+            safe_of t sectors b (program_stands (WholeBeside t b) ((λ e. apart (sym e)), open_whole)
+                (λ s to lt there. (none s to lt there, still to.block (keeps.mapped s to lt there)))),
+          );
+        }
+
+  -- a copy: its sector's newest version is there too
+  module _ (to from : PageAddr) (is : core.next_page ≡ Some to) (k : ℕ) (klt : k < sectors) (at : map_entry core k ≡ Some from)
+      (puts : SetsPage f t to.block to.page (f from.block from.page)) where
+    copy_stands : (P : ℕ → Type 0) → P to.block → ((s : ℕ) (a : PageAddr) → s < sectors → map_entry core s ≡ Some a → P a.block)
+        → (s : ℕ) → s < sectors → Stands t P s
+    copy_stands P here holds = λ s lt. ⊎_elim
+        (λ same. inl (
+          to.block,
+          to.page,
+          array k,
+          here,
+          subst (λ (j : ℕ). HoldsNewest t j (array k) to.block to.page) (sym same) (copied_shows f t core array stands to from is k klt at puts),
+        ))
+        (λ differs. kept_stands t P s (array s) (map_entry core s) (copied_kept f t core array stands to from is k klt at puts s lt differs)
+        (λ nowhere. nothing_there to (f from.block from.page) is puts s lt nowhere (λ m v h. clears.known s from.block from.page m v lt nowhere h))
+        (λ a there. holds s a lt there))
+        (cases_eq s k)
+
+    copy_spare : from.block ≢ to.block → IsSafelySpared f core.map.items core.blocks (Some to)
+        → (b : ℕ) × (b < core.blocks) × IsSafelyDuplicated t sectors b
+    copy_spare apart (inl spare) = (
+      spare.0,
+      spare.1,
+      safe_of t sectors spare.0 (copy_stands (WholeBeside t spare.0) ((λ e. spare.2 (sym e)), opens to (f from.block from.page) is puts)
+          (λ s a lt there. (spare.3 s a lt there, stay_whole to (f from.block from.page) is puts a.block (keeps.mapped s a lt there)))),
+    )
+    copy_spare apart (inr here) = (
+      to.block,
+      here.0,
+      safe_put f t to.block to.page (f from.block from.page) (erased_next f t core array stands to is) puts
+          (stay_whole to (f from.block from.page) is puts) sectors to.block here.1
+          (λ s m v e. (from.block, from.page, apart, keeps.mapped k from klt at, e)),
+    )
+
+    copy_unharmed : from.block ≢ to.block → IsSafelySpared f core.map.items core.blocks (Some to) → IsUnharmed t (device_of core)
+    copy_unharmed apart spared = record {
+      no_loss = no_loss_of t sectors (copy_stands (IsGapless t) (opens to (f from.block from.page) is puts)
+          (λ s a lt there. stay_whole to (f from.block from.page) is puts a.block (keeps.mapped s a lt there)));
+      spare = copy_spare apart spared;
+    }
+
+  lost_unharmed : (b : ℕ) → b < core.blocks → IsFree core.map.items b → LosesPages f t b → IsUnharmed t (device_of core)
+  lost_unharmed b within none loses =
+      let kept : (P : ℕ → Type 0) → ((s : ℕ) (at : PageAddr) → s < sectors → map_entry core s ≡ Some at → P at.block) → (s : ℕ) → s < sectors
+      → Stands t P s =
+      λ P holds s lt. kept_stands t P s (array s) (map_entry core s)
+      (kept_in_loss f t b s (array s) (map_entry core s) (stands.mapped s lt) (λ at is. none s at lt is) loses)
+      (λ nowhere d q m v e. clears.known s d q m v lt nowhere (loses.within d q s m v e))
+      (λ at is. holds s at lt is) in
+      record {
+        no_loss = no_loss_of t sectors (kept (IsGapless t) (λ s at lt is. lost_whole f t b loses at.block (none s at lt is) (keeps.mapped s at lt is)));
+        spare = (
+          b,
+          within,
+          safe_of t sectors b (kept (WholeBeside t b)
+              (λ s at lt is. (none s at lt is, lost_whole f t b loses at.block (none s at lt is) (keeps.mapped s at lt is)))),
+        );
+      }
+
+  pub cut_unharmed : (s : ℕ) (x : Sector) (m : Command) → IsNext core m → CutLeaves m s x f t → IsUnharmed t (device_of core)
+  cut_unharmed s x (Program at n) next cut = ⊎_elim same_unharmed (λ more. ⊎_elim
+      (torn_unharmed at next.0)
+      (λ puts. program_unharmed at next.0 s n x next.1 puts next.3.0 next.3.1 next.3.2 next.3.3) more) cut
+  cut_unharmed s x (Copy k from to) next cut = ⊎_elim same_unharmed (λ more. ⊎_elim
+      (torn_unharmed to next.0)
+      (λ puts. copy_unharmed to from next.0 k next.1 next.2 puts (copy_apart core s k from to next)
+      (subst (IsSafelySpared f core.map.items core.blocks) next.0 keeps.spared)) more) cut
+  cut_unharmed s x (Erase b) next cut = lost_unharmed b next.1 next.2 cut
+  cut_unharmed s x Refused next cut = same_unharmed cut
+
+some_addr : (x y : PageAddr) → Some x ≡ Some y → x ≡ y
+some_addr x y e = cc e
+
+-- after a command that succeeds
+module _ (f t : Flash) (core new : Core) (array : ℕ → Sector) (stands : Represents f core array) (clears : LeavesSpare f core)
+    (keeps : KeepsWhole f core) (blocks : new.blocks ≡ core.blocks) (s : ℕ) (x : Sector) (lt : s < length core.map.items) where
+  -- a page is put, and a sector mapped to it
+  module _ (at : PageAddr) (c : PageContents) (is : core.next_page ≡ Some at) (puts : SetsPage f t at.block at.page c) (k : ℕ)
+      (klt : k < length core.map.items) (moved : new.map.items ≡ set core.map.items k (Some at)) (one : version_count c ≡ 1) where
+    put_mapped : (j : ℕ) (a : PageAddr) → j < length new.map.items → map_entry new j ≡ Some a → IsGapless t a.block
+    put_mapped j a l entry =
+        let there : get_or (set core.map.items k (Some at)) j None ≡ Some a = ap (λ (m : List (Option PageAddr)). get_or m j None) (sym moved) ∙ entry in
+        let inside : j < length core.map.items = subst (λ (n : ℕ). j < n) (ap length moved ∙ length-set core.map.items k (Some at)) l in
+        ⊎_elim
+        (λ here. subst (λ (y : PageAddr). IsGapless t y.block)
+        (some_addr at a (sym (get_or-set_same core.map.items k (Some at) None klt)
+        ∙ subst (λ (i : ℕ). get_or (set core.map.items k (Some at)) i None ≡ Some a) here there))
+        (opens f t core array stands clears keeps at c is puts))
+        (λ differs. stay_whole f t core array stands clears keeps at c is puts a.block
+        (keeps.mapped j a inside (sym (get_or-set_other core.map.items k j (Some at) None differs) ∙ there)))
+        (cases_eq j k)
+
+    put_full : (next : Option PageAddr) → IsPageAfter at core.pages next → IsFullBefore t next
+    put_full None after = tt
+    put_full (Some to) after = λ p less. (λ i. version_count (t (after.0.0 i) p)) ∙ ⊎_elim
+        (λ here. (λ i. version_count (t at.block (here i))) ∙ (ap version_count puts.put ∙ one))
+        (λ differs. ap version_count (puts.others at.block p (inr differs))
+        ∙ subst (IsFullBefore f) is keeps.full p (omega (arith, less, after.0.1, differs)))
+        (cases_eq p at.page)
+
+    put_keeps : IsPageAfter at core.pages new.next_page → IsSafelySpared t (set core.map.items k (Some at)) core.blocks new.next_page → KeepsWhole t new
+    put_keeps after spared = record {
+      mapped = put_mapped;
+      full = put_full new.next_page after;
+      spared = subst (λ (n : ℕ). IsSafelySpared t new.map.items n new.next_page) (sym blocks)
+          (subst (λ (m : List (Option PageAddr)). IsSafelySpared t m core.blocks new.next_page) (sym moved) spared);
+    }
+
+  program_spared : (at : PageAddr) (k : Option PageAddr) (b : ℕ) → b < core.blocks → b ≢ at.block → IsFree core.map.items b → IsPageAfter at core.pages k
+      → IsSafelySpared t (set core.map.items s (Some at)) core.blocks k
+  program_spared at None b within apart none next = (b, within, none_set core.map.items s at b lt none apart)
+  program_spared at (Some to) b within apart none next = inl
+      (b, within, (λ e. apart (omega (arith, e, next.0.0))), none_set core.map.items s at b lt none apart)
+
+  copy_spared : (from to : PageAddr) (k : ℕ) (n : Option PageAddr) → k < length core.map.items → map_entry core k ≡ Some from → from.block ≢ to.block
+      → core.next_page ≡ Some to → SetsPage f t to.block to.page (f from.block from.page)
+      → (to.page + 1 ≡ core.pages → ⊥) → IsPageAfter to core.pages n → IsSafelySpared f core.map.items core.blocks (Some to)
+      → IsSafelySpared t (set core.map.items k (Some to)) core.blocks n
+  copy_spared from to k None klt at apart is puts more next spare = absurd (more (next.1 refl))
+  copy_spared from to k (Some on) klt at apart is puts more next (inl spare) = inl
+      (spare.0, spare.1, (λ e. spare.2 (omega (arith, e, next.0.0))), none_set core.map.items k to spare.0 klt spare.3 spare.2)
+  copy_spared from to k (Some on) klt at apart is puts more next (inr here) =
+      let same : on.block ≡ to.block = next.0.0 in
+      let doubled = safe_put f t to.block to.page (f from.block from.page) (erased_next f t core array stands to is) puts
+      (stay_whole f t core array stands clears keeps to (f from.block from.page) is puts) (length core.map.items) to.block here.1
+      (λ j m v e. (from.block, from.page, apart, keeps.mapped k from klt at, e)) in
+      inr (
+        omega (arith, same, here.0),
+        subst (λ (c : ℕ). IsSafelyDuplicated t (length (set core.map.items k (Some to))) c) (sym same)
+            (subst (λ (l : ℕ). IsSafelyDuplicated t l to.block) (sym (length-set core.map.items k (Some to))) doubled),
+      )
+
+  pub whole_after : (m : Command) → IsNext core m → Completes m s x f t → BecomesCore core s m new → KeepsWhole t new
+  whole_after (Program at n) next puts becomes =
+      put_keeps at (Version s n x) next.0 puts s lt becomes.0 refl becomes.2
+      (program_spared at new.next_page next.3.0 next.3.1 next.3.2 next.3.3 becomes.2)
+  whole_after (Copy k from to) next puts becomes =
+      put_keeps to (f from.block from.page) next.0 puts k next.1 becomes.0
+      (ap version_count (source_shows f t core array stands k from next.1 next.2).held) becomes.2
+      (copy_spared from to k new.next_page next.1 next.2 (copy_apart core s k from to next) next.0 puts (not_last core s k from to next) becomes.2
+      (subst (IsSafelySpared f core.map.items core.blocks) next.0 keeps.spared))
+  whole_after (Erase b) next gone becomes = record {
+    mapped = λ j a l entry.
+        let there : map_entry core j ≡ Some a = ap (λ (m : List (Option PageAddr)). get_or m j None) (sym becomes.0) ∙ entry in
+        let inside : j < length core.map.items = omega (arith, l, ap length becomes.0) in
+        same_whole f t a.block (λ q. gone.1 a.block q (next.2 j a inside there)) (keeps.mapped j a inside there);
+    full = subst (IsFullBefore t) (sym becomes.2) (λ p less. absurd (omega (arith, less)));
+    spared = subst (λ (k : Option PageAddr). IsSafelySpared t new.map.items new.blocks k) (sym becomes.2)
+        (inr (omega (arith, next.1, blocks), λ j q v l shows. absurd (erased_holds_none j shows.number v (sym (gone.0 q) ∙ shows.held))));
+  }
+  whole_after Refused next same becomes = subst (λ (g : Flash). KeepsWhole g new) (λ i b p. sym (same b p) i) (record {
+    mapped = λ j a l entry. keeps.mapped j a (omega (arith, l, ap length becomes.0))
+        (ap (λ (m : List (Option PageAddr)). get_or m j None) (sym becomes.0) ∙ entry);
+    full = subst (IsFullBefore f) (sym becomes.2) keeps.full;
+    spared = subst (λ (n : ℕ). IsSafelySpared f new.map.items n new.next_page) (sym blocks)
+        (subst (λ (m : List (Option PageAddr)). IsSafelySpared f m core.blocks new.next_page) (sym becomes.0)
+        (subst (IsSafelySpared f core.map.items core.blocks) (sym becomes.2) keeps.spared));
+  })
+
+pub cuts_unharmed : (core : Core) (s : ℕ) (m : Command) → IsNext core m → CutsUnharmed core s m
+cuts_unharmed core s m next f t x acked begun is keeps cut =
+    cut_unharmed f t core (array_after is.updates) is.represents is.spare keeps s x m next cut
+
+pub cuts_idle_unharmed : (core : Core) → CutsIdleUnharmed core
+cuts_idle_unharmed core f acked begun is keeps = idle_unharmed f f core (array_after is.updates) is.represents is.spare keeps
+
+pub remains_whole : (core new : Core) (s : ℕ) (m : Command) → s < length core.map.items → IsNext core m → BecomesCore core s m new
+    → new.blocks ≡ core.blocks → StaysWhole core s m new
+remains_whole core new s m lt next becomes blocks f t x acked begun is keeps does =
+    whole_after f t core new (array_after is.updates) is.represents is.spare keeps blocks s x lt m next does becomes

@@ -1,6 +1,0 @@
-use Rattle.std.proofs.Common.{◌<◌, ℕ}
-use Rattle.durable.specs.Candidates.{IsFreeable}
-use Rattle.durable.proofs.candidates.freeable.Given as goal
-
-abbrev pub invariant-loop-block : goal.invariant-loop-block
-invariant-loop-block l = (b : ℕ) → b < l.block → IsFreeable l.found b → ⊥
