@@ -1,9 +1,10 @@
 use Rattle.flash_table.proofs.{Asking.whose, Asking.of_broom, Rows.just_now, Blocks.erased_just}
 use Rattle.std.proofs.Common.{◌≡◌, ap, ◌∙◌, arith}
 use Rattle.flash_table.specs.{Flash.broom_view, Flash.own_blocks, GivingUp.left_free}
-use Rattle.flash_table.proofs.{ToldBrooms.stays_broom, HereErasing.freed_here, flash.Flash.free_block.Goals.After-fetch_add}
+use Rattle.flash_table.proofs.{ToldBrooms.stays_broom, HereErasing.freed_here}
 use Rattle.flash_table.proofs.ToldErasing.{same_erased, live_on, can_renew, freed_view}
 use Rattle.flash_table.proofs.flash.Flash.free_block.Goals as goal
+use Rattle.flash_table.proofs.flash.Flash.free_block.Goals.{After-fetch_add}
 
 pub fetch_add-requires : goal.fetch_add-requires
 fetch_add-requires c =
