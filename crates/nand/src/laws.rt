@@ -258,7 +258,7 @@ pub fn failing()
     ensures no_marks { (old new : Layer Modelled) → KeepsDevice chip_shape chip_bad chip_faults old new → chip_faults old.nand fault.Failed ≡ 2
         → chip_faults new.nand fault.Failed ≡ 2 → chip_bad new.nand ≡ chip_bad old.nand }
     ensures one_mark { (old new : Layer Modelled) → HasMarkedFailed chip_shape chip_bad chip_faults old new → (chip_shape old.nand).blocks ≡ 2
-        → chip_bad old.nand ≡ [] → chip_bad new.nand ≡ true ∷ [] → chip_faults old.nand fault.Failed ≡ 3
+        → chip_bad old.nand ≡ false ∷ false ∷ [] → chip_bad new.nand ≡ true ∷ false ∷ [] → chip_faults old.nand fault.Failed ≡ 3
         → chip_faults new.nand fault.Failed % 2 ^ 64 ≡ 4 }
     ensures spare { (shape : Numbers) → shape.blocks ≡ 9 → shape.pages ≡ 4 → ¬ IsSpent shape [] 8 5 }
     ensures spent { (shape : Numbers) → shape.blocks ≡ 3 → shape.pages ≡ 4 → IsSpent shape [] 8 5 }
