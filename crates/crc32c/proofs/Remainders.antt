@@ -1,12 +1,8 @@
 -- Remainders by a table of bytes.
 use Rattle.std.proofs.Common.{zero, suc, ◌≡◌, ℕ, ◌*◌, ◌<◌, ◌/◌, ◌%◌, get_or, map, refl, sym, ap, ap₂, ◌∙◌, arith}
-use Rattle.std.specs.Prelude.{if◌then◌else◌, ◌==◌, bit_xor}
-use Rattle.std.specs.List.{range_with_len}
-use Rattle.std.specs.Int.Bits.{xor_assoc, xor_zero_r, xor_shifted}
-use Rattle.std.proofs.lemmas.Nat.{xor_comm, xor_shr, xor_mod}
-use Rattle.std.proofs.lemmas.List.FromFn.{get_or-map-range_with_len}
-use Rattle.crc32c.specs.Crc.{generator, times_x, times_x8, with_byte}
-use Rattle.crc32c.specs.declared.table.TheConstants.{TABLE}
+use Rattle.std.specs.{Prelude.if◌then◌else◌, Prelude.◌==◌, Prelude.bit_xor, List.range_with_len, Int.Bits.xor_assoc, Int.Bits.xor_zero_r, Int.Bits.xor_shifted}
+use Rattle.std.proofs.lemmas.{Nat.xor_comm, Nat.xor_shr, Nat.xor_mod, List.FromFn.get_or-map-range_with_len}
+use Rattle.crc32c.specs.{Crc.generator, Crc.times_x, Crc.times_x8, Crc.with_byte, declared.table.TheConstants.TABLE}
 
 -- the generator, if the first coefficient is 1
 abbrev carried : ℕ → ℕ

@@ -1,6 +1,5 @@
 //! Laws of CRC-32C: the examples of RFC 3720, appendix B.4. Each function has no code.
-ghost use Rattle.std.specs.Prelude.{◌≡◌, ◌+◌, ◌^◌, [], ◌∷◌, ◌++◌, codes, replicate};
-ghost use Rattle.std.specs.List.{range_with_len};
+ghost use Rattle.std.specs.{Prelude.◌≡◌, Prelude.◌+◌, Prelude.◌^◌, Prelude.[], Prelude.codes, Prelude.replicate, List.range_with_len};
 ghost use Rattle.crc32c.specs.Crc.{generator, times_x, times_x8, with_byte, crc32c_of, extended};
 
 /// The generator, and products with x.

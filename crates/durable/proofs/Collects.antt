@@ -2,12 +2,15 @@
 use Rattle.std.proofs.Common.{get_or, ◌≡◌, ◌≢◌, ◌+◌, ◌-◌, ◌*◌, ◌<◌, ◌≤◌, ℕ, zero, suc, List, length, Option, None, Some, IfSome, set, refl, sym, ◌∙◌}
 use Rattle.std.proofs.Common.{ap, subst, arith}
 use Rattle.geometry.specs.declared.page_addr.PageAddr.{PageAddr}
+use Rattle.durable.specs.declared.extent.Extent.{Extent}
 use Rattle.durable.specs.declared.command.Command.{Command}
 use Rattle.durable.specs.declared.command.Command.TheVariants.{Program, Copy, Erase, Refused}
 use Rattle.durable.specs.declared.memory.Core.{Core}
-use Rattle.durable.specs.Collecting.{IsFree, weight, live_in, CanCollect, IsPageOn}
-use Rattle.durable.specs.Choice.{IsNext, IsFewestBeside, left_at, Spends}
+use Rattle.durable.specs.Collecting.{IsFree, MapsAll, weight, live_in, CanCollect, IsPageOn}
+use Rattle.durable.specs.Next.{IsFewestBeside}
+use Rattle.durable.specs.Choice.{IsNext, left_at, Spends}
 use Rattle.durable.proofs.Counts.{weight_here, weight_elsewhere, kept_in_set, kept_there, none_counted, other_has_room}
+use Rattle.durable.proofs.Extents.{none_all}
 use Rattle.durable.proofs.Done.{IsPageAfter, Becomes}
 
 pub none_some : (at : PageAddr) → None ≢ Some at
@@ -27,12 +30,12 @@ pub stays_free : (map : List (Option PageAddr)) (s : ℕ) (at : PageAddr) (b : �
     → live_in b (set map s (Some at)) ≡ 0
 stays_free map s at b lt free differs = omega (arith, kept_in_set b map s (Some at) lt, weight_elsewhere b at (λ e. differs (sym e)), none_counted b map free)
 
-module _ (core : Core) (s : ℕ) where
-  program_collects : (at : PageAddr) (n : ℕ) (next : Option PageAddr) → s < length core.map.items → IsNext core (Program at n) → IsPageAfter at core.pages next
-      → CanCollect (set core.map.items s (Some at)) core.blocks core.pages next
-  program_collects at n next lt is after =
+module _ (core : Core) (s : Extent) where
+  program_collects : (at : PageAddr) (n : ℕ) (map : List (Option PageAddr)) (next : Option PageAddr) → IsNext core (Program at n)
+      → MapsAll core.map.items map s at → IsPageAfter at core.pages next → CanCollect map core.blocks core.pages next
+  program_collects at n map next is maps after =
       let b = is.3.0 in
-      let free = stays_free core.map.items s at b lt is.3.3 is.3.2 in (
+      let free = none_counted b map (none_all core.map.items map s at b maps is.3.3 is.3.2) in (
         (λ closed live. omega (arith, live b is.3.1, free)),
         (λ to opened full.
             let e = page_after_is at to core.pages next after opened in
@@ -86,16 +89,15 @@ module _ (core : Core) (s : ℕ) where
             )),
       )
 
-  pub collects_after : (m : Command) (map : List (Option PageAddr)) (number : ℕ) (next : Option PageAddr) → s < length core.map.items → IsNext core m
+  pub collects_after : (m : Command) (map : List (Option PageAddr)) (number : ℕ) (next : Option PageAddr) → IsNext core m
       → Becomes core s m map number next → CanCollect map core.blocks core.pages next
-  collects_after (Program at n) map number next lt is becomes = subst (λ (m : List (Option PageAddr)). CanCollect m core.blocks core.pages next) (sym becomes.0)
-      (program_collects at n next lt is becomes.2)
-  collects_after (Copy k from to) map number next lt is becomes = subst (λ (m : List (Option PageAddr)). CanCollect m core.blocks core.pages next)
+  collects_after (Program at n) map number next is becomes = program_collects at n map next is becomes.0 becomes.2
+  collects_after (Copy k from to) map number next is becomes = subst (λ (m : List (Option PageAddr)). CanCollect m core.blocks core.pages next)
       (sym becomes.0)
       (copy_collects k from to is next becomes.2)
-  collects_after (Erase b) map number next lt is becomes = subst (λ (m : List (Option PageAddr)). CanCollect m core.blocks core.pages next) (sym becomes.0)
+  collects_after (Erase b) map number next is becomes = subst (λ (m : List (Option PageAddr)). CanCollect m core.blocks core.pages next) (sym becomes.0)
       (subst (CanCollect core.map.items core.blocks core.pages) (sym becomes.2) (erase_collects b))
-  collects_after Refused map number next lt is becomes = subst (λ (m : List (Option PageAddr)). CanCollect m core.blocks core.pages next) (sym becomes.0)
+  collects_after Refused map number next is becomes = subst (λ (m : List (Option PageAddr)). CanCollect m core.blocks core.pages next) (sym becomes.0)
       (subst (CanCollect core.map.items core.blocks core.pages) (sym becomes.2) core.can_collect)
 
   pub spends_after : (m : Command) (map : List (Option PageAddr)) (number : ℕ) (next : Option PageAddr) → IsNext core m
@@ -109,12 +111,13 @@ module _ (core : Core) (s : ℕ) where
   spends_after (Erase b) map number next is becomes = (ap (left_at core.pages) is.0, omega (arith, ap (left_at core.pages) becomes.2))
   spends_after Refused map number next is becomes = ap (left_at core.pages) becomes.2
 
--- with a block open, no block free beside it and the fewest live pages none, there would be no room
-pub stuck : (core : Core) (to : PageAddr) (victim : ℕ) → core.next_page ≡ Some to → ((b : ℕ) → b < core.blocks → b ≢ to.block → 0 < live_in b core.map.items)
-    → IsFewestBeside core to.block victim → IsFree core.map.items victim → ⊥
+-- with a block open, the block with the fewest live pages beside it is not free if it has some
+pub stuck : (core : Core) (to : PageAddr) (victim : ℕ) → core.next_page ≡ Some to
+    → (victim < core.blocks → victim ≢ to.block → 0 < live_in victim core.map.items)
+    → IsFewestBeside core.blocks core.map.items to.block victim → IsFree core.map.items victim → ⊥
 stuck core to victim is live fewest free = core.can_collect.1 to is (λ b lt differs.
     let found = fewest b lt differs in
-    absurd (omega (arith, live victim found.0 found.1, none_counted victim core.map.items free)))
+    absurd (omega (arith, live found.0 found.1, none_counted victim core.map.items free)))
 
 -- the page after one on the device is on the device too
 pub page_after_on : (blocks pages : ℕ) (at : PageAddr) (next : Option PageAddr) → at.block < blocks → IsPageAfter at pages next → IsPageOn blocks pages next
@@ -140,7 +143,7 @@ first_page_on core b lt = λ to is.
 -- the block with the least count has the fewest live pages
 pub fewest_beside : (core : Core) (opened victim : ℕ) (counts : List ℕ) → counts ≡ core.counts
     → ((b : ℕ) → b < length counts → b ≢ opened → (victim < length counts) × (victim ≢ opened) × (get_or counts victim 0 ≤ get_or counts b 0))
-    → IsFewestBeside core opened victim
+    → IsFewestBeside core.blocks core.map.items opened victim
 fewest_beside core opened victim counts is fewest b lt differs =
     let size : length counts ≡ core.blocks = ap length is ∙ core.counts_sized in
     let found = fewest b (omega (arith, lt, size)) differs in

@@ -7,16 +7,18 @@ use Rattle.geometry.specs.Sectors.{Sector}
 use Rattle.geometry.specs.declared.page_addr.PageAddr.{PageAddr}
 use Rattle.durable.specs.declared.found.Candidate.{Candidate}
 use Rattle.durable.specs.declared.found.Stamp.{Stamp}
-use Rattle.durable.specs.Flash.{PageContents, Erased, Torn, Version, Flash}
-use Rattle.durable.specs.Candidates.{twin_with, with_twin, newer_of, found_with, number_above}
+use Rattle.durable.specs.declared.extent.Extent.{Extent}
+use Rattle.durable.specs.Updates.{Covers}
+use Rattle.durable.specs.Flash.{PageContents, Erased, Torn, Version, Flash, HasVersion}
+use Rattle.durable.specs.Candidates.{twin_with, with_twin, newer_of, IsFoundWith, number_above}
 use Rattle.durable.specs.Losses.{version_count, versions_before, gaps_with, gaps_before, gaps_in, has_gap, gaps_noted, versions_noted, CountsGaps}
 use Rattle.durable.specs.Losses.{IsInWhole, IsWholeOrHere, IsPreferred}
 use Rattle.durable.specs.Mounting.{IsStampOf, IsBest, IsLone, Finds}
-use Rattle.durable.proofs.Cells.{same_held}
+use Rattle.durable.proofs.Cells.{same_held, same_version}
 use Rattle.durable.proofs.Scans.{noted, later_old, later_new, later_same, some_is, none_is, twin_cases, twin_is, set_each}
 use Rattle.durable.proofs.Losses.{no_gap, none_has_gap, some_gap}
 
-none_counted : (c : PageContents) → ((s m : ℕ) (v : Sector) → c ≢ Version s m v) → (p versions gaps : ℕ)
+none_counted : (c : PageContents) → ((s : Extent) (m : ℕ) (v : Sector) → c ≢ Version s m v) → (p versions gaps : ℕ)
     → (version_count c ≡ 0) × (gaps_with c p versions gaps ≡ gaps)
 none_counted (Version s n v) none p versions gaps = absurd (none s n v refl)
 none_counted Erased none p versions gaps = (refl, refl)
@@ -79,30 +81,30 @@ module _ (f : Flash) (pages b p : ℕ) (gaps new : List ℕ) (same : (c : ℕ) �
   whole_twin x has = (has.0, has.1, has.2, same has.0.block has.2 ∙ has.3)
 
   -- what is said of pages before this one is said of this one too, which has no such version
-  prefers_still : (s : ℕ) (x : Candidate) → IsPreferred f pages b p gaps s (Some x) → ((v : Sector) → f b p ≢ Version s x.number v)
+  prefers_still : (s : ℕ) (x : Candidate) → IsPreferred f pages b p gaps s (Some x) → ((v : Sector) → ¬ HasVersion f b p s x.number v)
       → IsPreferred f pages b (suc p) new s (Some x)
   prefers_still s x prefers none = (
     (λ c q v lt on e gap. whole_still x (prefers.0 c q v lt on e (sym (same c lt) ∙ gap))),
     (λ q v lt e. ⊎_elim
         (λ old. whole_or_here x.at.block (prefers.1 q v old e))
-        (λ is. absurd (none v ((λ i. f b (sym is i)) ∙ e)))
+        (λ is. absurd (none v (e.0, (λ i. f b (sym is i)) ∙ e.1, e.2)))
         (within q lt)),
     (λ c q v lt on e gap differs. whole_twin x (prefers.2 c q v lt on e (sym (same c lt) ∙ gap) differs)),
     (λ q v lt e differs. ⊎_elim
         (λ old. let has = prefers.3 q v old e differs in (has.0, has.1, whole_or_here has.0.block has.2))
-        (λ is. absurd (none v ((λ i. f b (sym is i)) ∙ e)))
+        (λ is. absurd (none v (e.0, (λ i. f b (sym is i)) ∙ e.1, e.2)))
         (within q lt)),
     prefers.4,
   )
 
-  prefers_beside : (s : ℕ) (k : Option Candidate) → IsPreferred f pages b p gaps s k → ((m : ℕ) (v : Sector) → f b p ≢ Version s m v)
+  prefers_beside : (s : ℕ) (k : Option Candidate) → IsPreferred f pages b p gaps s k → ((m : ℕ) (v : Sector) → ¬ HasVersion f b p s m v)
       → IsPreferred f pages b (suc p) new s k
   prefers_beside s None prefers none = tt
   prefers_beside s (Some x) prefers none = prefers_still s x prefers (none x.number)
 
   -- a page of this block with a number that no block without a gap has
   prefers_new : (s n : ℕ) (at : PageAddr) (twin : Option PageAddr) → at.block ≡ b
-      → ((c q : ℕ) (v : Sector) → c < b → q < pages → f c q ≡ Version s n v → gaps_in gaps c ≢ 0)
+      → ((c q : ℕ) (v : Sector) → c < b → q < pages → HasVersion f c q s n v → gaps_in gaps c ≢ 0)
       → ((t : PageAddr) → twin ≡ Some t → t.block ≤ b)
       → IsPreferred f pages b (suc p) new s (Some (record { at = at; number = n; twin = twin }))
   prefers_new s n at twin is_b none low = (
@@ -163,14 +165,14 @@ module _ (f : Flash) (pages b p : ℕ) (gaps new : List ℕ) (same : (c : ℕ) �
       other)
       (twin_cases gaps old at)
 
-  prefers_later : (s n : ℕ) (d : Sector) (at : PageAddr) (k : Option Candidate) → at.block ≡ b → f b p ≡ Version s n d
+  prefers_later : (s n : ℕ) (d : Sector) (at : PageAddr) (k : Option Candidate) → at.block ≡ b → HasVersion f b p s n d
       → ((x : Candidate) → k ≡ Some x → x.at.block ≤ b) → IsBest f pages b p s k → IsPreferred f pages b p gaps s k
       → IsPreferred f pages b (suc p) new s (newer_of gaps k at n)
   prefers_later s n d at None is_b is before best prefers =
       prefers_new s n at None is_b (λ c q v lt on e gap. absurd (best c q n v (on, inl lt) e)) (λ t e. absurd (none_is t e))
   prefers_later s n d at (Some old) is_b is before best prefers = ⊎_elim
       (λ lt. subst (IsPreferred f pages b (suc p) new s) (sym (later_old gaps old at n lt))
-      (prefers_still s old prefers (λ v e. let number = (same_held s n d s old.number v (sym is ∙ e)).1 in omega (arith, number, lt))))
+      (prefers_still s old prefers (λ v e. let number = (same_version (f b p) s n d s old.number v is e).0 in omega (arith, number, lt))))
       (λ le. ⊎_elim
       (λ gt. subst (IsPreferred f pages b (suc p) new s) (sym (later_new gaps old at n gt))
       (prefers_new s n at None is_b (λ c q v less on e gap. let most = best.1 c q n v (on, inl less) e in omega (arith, most, gt))
@@ -189,19 +191,21 @@ at_before f pages b p s None x lone is = absurd (none_some x is)
 at_before f pages b p s (Some y) x lone is = let same : y ≡ x = cc is in subst (λ (z : Candidate). z.at.block ≤ b) same lone.2
 
 pub prefers_next : (f : Flash) (pages b p : ℕ) (gaps new : List ℕ) (found : List (Option Candidate)) (below : ℕ) (at : PageAddr) (stamp : Option Stamp)
-    → at.block ≡ b → ((c : ℕ) → c < b → gaps_in new c ≡ gaps_in gaps c)
+    (found' : List (Option Candidate))
+    → at.block ≡ b → ((c : ℕ) → c < b → gaps_in new c ≡ gaps_in gaps c) → IsFoundWith gaps found found' at stamp
     → Finds f pages b p found below → IsStampOf f b p stamp
     → ((s : ℕ) → s < length found → IsPreferred f pages b p gaps s (get_or found s None))
-    → (s : ℕ) → s < length (found_with gaps found at stamp) → IsPreferred f pages b (suc p) new s (get_or (found_with gaps found at stamp) s None)
-prefers_next f pages b p gaps new found below at None is_b same finds none prefers =
-    λ s lt. prefers_beside f pages b p gaps new same s (get_or found s None) (prefers s lt) (λ m v. none s m v)
-prefers_next f pages b p gaps new found below at (Some stamp) is_b same finds matches prefers =
-    let k = stamp.sector in
-    set_each gaps found at stamp (IsPreferred f pages b (suc p) new)
-    (λ k_in. prefers_later f pages b p gaps new same k stamp.number matches.0 at (get_or found k None) is_b matches.1
+    → (s : ℕ) → s < length found' → IsPreferred f pages b (suc p) new s (get_or found' s None)
+prefers_next f pages b p gaps new found below at None found' is_b same unchanged finds none prefers =
+    subst (λ (xs : List (Option Candidate)). (s : ℕ) → s < length xs → IsPreferred f pages b (suc p) new s (get_or xs s None)) (sym unchanged)
+    (λ s lt. prefers_beside f pages b p gaps new same s (get_or found s None) (prefers s lt) (λ m v held. none held.0 m v held.1))
+prefers_next f pages b p gaps new found below at (Some stamp) found' is_b same changes finds matches prefers =
+    set_each gaps found found' at stamp (IsPreferred f pages b (suc p) new) changes
+    (λ k k_in has. prefers_later f pages b p gaps new same k stamp.number matches.0 at (get_or found k None) is_b (stamp.extent, matches.1, has)
     (λ x is. at_before f pages b p k (get_or found k None) x (finds.lone k k_in) is) (finds.best k k_in) (prefers k k_in))
-    (λ s is_in differs. prefers_beside f pages b p gaps new same s (get_or found s None) (prefers s is_in)
-    (λ m v e. differs (sym (same_held k stamp.number matches.0 s m v (sym matches.1 ∙ e)).0)))
+    (λ s is_in out. prefers_beside f pages b p gaps new same s (get_or found s None) (prefers s is_in)
+    (λ m v held. let same_extent = (same_held stamp.extent stamp.number matches.0 held.0 m v (sym matches.1 ∙ held.1)).0 in
+    out (subst (λ (e : Extent). Covers e s) (sym same_extent) held.2)))
 
 wrapped_one : (f : Flash) (pages b p : ℕ) (gaps : List ℕ) → p ≡ pages → (s : ℕ) (k : Option Candidate) → IsPreferred f pages b p gaps s k
     → IsPreferred f pages (b + 1) 0 gaps s k
@@ -211,13 +215,13 @@ wrapped_one f pages b p gaps full s (Some x) prefers = (
       (λ here. ⊎_elim
       (λ at_b. (omega (arith, at_b), (λ i. gaps_in gaps ((at_b ∙ sym here) i)) ∙ gap))
       (λ whole. (omega (arith, whole.0), whole.1))
-      (prefers.1 q v (omega (arith, on, full)) ((λ i. f (sym here i) q) ∙ e)))
+      (prefers.1 q v (omega (arith, on, full)) (e.0, (λ i. f (sym here i) q) ∙ e.1, e.2)))
       (λ differs. let whole = prefers.0 c q v (omega (arith, lt, differs)) on e gap in (omega (arith, whole.0), whole.1))
       (cases_eq c b)),
   (λ q v lt e. absurd (omega (arith, lt))),
   (λ c q v lt on e gap apart. ⊎_elim
       (λ here.
-      let has = prefers.3 q v (omega (arith, on, full)) ((λ i. f (sym here i) q) ∙ e) (λ is. apart (here ∙ sym is)) in
+      let has = prefers.3 q v (omega (arith, on, full)) (e.0, (λ i. f (sym here i) q) ∙ e.1, e.2) (λ is. apart (here ∙ sym is)) in
       ⊎_elim
       (λ at_b. (has.0, has.1, omega (arith, at_b), (λ i. gaps_in gaps ((at_b ∙ sym here) i)) ∙ gap))
       (λ whole. (has.0, has.1, omega (arith, whole.0), whole.1))
@@ -236,7 +240,7 @@ prefers_wrap f pages b p gaps found full prefers = λ s lt. wrapped_one f pages 
 -- what a call has left that noted one stamp more
 pub noted_all : (f : Flash) (pages b p : ℕ) (gaps : List ℕ) (versions : ℕ) (found : List (Option Candidate)) (below : ℕ) (at : PageAddr)
     (stamp : Option Stamp) (found' : List (Option Candidate)) (below' : ℕ) (gaps' : List ℕ) (versions' : ℕ)
-    → at.block ≡ b → at.page ≡ p → b < length gaps → found' ≡ found_with gaps found at stamp → below' ≡ number_above below stamp
+    → at.block ≡ b → at.page ≡ p → b < length gaps → IsFoundWith gaps found found' at stamp → below' ≡ number_above below stamp
     → gaps' ≡ gaps_noted gaps b p versions stamp → versions' ≡ versions_noted versions stamp → IsStampOf f b p stamp
     → Finds f pages b p found below × CountsGaps f pages b p gaps versions
     × ((s : ℕ) → s < length found → IsPreferred f pages b p gaps s (get_or found s None))
@@ -249,15 +253,11 @@ noted_all f pages b p gaps versions found below at stamp found' below' gaps' ver
     let counts : CountsGaps f pages b (p + 1) (gaps_noted gaps b p versions stamp) (versions_noted versions stamp) =
     subst (λ (n : ℕ). CountsGaps f pages b n (gaps_noted gaps b p versions stamp) (versions_noted versions stamp)) one
     (counts_next f pages b p gaps versions stamp lt matches before.1) in
-    let prefers : (s : ℕ) → s < length (found_with gaps found at stamp)
-    → IsPreferred f pages b (p + 1) (gaps_noted gaps b p versions stamp) s (get_or (found_with gaps found at stamp) s None) =
-    subst (λ (n : ℕ). (s : ℕ) → s < length (found_with gaps found at stamp)
-    → IsPreferred f pages b n (gaps_noted gaps b p versions stamp) s (get_or (found_with gaps found at stamp) s None)) one
-    (prefers_next f pages b p gaps (gaps_noted gaps b p versions stamp) found below at stamp is_b same before.0 matches before.2) in (
+    let prefers : (s : ℕ) → s < length found' → IsPreferred f pages b (p + 1) (gaps_noted gaps b p versions stamp) s (get_or found' s None) =
+    subst (λ (n : ℕ). (s : ℕ) → s < length found' → IsPreferred f pages b n (gaps_noted gaps b p versions stamp) s (get_or found' s None)) one
+    (prefers_next f pages b p gaps (gaps_noted gaps b p versions stamp) found below at stamp found' is_b same is_found before.0 matches before.2) in (
       noted f pages b p gaps found below at stamp found' below' is_b is_p is_found is_below before.0 matches,
       subst (λ (n : ℕ). CountsGaps f pages b (p + 1) gaps' n) (sym is_versions)
           (subst (λ (g : List ℕ). CountsGaps f pages b (p + 1) g (versions_noted versions stamp)) (sym is_gaps) counts),
-      subst (λ (xs : List (Option Candidate)). (s : ℕ) → s < length xs → IsPreferred f pages b (p + 1) gaps' s (get_or xs s None)) (sym is_found)
-          (subst (λ (g : List ℕ). (s : ℕ) → s < length (found_with gaps found at stamp)
-          → IsPreferred f pages b (p + 1) g s (get_or (found_with gaps found at stamp) s None)) (sym is_gaps) prefers),
+      subst (λ (g : List ℕ). (s : ℕ) → s < length found' → IsPreferred f pages b (p + 1) g s (get_or found' s None)) (sym is_gaps) prefers,
     )

@@ -1,5 +1,5 @@
 -- After a command that succeeds the flash holds the array, as the layer's memory has it then.
-use Rattle.std.proofs.Common.{◌≡◌, ◌<◌, ◌+◌, ℕ, List, length, Option, None, Some, IfSome, get_or, set, ⊎_elim, refl, sym, ◌∙◌, ap, subst, arith}
+use Rattle.std.proofs.Common.{◌≡◌, ◌<◌, ◌+◌, ℕ, List, length, Option, None, Some, IfSome, get_or, set, ⊎_elim, sym, ◌∙◌, ap, subst, arith}
 use Rattle.std.proofs.lemmas.List.{length-set}
 use Rattle.geometry.specs.Sectors.{Sector}
 use Rattle.geometry.specs.declared.page_addr.PageAddr.{PageAddr}
@@ -7,12 +7,15 @@ use Rattle.durable.specs.declared.command.Command.{Command}
 use Rattle.durable.specs.declared.command.Command.TheVariants.{Program, Copy, Erase, Refused}
 use Rattle.durable.specs.declared.memory.Core.{Core}
 use Rattle.durable.specs.Flash.{Version, Flash, HoldsNewest}
+use Rattle.durable.specs.declared.extent.Extent.{Extent}
 use Rattle.durable.specs.Updates.{changed}
+use Rattle.durable.specs.Collecting.{MapsAll}
 use Rattle.durable.specs.Commands.{Completes, IsSameFlash}
 use Rattle.durable.specs.Memory.{map_entry, IsMappedTo, IsErasedFrom, Represents}
 use Rattle.durable.specs.Choice.{IsNext}
-use Rattle.durable.proofs.Cells.{was, same_held, erased_loses, kept_in_loss}
-use Rattle.durable.proofs.Moments.{kept_set, erased_next, ready_next, programmed_shows, programmed_kept, changed_here, changed_elsewhere}
+use Rattle.durable.proofs.Extents.{changed_here, changed_elsewhere}
+use Rattle.durable.proofs.Cells.{was_page, same_held, erased_loses, kept_in_loss}
+use Rattle.durable.proofs.Moments.{kept_set, kept_all, erased_next, ready_next, programmed_shows, programmed_kept}
 use Rattle.durable.proofs.Moments.{copied_shows, copied_kept}
 
 -- the page after this one, if its block has one
@@ -20,38 +23,36 @@ abbrev pub IsPageAfter : PageAddr → ℕ → Option PageAddr → Type 0
 IsPageAfter at pages next = IfSome next (λ to. (to.block ≡ at.block) × (to.page ≡ at.page + 1) × (to.page < pages)) × (next ≡ None → at.page + 1 ≡ pages)
 
 -- the array after a command that succeeds: only the program changes it
-abbrev pub array_with : Command → (ℕ → Sector) → ℕ → Sector → ℕ → Sector
+abbrev pub array_with : Command → (ℕ → Sector) → Extent → Sector → ℕ → Sector
 array_with (Program at n) array s value = changed array s value
 array_with (Copy k from to) array s value = array
 array_with (Erase b) array s value = array
 array_with Refused array s value = array
 
 -- the map, the next number and the next page after a command that succeeded
-abbrev pub Becomes : Core → ℕ → Command → List (Option PageAddr) → ℕ → Option PageAddr → Type 0
-Becomes core s (Program at n) map number next = (map ≡ set core.map.items s (Some at)) × (number ≡ n + 1) × IsPageAfter at core.pages next
+abbrev pub Becomes : Core → Extent → Command → List (Option PageAddr) → ℕ → Option PageAddr → Type 0
+Becomes core s (Program at n) map number next = MapsAll core.map.items map s at × (number ≡ n + 1) × IsPageAfter at core.pages next
 Becomes core s (Copy k from to) map number next = (map ≡ set core.map.items k (Some to)) × (number ≡ core.next_number) × IsPageAfter to core.pages next
 Becomes core s (Erase b) map number next = (map ≡ core.map.items) × (number ≡ core.next_number) × (next ≡ Some (record { block = b; page = 0 }))
 Becomes core s Refused map number next = (map ≡ core.map.items) × (number ≡ core.next_number) × (next ≡ core.next_page)
 
 -- the same, of the layer
-abbrev pub BecomesCore : Core → ℕ → Command → Core → Type 0
+abbrev pub BecomesCore : Core → Extent → Command → Core → Type 0
 BecomesCore core s m new = Becomes core s m new.map.items new.next_number new.next_page
 
-module _ (f t : Flash) (core new : Core) (array : ℕ → Sector) (stands : Represents f core array) (s : ℕ) (x : Sector) where
-  after_program : (at : PageAddr) (n : ℕ) → s < length core.map.items → IsNext core (Program at n) → Completes (Program at n) s x f t
-      → BecomesCore core s (Program at n) new → Represents t new (changed array s x)
-  after_program at n lt next puts becomes = record {
-    mapped = λ k l. subst (λ (items : List (Option PageAddr)). IsMappedTo t k (changed array s x k) (get_or items k None)) (sym becomes.0)
-        (kept_set t core.map.items s at (changed array s x) lt
-        (subst (λ (v : Sector). HoldsNewest t s v at.block at.page) (sym (changed_here array s x s refl))
-        (programmed_shows f t core array stands at next.0 s n x next.1 puts))
-        (λ j l' differs. subst (λ (v : Sector). IsMappedTo t j v (map_entry core j)) (sym (changed_elsewhere array s x j differs))
-        (programmed_kept f t core array stands at next.0 s n x next.1 puts j l' differs))
-        k (subst (λ (m : ℕ). k < m) (ap length becomes.0 ∙ length-set core.map.items s (Some at)) l));
+module _ (f t : Flash) (core new : Core) (array : ℕ → Sector) (stands : Represents f core array) (s : Extent) (x : Sector) where
+  after_program : (at : PageAddr) (n : ℕ) → IsNext core (Program at n) → Completes (Program at n) s x f t → BecomesCore core s (Program at n) new
+      → Represents t new (changed array s x)
+  after_program at n next puts becomes = record {
+    mapped = kept_all t core.map.items new.map.items s at (changed array s x) becomes.0
+        (λ k has. subst (λ (v : Sector). HoldsNewest t k v at.block at.page) (sym (changed_here array s x k has))
+        (programmed_shows f t core array stands at next.0 s n x next.1 puts k has))
+        (λ k l out. subst (λ (v : Sector). IsMappedTo t k v (map_entry core k)) (sym (changed_elsewhere array s x k out))
+        (programmed_kept f t core array stands at next.0 s n x next.1 puts k l out));
     numbers = λ d q r m v e. ⊎_elim
         (λ h. let is = (same_held s n x r m v h).1 in omega (arith, is, becomes.1))
         (λ h. let below = stands.numbers d q r m v h in omega (arith, next.1, below, becomes.1))
-        (was f t at.block at.page (Version s n x) (erased_next f t core array stands at next.0) puts d q r m v e);
+        (was_page f t at.block at.page (Version s n x) (erased_next f t core array stands at next.0) puts d q r m v e);
     erased = ready_next f t at (Version s n x) new.next_page core.pages becomes.2.0 (subst (IsErasedFrom f) next.0 stands.erased) puts;
   }
 
@@ -60,12 +61,12 @@ module _ (f t : Flash) (core new : Core) (array : ℕ → Sector) (stands : Repr
   after_copy k from to next puts becomes = record {
     mapped = λ j l. subst (λ (items : List (Option PageAddr)). IsMappedTo t j (array j) (get_or items j None)) (sym becomes.0)
         (kept_set t core.map.items k to array next.1 (copied_shows f t core array stands to from next.0 k next.1 next.2 puts)
-        (copied_kept f t core array stands to from next.0 k next.1 next.2 puts)
+        (λ i l differs. copied_kept f t core array stands to from next.0 puts i l)
         j (subst (λ (m : ℕ). j < m) (ap length becomes.0 ∙ length-set core.map.items k (Some to)) l));
     numbers = λ d q r m v e. ⊎_elim
         (λ h. let below = stands.numbers from.block from.page r m v h in omega (arith, below, becomes.1))
         (λ h. let below = stands.numbers d q r m v h in omega (arith, below, becomes.1))
-        (was f t to.block to.page (f from.block from.page) (erased_next f t core array stands to next.0) puts d q r m v e);
+        (was_page f t to.block to.page (f from.block from.page) (erased_next f t core array stands to next.0) puts d q r m v e);
     erased = ready_next f t to (f from.block from.page) new.next_page core.pages becomes.2.0 (subst (IsErasedFrom f) next.0 stands.erased) puts;
   }
 
@@ -88,9 +89,9 @@ module _ (f t : Flash) (core new : Core) (array : ℕ → Sector) (stands : Repr
     erased = subst (IsErasedFrom f) (sym becomes.2) stands.erased;
   })
 
-  pub represents_after : (m : Command) → s < length core.map.items → IsNext core m → Completes m s x f t → BecomesCore core s m new → Represents t new
+  pub represents_after : (m : Command) → IsNext core m → Completes m s x f t → BecomesCore core s m new → Represents t new
       (array_with m array s x)
-  represents_after (Program at n) lt next does becomes = after_program at n lt next does becomes
-  represents_after (Copy k from to) lt next does becomes = after_copy k from to next does becomes
-  represents_after (Erase b) lt next does becomes = after_erase b next does becomes
-  represents_after Refused lt next does becomes = after_refused does becomes
+  represents_after (Program at n) next does becomes = after_program at n next does becomes
+  represents_after (Copy k from to) next does becomes = after_copy k from to next does becomes
+  represents_after (Erase b) next does becomes = after_erase b next does becomes
+  represents_after Refused next does becomes = after_refused does becomes

@@ -1,10 +1,13 @@
+pub mod Extents
 pub mod Cells
 pub mod Moments
 pub mod Done
 pub mod Counts
 pub mod Collects
+pub mod Known
 pub mod Spares
 pub mod Scans
+pub mod Founds
 pub mod Frees
 pub mod Promises
 pub mod Noting

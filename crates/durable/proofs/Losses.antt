@@ -6,6 +6,7 @@ use Rattle.std.proofs.lemmas.Bool.Decides.{nat_tests}
 use Rattle.geometry.specs.Sectors.{Sector}
 use Rattle.durable.specs.Flash.{PageContents, Erased, Torn, Version, Flash}
 use Rattle.durable.specs.declared.found.Candidate.{Candidate}
+use Rattle.durable.specs.declared.extent.Extent.{Extent}
 use Rattle.durable.specs.Losses.{version_count, versions_before, gaps_with, gaps_before, IsGapless, gaps_in, has_gap, is_at, has_found, losses_in}
 
 or_right : (k j : Bool) → j ≡ true → (k || j) ≡ true
@@ -110,7 +111,7 @@ all_counted f b (suc n) all =
     let before = all_counted f b n (λ p lt. all p (omega (arith, lt))) in
     omega (arith, before, all n (omega arith))
 
-version_is : (c : PageContents) (s m : ℕ) (v : Sector) → c ≡ Version s m v → version_count c ≡ 1
+version_is : (c : PageContents) (s : Extent) (m : ℕ) (v : Sector) → c ≡ Version s m v → version_count c ≡ 1
 version_is c s m v is = ap version_count is
 
 -- the gaps after one page more are none: all before it have versions, or it has none and there were no gaps before
@@ -120,7 +121,7 @@ step_none f b n (Version s m v) is none = inl (all_versions f b n (omega (arith,
 step_none f b n Erased is none = inr (none, ap version_count is)
 step_none f b n Torn is none = inr (none, ap version_count is)
 
-pub none_whole : (f : Flash) (b n : ℕ) → gaps_before f b n ≡ 0 → (p q s m : ℕ) (v : Sector) → p < q → q < n → f b q ≡ Version s m v
+pub none_whole : (f : Flash) (b n : ℕ) → gaps_before f b n ≡ 0 → (p q : ℕ) (s : Extent) (m : ℕ) (v : Sector) → p < q → q < n → f b q ≡ Version s m v
     → version_count (f b p) ≡ 1
 none_whole f b zero none p q s m v lt within is = absurd (omega (arith, within))
 none_whole f b (suc n) none p q s m v lt within is = ⊎_elim

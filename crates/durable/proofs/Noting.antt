@@ -5,6 +5,7 @@ use Rattle.std.proofs.lemmas.Bool.Decides.{nat_tests}
 use Rattle.geometry.specs.declared.page_addr.PageAddr.{PageAddr}
 use Rattle.durable.specs.declared.found.Stamp.{Stamp}
 use Rattle.durable.specs.Flash.{Flash}
+use Rattle.durable.specs.Updates.{LiesWithin}
 use Rattle.durable.specs.Device.{Device, IsWrittenOn}
 use Rattle.durable.specs.Mounting.{IsStampOf, page_on}
 
@@ -31,6 +32,6 @@ of_next blocks at P some holds = subst (λ (k : Option PageAddr). IfSome k P) (l
 
 -- a stamp of the flash is one of the device
 pub fits_device : (f : Flash) (device : Device) (b p : ℕ) (stamp : Option Stamp) → IsWrittenOn device f → IsStampOf f b p stamp
-    → IfSome stamp (λ s. (s.sector < device.sectors) × (s.number + 1 < 2 ^ 64))
+    → IfSome stamp (λ s. LiesWithin device.sectors s.extent × (s.number + 1 < 2 ^ 64))
 fits_device f device b p None written is = tt
-fits_device f device b p (Some stamp) written is = let w = written b p stamp.sector stamp.number is.0 is.1 in (w.2, w.3)
+fits_device f device b p (Some stamp) written is = let w = written b p stamp.extent stamp.number is.0 is.1 in (w.2, w.3)

@@ -1,16 +1,17 @@
 -- What each call keeps of the promise.
-use Rattle.std.proofs.Common.{◌≡◌, ◌≢◌, ◌⊎◌, inl, inr, ⊎_elim, ◌+◌, ◌-◌, ◌*◌, ◌<◌, ◌≤◌, ◌^◌, ℕ, List, [], ◌∷◌, length, Option, None, Some, get_or}
+use Rattle.std.proofs.Common.{◌≡◌, ◌⊎◌, inl, inr, ⊎_elim, ◌+◌, ◌-◌, ◌*◌, ◌<◌, ◌≤◌, ◌^◌, ℕ, List, [], ◌∷◌, length, Option, None, Some, get_or}
 use Rattle.std.proofs.Common.{refl, sym, ◌∙◌, ap, subst, arith}
 use Rattle.std.proofs.lemmas.Bool.{cases_eq}
 use Rattle.std.proofs.lemmas.List.{length-set}
 use Rattle.geometry.specs.Sectors.{Sector}
 use Rattle.geometry.specs.declared.page_addr.PageAddr.{PageAddr}
+use Rattle.durable.specs.declared.extent.Extent.{Extent}
 use Rattle.durable.specs.declared.command.Command.{Command}
 use Rattle.durable.specs.declared.command.Command.TheVariants.{Program, Copy, Erase, Refused}
 use Rattle.durable.specs.declared.memory.Core.{Core}
 use Rattle.durable.specs.declared.mount.Mount.{Mount}
-use Rattle.durable.specs.Updates.{Update, array_after, changed}
-use Rattle.durable.specs.Flash.{PageContents, Torn, Version, Flash, RecoversSector, Recovers, SetsPage, IsErased}
+use Rattle.durable.specs.Updates.{LiesWithin, Update, array_after, changed}
+use Rattle.durable.specs.Flash.{PageContents, Torn, Version, Flash, HasVersion, RecoversSector, Recovers, SetsPage, IsErased}
 use Rattle.durable.specs.Commands.{Completes, CutLeaves, IsAllowed, IsSameFlash, updates_with}
 use Rattle.durable.specs.Device.{Device, device_of, device_in, NamesOn, IsWrittenOn}
 use Rattle.durable.specs.Memory.{Represents}
@@ -23,7 +24,7 @@ use Rattle.durable.specs.Failures.{IsRenumbered, HasVersionlessBlock, IsSameFlas
 use Rattle.durable.specs.Promise.{KeepsAcknowledged, IsReadable, IsRecoverable, IsConsistent}
 use Rattle.durable.specs.Calls.{IsSafe, SurvivesCut, SurvivesIdleCut, Acknowledges, HasNoted}
 use Rattle.durable.specs.Runs.{Event, Completed, Failed, CutInside, CutBetween, IsMountedFrom, Runs, acknowledged_in, begun_in}
-use Rattle.durable.proofs.Cells.{same_held, torn_holds_none, erased_holds_none, erased_loses}
+use Rattle.durable.proofs.Cells.{same_held, torn_holds_none, erased_holds_none, erased_has_none, erased_loses}
 use Rattle.durable.proofs.Moments.{erased_next, source_shows, same_mounts, lost_mounts, torn_mounts, programmed_mounts, copied_mounts}
 use Rattle.durable.proofs.Done.{Becomes, BecomesCore, array_with, represents_after}
 use Rattle.durable.proofs.Spares.{cut_spare, spare_after, same_spare}
@@ -31,7 +32,7 @@ use Rattle.durable.proofs.Scans.{finished}
 use Rattle.durable.proofs.Frees.{duplicated_freeable, spares}
 
 -- what success leaves is one of the things that a power cut may leave
-pub completes_cut : (f t : Flash) (m : Command) (s : ℕ) (x : Sector) → Completes m s x f t → CutLeaves m s x f t
+pub completes_cut : (f t : Flash) (m : Command) (s : Extent) (x : Sector) → Completes m s x f t → CutLeaves m s x f t
 completes_cut f t (Program at n) s x does = inr (inr does)
 completes_cut f t (Copy k from to) s x does = inr (inr does)
 completes_cut f t (Erase b) s x does = erased_loses f t b does.0 does.1
@@ -42,7 +43,7 @@ module _ (f t : Flash) (core : Core) (array : ℕ → Sector) (stands : Represen
   same_written same = λ d q s m v e. written d q s m v (sym (same d q) ∙ e)
 
   set_written : (at : PageAddr) (x : PageContents) → core.next_page ≡ Some at
-      → ((s m : ℕ) (v : Sector) → x ≡ Version s m v → (s < length core.map.items) × (m + 1 < 2 ^ 64)) → SetsPage f t at.block at.page x
+      → ((s : Extent) (m : ℕ) (v : Sector) → x ≡ Version s m v → LiesWithin (length core.map.items) s × (m + 1 < 2 ^ 64)) → SetsPage f t at.block at.page x
       → IsWrittenOn (device_of core) t
   set_written at x is good puts = λ d q s m v e. ⊎_elim
       (λ h. let on = core.on_device at is in let place = place_of d q s m v e h in (
@@ -54,7 +55,8 @@ module _ (f t : Flash) (core : Core) (array : ℕ → Sector) (stands : Represen
       (λ h. written d q s m v h)
       (here_or_before d q s m v e)
     where
-      here_or_before : (d q s m : ℕ) (v : Sector) → t d q ≡ Version s m v → ((x ≡ Version s m v) × (d ≡ at.block) × (q ≡ at.page)) ⊎ (f d q ≡ Version s m v)
+      here_or_before : (d q : ℕ) (s : Extent) (m : ℕ) (v : Sector) → t d q ≡ Version s m v
+          → ((x ≡ Version s m v) × (d ≡ at.block) × (q ≡ at.page)) ⊎ (f d q ≡ Version s m v)
       here_or_before d q s m v e = ⊎_elim
           (λ b. ⊎_elim
           (λ p. inl (sym puts.put ∙ ((λ i. t (sym b i) (sym p i)) ∙ e), b, p))
@@ -63,13 +65,16 @@ module _ (f t : Flash) (core : Core) (array : ℕ → Sector) (stands : Represen
           (λ differs. inr (sym (puts.others d q (inl differs)) ∙ e))
           (cases_eq d at.block)
 
-      place_of : (d q s m : ℕ) (v : Sector) → t d q ≡ Version s m v → (x ≡ Version s m v) × (d ≡ at.block) × (q ≡ at.page) → (d ≡ at.block) × (q ≡ at.page)
+      place_of : (d q : ℕ) (s : Extent) (m : ℕ) (v : Sector) → t d q ≡ Version s m v → (x ≡ Version s m v) × (d ≡ at.block) × (q ≡ at.page)
+          → (d ≡ at.block) × (q ≡ at.page)
       place_of d q s m v e h = (h.1, h.2)
 
-  pub cut_written : (s : ℕ) (x : Sector) (m : Command) → s < length core.map.items → IsNext core m → CutLeaves m s x f t → IsWrittenOn (device_of core) t
+  pub cut_written : (s : Extent) (x : Sector) (m : Command) → LiesWithin (length core.map.items) s → IsNext core m → CutLeaves m s x f t
+      → IsWrittenOn (device_of core) t
   cut_written s x (Program at n) lt next cut = ⊎_elim same_written (λ more. ⊎_elim
       (set_written at Torn next.0 (λ r m v e. absurd (torn_holds_none r m v e)))
-      (set_written at (Version s n x) next.0 (λ r m v e. let is = same_held s n x r m v e in (omega (arith, is.0, lt), omega (arith, is.1, next.2)))) more) cut
+      (set_written at (Version s n x) next.0 (λ r m v e. let is = same_held s n x r m v e in
+      (subst (LiesWithin (length core.map.items)) is.0 lt, omega (arith, is.1, next.2)))) more) cut
   cut_written s x (Copy k from to) lt next cut = ⊎_elim same_written (λ more. ⊎_elim
       (set_written to Torn next.0 (λ r m v e. absurd (torn_holds_none r m v e)))
       (set_written to (f from.block from.page) next.0 (λ r m v e. let w = written from.block from.page r m v e in (w.2, w.3))) more) cut
@@ -77,14 +82,14 @@ module _ (f t : Flash) (core : Core) (array : ℕ → Sector) (stands : Represen
   cut_written s x Refused lt next cut = same_written cut
 
   -- a power cut leaves the array from before the call, or from after it
-  cut_recovers : (s : ℕ) (x : Sector) (m : Command) → IsNext core m → CutLeaves m s x f t
+  cut_recovers : (s : Extent) (x : Sector) (m : Command) → IsNext core m → CutLeaves m s x f t
       → Recovers t (length core.map.items) array ⊎ Recovers t (length core.map.items) (changed array s x)
   cut_recovers s x (Program at n) next cut = ⊎_elim (λ same. inl (same_mounts f t core array stands same)) (λ more. ⊎_elim
       (λ torn. inl (torn_mounts f t core array stands at next.0 torn))
       (λ put. inr (programmed_mounts f t core array stands at next.0 s n x next.1 put)) more) cut
   cut_recovers s x (Copy k from to) next cut = ⊎_elim (λ same. inl (same_mounts f t core array stands same)) (λ more. ⊎_elim
       (λ torn. inl (torn_mounts f t core array stands to next.0 torn))
-      (λ put. inl (copied_mounts f t core array stands to from next.0 k next.1 next.2 put)) more) cut
+      (λ put. inl (copied_mounts f t core array stands to from next.0 put)) more) cut
   cut_recovers s x (Erase b) next cut = inl (lost_mounts f t core array stands b next.2 cut)
   cut_recovers s x Refused next cut = inl (same_mounts f t core array stands cut)
 
@@ -93,7 +98,7 @@ module _ (f t : Flash) (core : Core) (array : ℕ → Sector) (stands : Represen
   names (Program at n) next = (core.on_device at next.0, erased_next f t core array stands at next.0)
   names (Copy k from to) next =
       let source = source_shows f t core array stands k from next.1 next.2 in
-      let w = written from.block from.page k source.number (array k) source.held in
+      let w = written from.block from.page source.held.0 source.number (array k) source.held.1 in
       (((w.0, w.1), core.on_device to next.0), erased_next f t core array stands to next.0)
   names (Erase b) next = (next.1, tt)
   names Refused next = (tt, tt)
@@ -101,10 +106,10 @@ module _ (f t : Flash) (core : Core) (array : ℕ → Sector) (stands : Represen
 pub is_safe : (core : Core) (m : Command) → IsNext core m → IsSafe core m
 is_safe core m next f acked begun consistent = names f f core (array_after consistent.updates) consistent.represents consistent.written m next
 
-pub survives_cut : (core : Core) (s : ℕ) (m : Command) → s < length core.map.items → IsNext core m → SurvivesCut core s m
+pub survives_cut : (core : Core) (s : Extent) (m : Command) → LiesWithin (length core.map.items) s → IsNext core m → SurvivesCut core s m
 survives_cut core s m lt next f t x acked begun is cut =
     let array = array_after is.updates in
-    let update : Update = record { sector = s; value = x } in
+    let update : Update = record { extent = s; value = x } in
     record {
       keeps = ⊎_elim
           (λ before. record { updates = is.updates; includes = is.includes; included = inl is.included; recovers = before })
@@ -130,9 +135,9 @@ survives_idle_cut core f acked begun is = record {
 written_on : (t : Flash) (old new : Device) → new ≡ old → IsWrittenOn old t → IsWrittenOn new t
 written_on t old new same = subst (λ (d : Device). IsWrittenOn d t) (sym same)
 
-size_after : (core : Core) (s : ℕ) (m : Command) (map : List (Option PageAddr)) (number : ℕ) (next : Option PageAddr) → Becomes core s m map number next
+size_after : (core : Core) (s : Extent) (m : Command) (map : List (Option PageAddr)) (number : ℕ) (next : Option PageAddr) → Becomes core s m map number next
     → length map ≡ length core.map.items
-size_after core s (Program at n) map number next becomes = ap length becomes.0 ∙ length-set core.map.items s (Some at)
+size_after core s (Program at n) map number next becomes = becomes.0.size
 size_after core s (Copy k from to) map number next becomes = ap length becomes.0 ∙ length-set core.map.items k (Some to)
 size_after core s (Erase b) map number next becomes = ap length becomes.0
 size_after core s Refused map number next becomes = ap length becomes.0
@@ -141,18 +146,19 @@ same_device : (old new : Core) → new.blocks ≡ old.blocks → new.read_blocks
     → length new.map.items ≡ length old.map.items → device_of new ≡ device_of old
 same_device old new blocks read pages sectors = λ i. record { blocks = blocks i; read_blocks = read i; pages = pages i; sectors = sectors i }
 
-pub acknowledges : (core new : Core) (s : ℕ) (m : Command) → s < length core.map.items → IsNext core m → BecomesCore core s m new → new.blocks ≡ core.blocks
+pub acknowledges : (core new : Core) (s : Extent) (m : Command) → LiesWithin (length core.map.items) s → IsNext core m → BecomesCore core s m new
+    → new.blocks ≡ core.blocks
     → new.read_blocks ≡ core.read_blocks → new.pages ≡ core.pages → Acknowledges core s m new
 acknowledges core new s m lt next becomes blocks read pages f t x acked begun is does =
     let size = size_after core s m new.map.items new.next_number new.next_page becomes in
     acknowledged m next becomes does
-    (represents_after f t core new (array_after is.updates) is.represents s x m lt next does becomes)
+    (represents_after f t core new (array_after is.updates) is.represents s x m next does becomes)
     (written_on t (device_of core) (device_of new) (same_device core new blocks read pages size)
     (cut_written f t core (array_after is.updates) is.represents is.written s x m lt next (completes_cut f t m s x does)))
-    (spare_after f t core new (array_after is.updates) is.represents is.spare blocks s x lt m next does becomes)
+    (spare_after f t core new (array_after is.updates) is.represents is.spare blocks s x m next does becomes)
   where
     update : Update
-    update = record { sector = s; value = x }
+    update = record { extent = s; value = x }
 
     acknowledged : (m : Command) → IsNext core m → BecomesCore core s m new → Completes m s x f t → Represents t new (array_with m (array_after is.updates) s x)
         → IsWrittenOn (device_of new) t → LeavesSpare t new → IsConsistent t new (updates_with m update acked) (updates_with m update begun)
@@ -176,8 +182,8 @@ readable f device acked begun is = record { keeps = is.keeps; written = is.writt
 
 module _ (mount : Mount) (at_end : mount.read_blocks ≤ mount.block) (f : Flash) (acked begun : List Update) (noted : HasNoted f mount)
     (is : IsReadable f (device_in mount) acked begun) where
-  all_read : (s d q m : ℕ) (v : Sector) → f d q ≡ Version s m v → IsRead mount.pages mount.block mount.page d q
-  all_read s d q m v e = let w = is.written d q s m v e in (w.1, inl (omega (arith, w.0, at_end)))
+  all_read : (d q : ℕ) (s : Extent) (m : ℕ) (v : Sector) → f d q ≡ Version s m v → IsRead mount.pages mount.block mount.page d q
+  all_read d q s m v e = let w = is.written d q s m v e in (w.1, inl (omega (arith, w.0, at_end)))
 
   pub some_freeable : CanFree f mount.blocks (length mount.found.items) → ((b : ℕ) → b < mount.blocks → IsFreeable [] mount.found.items b → ⊥) → ⊥
   some_freeable spare none = none spare.0 spare.1 (duplicated_freeable f (array_after is.keeps.updates) mount.pages mount.block mount.page mount.next_number
@@ -205,11 +211,19 @@ module _ (mount : Mount) (at_end : mount.read_blocks ≤ mount.block) (f : Flash
 -- an erased flash can be mounted
 pub erased_recoverable : (f : Flash) (device : Device) → IsErased f → 0 < device.blocks → IsRecoverable f device [] []
 erased_recoverable f device erased some =
-    let nothing : (b p s m : ℕ) (v : Sector) → f b p ≢ Version s m v = λ b p s m v e. erased_holds_none s m v (sym (erased b p) ∙ e) in
     record {
-      keeps = record { updates = []; includes = refl; included = refl; recovers = λ s lt. inr (refl, λ b p m v. nothing b p s m (Some v)) };
-      written = λ b p s m v e. absurd (nothing b p s m v e);
-      spare = (0, some, λ s p v lt shows. absurd (nothing 0 p s shows.number v shows.held));
+      keeps = record {
+        updates = [];
+        includes = refl;
+        included = refl;
+        recovers = λ s lt. inr (
+          refl,
+          λ b p m v. erased_has_none f b p s m (Some v)
+              (erased b p),
+        );
+      };
+      written = λ b p s m v e. absurd (erased_holds_none s m v (sym (erased b p) ∙ e));
+      spare = (0, some, λ s p v lt shows. absurd (erased_has_none f 0 p s shows.number v (erased 0 p) shows.held));
     }
 
 -- a device with room has blocks
@@ -225,13 +239,16 @@ pub blank_recoverable : (f : Flash) (device : Device) (acked begun : List Update
 blank_recoverable f device acked begun is blank = record {
   keeps = is.keeps;
   written = is.written;
-  spare = (blank.0, blank.1, λ s p v lt shows. absurd (blank.2 p s shows.number v shows.held));
+  spare = (blank.0, blank.1, λ s p v lt shows. absurd (blank.2 p shows.held.0 shows.number v shows.held.1));
 }
 
 -- blocks that are numbered anew hold what they held
 module _ (f t : Flash) (blocks : ℕ) (renumbered : IsRenumbered f t blocks) where
-  pub held_before : (c q s m : ℕ) (v : Sector) → t c q ≡ Version s m v → f (renumbered.from c) q ≡ Version s m v
+  pub held_before : (c q : ℕ) (s : Extent) (m : ℕ) (v : Sector) → t c q ≡ Version s m v → f (renumbered.from c) q ≡ Version s m v
   held_before c q s m v e = sym (renumbered.moved (renumbered.from c) q) ∙ ((λ i. t (renumbered.inverse c i) q) ∙ e)
+
+  pub version_before : (c q s m : ℕ) (v : Sector) → HasVersion t c q s m v → HasVersion f (renumbered.from c) q s m v
+  version_before c q s m v held = (held.0, held_before c q held.0 m v held.1, held.2)
 
   sector_renumbered : (s : ℕ) (value : Sector) → RecoversSector f s value → RecoversSector t s value
   sector_renumbered s value (inl shown) = inl (
@@ -239,11 +256,11 @@ module _ (f t : Flash) (blocks : ℕ) (renumbered : IsRenumbered f t blocks) whe
     shown.1,
     record {
       number = shown.2.number;
-      held = renumbered.moved shown.0 shown.1 ∙ shown.2.held;
-      newest = λ c q m v e. shown.2.newest (renumbered.from c) q m v (held_before c q s m v e);
+      held = (shown.2.held.0, renumbered.moved shown.0 shown.1 ∙ shown.2.held.1, shown.2.held.2);
+      newest = λ c q m v e. shown.2.newest (renumbered.from c) q m v (version_before c q s m v e);
     },
   )
-  sector_renumbered s value (inr none) = inr (none.0, λ c q m bytes e. none.1 (renumbered.from c) q m bytes (held_before c q s m (Some bytes) e))
+  sector_renumbered s value (inr none) = inr (none.0, λ c q m bytes e. none.1 (renumbered.from c) q m bytes (version_before c q s m (Some bytes) e))
 
   pub written_renumbered : (old new : Device) → IsSameFlashOf old new → old.read_blocks ≡ blocks → IsWrittenOn old f → IsWrittenOn new t
   written_renumbered old new same all written = λ c q s m v e.
@@ -251,7 +268,7 @@ module _ (f t : Flash) (blocks : ℕ) (renumbered : IsRenumbered f t blocks) whe
       let within = renumbered.within (renumbered.from c) (omega (arith, w.0, all)) in (
         omega (arith, within, renumbered.inverse c, all, same.0),
         omega (arith, w.1, same.1),
-        omega (arith, w.2, same.2),
+        subst (λ (n : ℕ). LiesWithin n s) (sym same.2) w.2,
         w.3,
       )
 

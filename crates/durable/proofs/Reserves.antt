@@ -2,6 +2,7 @@
 use Rattle.std.proofs.Common.{◌≡◌, ◌≢◌, inl, ⊎_elim, ◌+◌, ◌<◌, ◌≤◌, ℕ, List, [], ◌∷◌, refl, sym, ◌∙◌, ap, arith}
 use Rattle.std.proofs.lemmas.Bool.Decides.{nat_tests}
 use Rattle.geometry.specs.Sectors.{Sector}
+use Rattle.durable.specs.declared.extent.Extent.{Extent}
 use Rattle.durable.specs.declared.command.Command.{Command}
 use Rattle.durable.specs.declared.command.Command.TheVariants.{Program, Copy, Erase, Refused}
 use Rattle.durable.specs.declared.memory.Core.{Core}
@@ -20,7 +21,7 @@ use Rattle.durable.proofs.Promises.{blank_recoverable, completes_cut, readable, 
 other_block : (c b blocks : ℕ) → c < blocks → blocks ≤ b → b ≢ c
 other_block c b blocks lt le e = omega (arith, lt, le, e)
 
-pub untouched : (f t : Flash) (device : Device) (m : Command) (s : ℕ) (value : Sector) → NamesOn device m → CutLeaves m s value f t → (b p : ℕ)
+pub untouched : (f t : Flash) (device : Device) (m : Command) (s : Extent) (value : Sector) → NamesOn device m → CutLeaves m s value f t → (b p : ℕ)
     → device.blocks ≤ b → t b p ≡ f b p
 untouched f t device (Program at n) s value names cut b p le = ⊎_elim (λ same. same b p) (λ more. ⊎_elim
     (λ torn. torn.others b p (inl (other_block at.block b device.blocks names.0 le)))
@@ -112,8 +113,8 @@ blank (Completed update m ∷ events) t new runs has c le p s n v held =
     let now = spares_before old (device_of new) (failures_in events) runs.3.1.2 has in
     let before = whole events runs.0 runs.1 runs.2 now in
     let is = blocks_are (device_of new) old runs.3.1.2 in
-    let same = untouched runs.0 t old m update.sector update.value (names_of runs.1 m runs.0 events before runs.3.0)
-    (completes_cut runs.0 t m update.sector update.value runs.3.1.0) c p (omega (arith, le, is.0)) in
+    let same = untouched runs.0 t old m update.extent update.value (names_of runs.1 m runs.0 events before runs.3.0)
+    (completes_cut runs.0 t m update.extent update.value runs.3.1.0) c p (omega (arith, le, is.0)) in
     blank events runs.0 runs.1 runs.2 now c (omega (arith, le, is.0)) p s n v (sym same ∙ held)
 blank (Failed update m ∷ events) t new runs has c le p s n v held =
     let old = device_of runs.1 in
@@ -123,7 +124,7 @@ blank (Failed update m ∷ events) t new runs has c le p s n v held =
     let names = names_of runs.1 m runs.0 events before runs.3.0 in
     let within = changed_in_use old m runs.3.2 names runs.3.5 in
     let stays = swapped_other runs.3.2 (old.blocks + failures_in events) c (λ e. omega (arith, e, within, le, is.0)) (λ e. omega (arith, e, le, is.0)) in
-    let same = untouched runs.0 runs.3.1 old m update.sector update.value names runs.3.4 c p (omega (arith, le, is.0)) in
+    let same = untouched runs.0 runs.3.1 old m update.extent update.value names runs.3.4 c p (omega (arith, le, is.0)) in
     let left = sym (runs.3.6 c p) ∙ ((λ i. t (stays i) p) ∙ held) in
     blank events runs.0 runs.1 runs.2 (omega (arith, now)) c (omega (arith, le, is.0)) p s n v (sym same ∙ left)
 blank (CutInside update m ∷ events) t new runs has c le p s n v held =
@@ -131,7 +132,7 @@ blank (CutInside update m ∷ events) t new runs has c le p s n v held =
     let now = spares_before old (device_of new) (failures_in events) runs.3.1.3 has in
     let before = whole events runs.0 runs.1 runs.2 now in
     let is = blocks_are (device_of new) old runs.3.1.3 in
-    let same = untouched runs.0 t old m update.sector update.value (names_of runs.1 m runs.0 events before runs.3.0) runs.3.1.1 c p
+    let same = untouched runs.0 t old m update.extent update.value (names_of runs.1 m runs.0 events before runs.3.0) runs.3.1.1 c p
     (omega (arith, le, is.0)) in
     blank events runs.0 runs.1 runs.2 now c (omega (arith, le, is.0)) p s n v (sym same ∙ held)
 blank (CutBetween ∷ events) t new runs has c le p s n v held =
@@ -142,8 +143,8 @@ blank (CutBetween ∷ events) t new runs has c le p s n v held =
 
 -- one more failure can be mounted
 pub one_more : (events : List Event) (f left t : Flash) (core : Core) (update : Update) (m : Command) (b : ℕ) → RunsOnReserve events f core
-    → HasSpares (device_of core) (failures_in events + 1) → IsSafe core m → SurvivesCut core update.sector m
-    → CutLeaves m update.sector update.value f left → Changes m b → IsSwapped left t b ((device_of core).blocks + failures_in events)
+    → HasSpares (device_of core) (failures_in events + 1) → IsSafe core m → SurvivesCut core update.extent m
+    → CutLeaves m update.extent update.value f left → Changes m b → IsSwapped left t b ((device_of core).blocks + failures_in events)
     → IsRecoverable t (device_of core) (acknowledged_in events) (update ∷ begun_in events)
 one_more events f left t core update m b runs has safe survives cut changes swap =
     let device = device_of core in
@@ -160,6 +161,6 @@ one_more events f left t core update m b runs has safe survives cut changes swap
       b,
       within,
       λ p s n v held. blank events f core runs (omega (arith, has)) spare (omega arith) p s n v
-          (sym (untouched f left device m update.sector update.value names cut spare p (omega arith))
+          (sym (untouched f left device m update.extent update.value names cut spare p (omega arith))
           ∙ (sym (swap spare p) ∙ ((λ i. t (swapped_second b spare i) p) ∙ held))),
     )

@@ -1,21 +1,23 @@
 -- One stamp more is read.
 use Rattle.std.proofs.Common.{◌≡◌, ◌≢◌, ◌⊎◌, inl, inr, ⊎_elim, ◌+◌, ◌<◌, ◌≤◌, ◌==◌, if◌then◌else◌, ℕ, Bool, true, false, List, length, Option, None, Some}
-use Rattle.std.proofs.Common.{get_or, set, refl, sym, ◌∙◌, ap}
+use Rattle.std.proofs.Common.{get_or, refl, sym, ◌∙◌, ap}
 use Rattle.std.proofs.Common.{subst, arith}
 use Rattle.std.proofs.lemmas.Bool.{cases_eq, cases_lt}
 use Rattle.std.proofs.lemmas.Bool.Decides.{nat_tests}
-use Rattle.std.proofs.lemmas.List.{get_or-set_same, get_or-set_other, length-set}
 use Rattle.geometry.specs.Sectors.{Sector}
 use Rattle.geometry.specs.declared.page_addr.PageAddr.{PageAddr}
 use Rattle.durable.specs.declared.found.Candidate.{Candidate}
 use Rattle.durable.specs.declared.found.Stamp.{Stamp}
+use Rattle.durable.specs.declared.extent.Extent.{Extent}
 use Rattle.durable.specs.declared.memory.Core.{Core}
-use Rattle.durable.specs.Flash.{Version, Flash, HoldsNewest, RecoversSector, Recovers}
+use Rattle.durable.specs.Updates.{Covers}
+use Rattle.durable.specs.Flash.{Version, Flash, HasVersion, HoldsNewest, RecoversSector, Recovers}
 use Rattle.durable.specs.Memory.{IsMappedTo, IsErasedFrom, Represents}
-use Rattle.durable.specs.Candidates.{twin_with, with_twin, newer_of, IsEntryOf, found_with, number_above}
+use Rattle.durable.specs.Candidates.{twin_with, with_twin, newer_of, IsEntryOf, IsFoundWith, number_above}
 use Rattle.durable.specs.Losses.{has_gap}
 use Rattle.durable.specs.Mounting.{IsRead, IsStampOf, IsBest, IsLone, Finds}
-use Rattle.durable.proofs.Cells.{same_held}
+use Rattle.durable.proofs.Extents.{cases_covered}
+use Rattle.durable.proofs.Cells.{same_held, same_version}
 
 pub seen_next : (pages b p c q : ℕ) → IsRead pages b (p + 1) c q → IsRead pages b p c q ⊎ ((c ≡ b) × (q ≡ p))
 seen_next pages b p c q seen = ⊎_elim
@@ -99,31 +101,44 @@ pub twin_is : (P : PageAddr → Type 0) (gaps : List ℕ) (k : Option PageAddr) 
 twin_is P gaps None at old here = here
 twin_is P gaps (Some twin) at old here = chosen_twin P (has_gap gaps twin.block) at twin here (old twin refl)
 
+-- each version of a sector is read where each page with a version is
+pub seen : (f : Flash) (pages b p : ℕ) → ((d q : ℕ) (e : Extent) (m : ℕ) (v : Sector) → f d q ≡ Version e m v → IsRead pages b p d q)
+    → (s d q m : ℕ) (v : Sector) → HasVersion f d q s m v → IsRead pages b p d q
+seen f pages b p all s d q m v held = all d q held.0 m v held.1
+
 module _ (f : Flash) (pages b p : ℕ) where
   pub at_page : (c q : ℕ) → (c ≡ b) × (q ≡ p) → f b p ≡ f c q
   at_page c q here = λ i. f (sym here.0 i) (sym here.1 i)
 
-  best_beside : (s : ℕ) (k : Option Candidate) → IsBest f pages b p s k → ((m : ℕ) (d : Sector) → f b p ≢ Version s m d) → IsBest f pages b (p + 1) s k
-  best_beside s None best none = λ c q m d seen e. ⊎_elim (λ old. best c q m d old e) (λ here. none m d (at_page c q here ∙ e)) (seen_next pages b p c q seen)
+  -- a version that this page has
+  pub here_has : (c q s m : ℕ) (d : Sector) → (c ≡ b) × (q ≡ p) → HasVersion f c q s m d → HasVersion f b p s m d
+  here_has c q s m d here held = (held.0, at_page c q here ∙ held.1, held.2)
+
+  pub there_has : (at : PageAddr) (s m : ℕ) (d : Sector) → at.block ≡ b → at.page ≡ p → HasVersion f b p s m d → HasVersion f at.block at.page s m d
+  there_has at s m d is_b is_p held = (held.0, (λ i. f (is_b i) (is_p i)) ∙ held.1, held.2)
+
+  best_beside : (s : ℕ) (k : Option Candidate) → IsBest f pages b p s k → ((m : ℕ) (d : Sector) → ¬ HasVersion f b p s m d) → IsBest f pages b (p + 1) s k
+  best_beside s None best none = λ c q m d seen e. ⊎_elim (λ old. best c q m d old e) (λ here. none m d (here_has c q s m d here e)) (seen_next pages b
+      p c q seen)
   best_beside s (Some x) best none = (
     best.0,
-    (λ c q m d seen e. ⊎_elim (λ old. best.1 c q m d old e) (λ here. absurd (none m d (at_page c q here ∙ e)))
+    (λ c q m d seen e. ⊎_elim (λ old. best.1 c q m d old e) (λ here. absurd (none m d (here_has c q s m d here e)))
         (seen_next pages b p c q seen)),
     best.2,
   )
 
-  pub here_number : (s n : ℕ) (d : Sector) → f b p ≡ Version s n d → (c q m : ℕ) (v : Sector) → (c ≡ b) × (q ≡ p) → f c q ≡ Version s m v → n ≡ m
-  here_number s n d is c q m v here e = (same_held s n d s m v (sym is ∙ (at_page c q here ∙ e))).1
+  pub here_number : (s n : ℕ) (d : Sector) → HasVersion f b p s n d → (c q m : ℕ) (v : Sector) → (c ≡ b) × (q ≡ p) → HasVersion f c q s m v → n ≡ m
+  here_number s n d is c q m v here e = (same_version (f b p) s n d s m v is (here_has c q s m v here e)).0
 
-  best_twin : (gaps : List ℕ) (s n : ℕ) (d : Sector) (at : PageAddr) (old : Candidate) → at.block ≡ b → at.page ≡ p → f b p ≡ Version s n d
+  best_twin : (gaps : List ℕ) (s n : ℕ) (d : Sector) (at : PageAddr) (old : Candidate) → at.block ≡ b → at.page ≡ p → HasVersion f b p s n d
       → n ≡ old.number → IsBest f pages b p s (Some old) → IsBest f pages b (p + 1) s (Some (with_twin gaps old at))
   best_twin gaps s n d at old is_b is_p is eq best =
-      let here : (v : Sector) × (f at.block at.page ≡ Version s old.number v) =
-      (d, (λ i. f (is_b i) (is_p i)) ∙ (is ∙ ap (λ (x : ℕ). Version s x d) eq)) in
-      let most : (c q m : ℕ) (v : Sector) → IsRead pages b (p + 1) c q → f c q ≡ Version s m v → m ≤ old.number =
+      let here : (v : Sector) × HasVersion f at.block at.page s old.number v =
+      (d, subst (λ (x : ℕ). HasVersion f at.block at.page s x d) eq (there_has at s n d is_b is_p is)) in
+      let most : (c q m : ℕ) (v : Sector) → IsRead pages b (p + 1) c q → HasVersion f c q s m v → m ≤ old.number =
       λ c q m v seen e. ⊎_elim (λ o. best.1 c q m v o e) (λ at_p. let same = here_number s n d is c q m v at_p e in omega (arith, same, eq))
       (seen_next pages b p c q seen) in
-      let Held : PageAddr → Type 0 = λ t. (v : Sector) × (f t.block t.page ≡ Version s old.number v) in
+      let Held : PageAddr → Type 0 = λ t. (v : Sector) × HasVersion f t.block t.page s old.number v in
       ⊎_elim
       (λ same. subst (λ (x : Candidate). IsBest f pages b (p + 1) s (Some x)) (sym same.1) (best.0, most, best.2))
       (λ other. ⊎_elim
@@ -134,10 +149,10 @@ module _ (f : Flash) (pages b p : ℕ) where
       other)
       (twin_cases gaps old at)
 
-  best_later : (gaps : List ℕ) (s n : ℕ) (d : Sector) (at : PageAddr) (k : Option Candidate) → at.block ≡ b → at.page ≡ p → f b p ≡ Version s n d
+  best_later : (gaps : List ℕ) (s n : ℕ) (d : Sector) (at : PageAddr) (k : Option Candidate) → at.block ≡ b → at.page ≡ p → HasVersion f b p s n d
       → IsBest f pages b p s k → IsBest f pages b (p + 1) s (newer_of gaps k at n)
   best_later gaps s n d at None is_b is_p is best = (
-    (d, (λ i. f (is_b i) (is_p i)) ∙ is),
+    (d, there_has at s n d is_b is_p is),
     (λ c q m v seen e. ⊎_elim (λ old. absurd (best c q m v old e)) (λ here. let same = here_number s n d is c q m v here e in omega (arith, same))
         (seen_next pages b p c q seen)),
     (λ t e. absurd (none_is t e)),
@@ -151,7 +166,7 @@ module _ (f : Flash) (pages b p : ℕ) where
       ))
       (λ le. ⊎_elim
       (λ gt. subst (IsBest f pages b (p + 1) s) (sym (later_new gaps old at n gt)) (
-        (d, (λ i. f (is_b i) (is_p i)) ∙ is),
+        (d, there_has at s n d is_b is_p is),
         (λ c q m v seen e. ⊎_elim (λ o. let most = best.1 c q m v o e in omega (arith, most, gt)) (λ here. let same = here_number s n d is c q m v here e in
             omega (arith, same)) (seen_next pages b p c q seen)),
         (λ t e. absurd (none_is t e)),
@@ -163,8 +178,8 @@ module _ (f : Flash) (pages b p : ℕ) where
 
 -- a page with the greatest number of its sector shows it
 pub shows_best : (f : Flash) (pages b p s : ℕ) (c : Sector) (x : Candidate) → IsBest f pages b p s (Some x)
-    → ((d q m : ℕ) (v : Sector) → f d q ≡ Version s m v → IsRead pages b p d q)
-    → RecoversSector f s c → (at : PageAddr) (v : Sector) → f at.block at.page ≡ Version s x.number v → HoldsNewest f s c at.block at.page
+    → ((d q m : ℕ) (v : Sector) → HasVersion f d q s m v → IsRead pages b p d q)
+    → RecoversSector f s c → (at : PageAddr) (v : Sector) → HasVersion f at.block at.page s x.number v → HoldsNewest f s c at.block at.page
 shows_best f pages b p s c x best all (inl shown) at v held =
     let shows = shown.2 in
     let most = best.1 shown.0 shown.1 shows.number c (all shown.0 shown.1 shows.number c shows.held) shows.held in
@@ -173,26 +188,26 @@ shows_best f pages b p s c x best all (inl shown) at v held =
     let content : v ≡ c = ⊎_elim (λ lt. absurd (omega (arith, lt, most))) (λ is. is.1) tells in
     record {
       number = x.number;
-      held = held ∙ ap (Version s x.number) content;
+      held = subst (HasVersion f at.block at.page s x.number) content held;
       newest = λ d q m w e. ⊎_elim (λ lt. inl (omega (arith, lt, same))) (λ is. inr (is.0 ∙ sym same, is.1)) (shows.newest d q m w e);
     }
 shows_best f pages b p s c x best all (inr none) at v held =
-    let nothing : (d q m : ℕ) (w : Sector) → f d q ≡ Version s m w → w ≡ c = λ d q m w e. no_bytes d q m w e ∙ sym none.0 in
+    let nothing : (d q m : ℕ) (w : Sector) → HasVersion f d q s m w → w ≡ c = λ d q m w e. no_bytes d q m w e ∙ sym none.0 in
     record {
       number = x.number;
-      held = held ∙ ap (Version s x.number) (nothing at.block at.page x.number v held);
+      held = subst (HasVersion f at.block at.page s x.number) (nothing at.block at.page x.number v held) held;
       newest = λ d q m w e.
           let most = best.1 d q m w (all d q m w e) e in
           ⊎_elim (λ is. inr (is, nothing d q m w e)) (λ differs. inl (omega (arith, most, differs))) (cases_eq m x.number);
     }
   where
-    no_bytes : (d q m : ℕ) (w : Sector) → f d q ≡ Version s m w → w ≡ None
+    no_bytes : (d q m : ℕ) (w : Sector) → HasVersion f d q s m w → w ≡ None
     no_bytes d q m None e = refl
     no_bytes d q m (Some bytes) e = absurd (none.1 d q m bytes e)
 
 -- a sector is kept at the page that was found, or at its twin
 pub kept_of_best : (f : Flash) (pages b p s : ℕ) (c : Sector) (k : Option Candidate) (place : Option PageAddr) → IsBest f pages b p s k
-    → ((d q m : ℕ) (v : Sector) → f d q ≡ Version s m v → IsRead pages b p d q)
+    → ((d q m : ℕ) (v : Sector) → HasVersion f d q s m v → IsRead pages b p d q)
     → RecoversSector f s c → IsEntryOf k place → IsMappedTo f s c place
 kept_of_best f pages b p s c None place best all (inl shown) is = absurd (best shown.0 shown.1 shown.2.number c
     (all shown.0 shown.1 shown.2.number c shown.2.held) shown.2.held)
@@ -205,22 +220,23 @@ kept_of_best f pages b p s c (Some x) place best all reads (inr is) =
 
 -- after all pages the layer's memory is that of the flash
 pub finished : (f : Flash) (array : ℕ → Sector) (pages b p below : ℕ) (found : List (Option Candidate)) (core : Core) → Finds f pages b p found below
-    → ((s d q m : ℕ) (v : Sector) → f d q ≡ Version s m v → IsRead pages b p d q) → Recovers f (length found) array → length core.map.items ≡ length found
+    → ((d q : ℕ) (e : Extent) (m : ℕ) (v : Sector) → f d q ≡ Version e m v → IsRead pages b p d q) → Recovers f (length found) array
+    → length core.map.items ≡ length found
     → ((s : ℕ) → s < length found → IsEntryOf (get_or found s None) (get_or core.map.items s None)) → core.next_page ≡ None → core.next_number ≡ below
     → Represents f core array
 finished f array pages b p below found core finds all recovers size entries closed number = record {
   mapped = λ s lt. let is_in : s < length found = omega (arith, lt, size) in
-      kept_of_best f pages b p s (array s) (get_or found s None) (get_or core.map.items s None) (finds.best s is_in) (all s) (recovers s is_in)
+      kept_of_best f pages b p s (array s) (get_or found s None) (get_or core.map.items s None) (finds.best s is_in) (seen f pages b p all s) (recovers s is_in)
       (entries s is_in);
-  numbers = λ c q s m d e. let below = finds.numbers c q s m d (all s c q m d e) e in omega (arith, below, number);
+  numbers = λ c q s m d e. let below = finds.numbers c q s m d (all c q s m d e) e in omega (arith, below, number);
   erased = subst (IsErasedFrom f) (sym closed) tt;
 }
 
 module _ (f : Flash) (pages b p : ℕ) where
-  lone_beside : (s : ℕ) (k : Option Candidate) → IsLone f pages b p s k → ((m : ℕ) (d : Sector) → f b p ≢ Version s m d) → IsLone f pages b (p + 1) s k
+  lone_beside : (s : ℕ) (k : Option Candidate) → IsLone f pages b p s k → ((m : ℕ) (d : Sector) → ¬ HasVersion f b p s m d) → IsLone f pages b (p + 1) s k
   lone_beside s None lone none = tt
   lone_beside s (Some x) lone none = (
-    (λ alone c q d seen e. ⊎_elim (λ old. lone.0 alone c q d old e) (λ here. absurd (none x.number d (at_page f pages b p c q here ∙ e)))
+    (λ alone c q d seen e. ⊎_elim (λ old. lone.0 alone c q d old e) (λ here. absurd (none x.number d (here_has f pages b p c q s x.number d here e)))
         (seen_next pages b p c q seen)),
     lone.1,
     lone.2,
@@ -249,7 +265,7 @@ module _ (f : Flash) (pages b p : ℕ) where
       other)
       (twin_cases gaps old at)
 
-  lone_later : (gaps : List ℕ) (s n : ℕ) (d : Sector) (at : PageAddr) (k : Option Candidate) → at.block ≡ b → f b p ≡ Version s n d → IsBest f pages b p s k
+  lone_later : (gaps : List ℕ) (s n : ℕ) (d : Sector) (at : PageAddr) (k : Option Candidate) → at.block ≡ b → HasVersion f b p s n d → IsBest f pages b p s k
       → IsLone f pages b p s k → IsLone f pages b (p + 1) s (newer_of gaps k at n)
   lone_later gaps s n d at None is_b is best lone = (
     (λ alone c q v seen e. ⊎_elim (λ old. absurd (best c q n v old e)) (λ here. omega (arith, is_b, here.0)) (seen_next pages b p c q seen)),
@@ -274,50 +290,50 @@ module _ (f : Flash) (pages b p : ℕ) where
       (cases_lt old.number n))
       (cases_lt n old.number)
 
--- what holds of the new page at its sector and of the old ones at the others holds after the change
-pub set_each : (gaps : List ℕ) (found : List (Option Candidate)) (at : PageAddr) (stamp : Stamp) (Q : ℕ → Option Candidate → Type 0)
-    → (stamp.sector < length found → Q stamp.sector (newer_of gaps (get_or found stamp.sector None) at stamp.number))
-    → ((s : ℕ) → s < length found → s ≢ stamp.sector → Q s (get_or found s None))
-    → (s : ℕ) → s < length (found_with gaps found at (Some stamp)) → Q s (get_or (found_with gaps found at (Some stamp)) s None)
-set_each gaps found at stamp Q here others s lt =
-    let k = stamp.sector in
-    let newer = newer_of gaps (get_or found k None) at stamp.number in
-    let is_in : s < length found = subst (λ (l : ℕ). s < l) (length-set found k newer) lt in
+-- what holds of the new page at its sectors and of the old ones at the others holds after the change
+pub set_each : (gaps : List ℕ) (found new : List (Option Candidate)) (at : PageAddr) (stamp : Stamp) (Q : ℕ → Option Candidate → Type 0)
+    → IsFoundWith gaps found new at (Some stamp)
+    → ((s : ℕ) → s < length found → Covers stamp.extent s → Q s (newer_of gaps (get_or found s None) at stamp.number))
+    → ((s : ℕ) → s < length found → ¬ Covers stamp.extent s → Q s (get_or found s None))
+    → (s : ℕ) → s < length new → Q s (get_or new s None)
+set_each gaps found new at stamp Q is here others s lt =
+    let is_in : s < length found = omega (arith, lt, is.0) in
     ⊎_elim
-    (λ is.
-    let k_in : k < length found = subst (λ (x : ℕ). x < length found) is is_in in
-    subst (λ (x : ℕ). Q x (get_or (set found k newer) x None)) (sym is) (subst (Q k) (sym (get_or-set_same found k newer None k_in)) (here k_in)))
-    (λ differs. subst (Q s) (sym (get_or-set_other found k s newer None differs)) (others s is_in differs))
-    (cases_eq s k)
+    (λ has. subst (Q s) (sym (is.1 s is_in has)) (here s is_in has))
+    (λ out. subst (Q s) (sym (is.2 s is_in out)) (others s is_in out))
+    (cases_covered stamp.extent s)
 
 -- one stamp more
-pub finds_next : (f : Flash) (pages b p : ℕ) (gaps : List ℕ) (found : List (Option Candidate)) (below : ℕ) (at : PageAddr) (stamp : Option Stamp)
-    → at.block ≡ b → at.page ≡ p → Finds f pages b p found below → IsStampOf f b p stamp
-    → Finds f pages b (p + 1) (found_with gaps found at stamp) (number_above below stamp)
-finds_next f pages b p gaps found below at None is_b is_p finds none = record {
-  best = λ s lt. best_beside f pages b p s (get_or found s None) (finds.best s lt) (λ m d. none s m d);
-  numbers = λ c q s m d seen e. ⊎_elim (λ old. finds.numbers c q s m d old e) (λ here. absurd (none s m d (at_page f pages b p c q here ∙ e)))
-      (seen_next pages b p c q seen);
-  lone = λ s lt. lone_beside f pages b p s (get_or found s None) (finds.lone s lt) (λ m d. none s m d);
-}
-finds_next f pages b p gaps found below at (Some stamp) is_b is_p finds matches =
-    let n = stamp.number in
-    let k = stamp.sector in
-    record {
-      best = set_each gaps found at stamp (IsBest f pages b (p + 1))
-          (λ k_in. best_later f pages b p gaps k n matches.0 at (get_or found k None) is_b is_p matches.1 (finds.best k k_in))
-          (λ s is_in differs. best_beside f pages b p s (get_or found s None) (finds.best s is_in) (other_sector s differs));
-      numbers = λ c q s m d seen e. ⊎_elim
-          (λ old. let lt = finds.numbers c q s m d old e in omega (arith, lt))
-          (λ here. let same = (same_held k n matches.0 s m d (sym matches.1 ∙ (at_page f pages b p c q here ∙ e))).1 in omega (arith, same))
+pub finds_next : (f : Flash) (pages b p : ℕ) (gaps : List ℕ) (found new : List (Option Candidate)) (below : ℕ) (at : PageAddr) (stamp : Option Stamp)
+    → at.block ≡ b → at.page ≡ p → IsFoundWith gaps found new at stamp → Finds f pages b p found below → IsStampOf f b p stamp
+    → Finds f pages b (p + 1) new (number_above below stamp)
+finds_next f pages b p gaps found new below at None is_b is_p same finds none = subst (λ (xs : List (Option Candidate)). Finds f pages b (p + 1) xs below)
+    (sym same) (record {
+      best = λ s lt. best_beside f pages b p s (get_or found s None) (finds.best s lt) (λ m d held. none held.0 m d held.1);
+      numbers = λ c q e m d seen is. ⊎_elim (λ old. finds.numbers c q e m d old is) (λ here. absurd (none e m d (at_page f pages b p c q here ∙ is)))
           (seen_next pages b p c q seen);
-      lone = set_each gaps found at stamp (IsLone f pages b (p + 1)) (λ k_in. lone_later f pages b p gaps k n matches.0 at (get_or found k None) is_b
-          matches.1 (finds.best k k_in) (finds.lone k k_in))
-          (λ s is_in differs. lone_beside f pages b p s (get_or found s None) (finds.lone s is_in) (other_sector s differs));
+      lone = λ s lt. lone_beside f pages b p s (get_or found s None) (finds.lone s lt) (λ m d held. none held.0 m d held.1);
+    })
+finds_next f pages b p gaps found new below at (Some stamp) is_b is_p changes finds matches =
+    let n = stamp.number in
+    record {
+      best = set_each gaps found new at stamp (IsBest f pages b (p + 1)) changes
+          (λ k k_in has. best_later f pages b p gaps k n matches.0 at (get_or found k None) is_b is_p (stamp.extent, matches.1, has) (finds.best k k_in))
+          (λ s is_in out. best_beside f pages b p s (get_or found s None) (finds.best s is_in) (other_sector s out));
+      numbers = λ c q e m d seen is. ⊎_elim
+          (λ old. let lt = finds.numbers c q e m d old is in omega (arith, lt))
+          (λ here. let same = (same_held stamp.extent n matches.0 e m d (sym matches.1 ∙ (at_page f pages b p c q here ∙ is))).1 in omega (arith, same))
+          (seen_next pages b p c q seen);
+      lone = set_each gaps found new at stamp (IsLone f pages b (p + 1)) changes
+          (λ k k_in has. lone_later f pages b p gaps k n matches.0 at (get_or found k None) is_b (stamp.extent, matches.1, has) (finds.best k k_in)
+          (finds.lone k k_in))
+          (λ s is_in out. lone_beside f pages b p s (get_or found s None) (finds.lone s is_in) (other_sector s out));
     }
   where
-    other_sector : (s : ℕ) → s ≢ stamp.sector → (m : ℕ) (d : Sector) → f b p ≢ Version s m d
-    other_sector s differs m d e = differs (sym (same_held stamp.sector stamp.number matches.0 s m d (sym matches.1 ∙ e)).0)
+    other_sector : (s : ℕ) → ¬ Covers stamp.extent s → (m : ℕ) (d : Sector) → ¬ HasVersion f b p s m d
+    other_sector s out m d held =
+        let same = (same_held stamp.extent stamp.number matches.0 held.0 m d (sym matches.1 ∙ held.1)).0 in
+        out (subst (λ (e : Extent). Covers e s) (sym same) held.2)
 
 -- the block's last page was read
 pub finds_wrap : (f : Flash) (pages b p : ℕ) (found : List (Option Candidate)) (below : ℕ) → p + 1 ≡ pages → Finds f pages b (p + 1) found below
@@ -339,10 +355,9 @@ finds_wrap f pages b p found below full finds = record {
 -- the same, of what a call has left
 pub noted : (f : Flash) (pages b p : ℕ) (gaps : List ℕ) (found : List (Option Candidate)) (below : ℕ) (at : PageAddr) (stamp : Option Stamp)
     (found' : List (Option Candidate)) (below' : ℕ)
-    → at.block ≡ b → at.page ≡ p → found' ≡ found_with gaps found at stamp → below' ≡ number_above below stamp → Finds f pages b p found below
+    → at.block ≡ b → at.page ≡ p → IsFoundWith gaps found found' at stamp → below' ≡ number_above below stamp → Finds f pages b p found below
     → IsStampOf f b p stamp
     → Finds f pages b (p + 1) found' below'
 noted f pages b p gaps found below at stamp found' below' is_b is_p is_found is_below finds matches =
-    subst (λ (xs : List (Option Candidate)). Finds f pages b (p + 1) xs below') (sym is_found)
-    (subst (λ (n : ℕ). Finds f pages b (p + 1) (found_with gaps found at stamp) n) (sym is_below)
-    (finds_next f pages b p gaps found below at stamp is_b is_p finds matches))
+    subst (λ (n : ℕ). Finds f pages b (p + 1) found' n) (sym is_below)
+    (finds_next f pages b p gaps found found' below at stamp is_b is_p is_found finds matches)

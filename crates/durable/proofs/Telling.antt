@@ -3,7 +3,7 @@ use Rattle.std.proofs.Common.{◌≡◌, ◌≢◌, inl, inr, ⊎_elim, ◌<◌,
 use Rattle.geometry.specs.Sectors.{Sector}
 use Rattle.durable.specs.declared.found.Candidate.{Candidate}
 use Rattle.durable.specs.declared.mount.Mount.{Mount}
-use Rattle.durable.specs.Flash.{Version, Flash, HoldsNewest, Recovers}
+use Rattle.durable.specs.Flash.{Flash, HasVersion, HoldsNewest, Recovers}
 use Rattle.durable.specs.Device.{device_in, IsWrittenOn}
 use Rattle.durable.specs.Losses.{IsGapless, HasNoLoss, IsPreferred, gaps_in, is_at, losses_in}
 use Rattle.durable.specs.Mounting.{IsRead, IsBest, IsLone}
@@ -13,7 +13,7 @@ use Rattle.durable.specs.Collecting.{IsFree}
 use Rattle.durable.specs.Whole.{IsSafelyDuplicated, IsUnharmed, IsFullBefore, IsSafelySpared, KeepsWhole}
 use Rattle.durable.specs.declared.memory.Core.{Core}
 use Rattle.geometry.specs.declared.page_addr.PageAddr.{PageAddr}
-use Rattle.durable.proofs.Cells.{same_held}
+use Rattle.durable.proofs.Cells.{same_version}
 use Rattle.durable.proofs.Collects.{none_some}
 use Rattle.durable.proofs.Scans.{shows_best, some_is}
 use Rattle.durable.proofs.Losses.{found_has, has_of, at_is, no_gap, none_has_gap, none_lost, all_whole, none_whole, whole_none}
@@ -28,8 +28,8 @@ same_newest f s b p d q v w here there =
     omega (arith, upper, lower)
 
 module _ (mount : Mount) (at_end : mount.read_blocks ≤ mount.block) (f : Flash) (noted : HasNoted f mount) (written : IsWrittenOn (device_in mount) f) where
-  all_seen : (s d q m : ℕ) (v : Sector) → f d q ≡ Version s m v → IsRead mount.pages mount.block mount.page d q
-  all_seen s d q m v e = let w = written d q s m v e in (w.1, inl (omega (arith, w.0, at_end)))
+  all_seen : (s d q m : ℕ) (v : Sector) → HasVersion f d q s m v → IsRead mount.pages mount.block mount.page d q
+  all_seen s d q m v e = let w = written d q e.0 m v e.1 in (w.1, inl (omega (arith, w.0, at_end)))
 
   whole_of : (b : ℕ) → b < mount.read_blocks → gaps_in mount.gaps.items b ≡ 0 → IsGapless f b
   whole_of b lt none = λ p q s m v less is. none_whole f b mount.pages (sym (noted.counts.read b (omega (arith, lt, at_end))) ∙ none) p q s m v less
@@ -40,7 +40,7 @@ module _ (mount : Mount) (at_end : mount.read_blocks ≤ mount.block) (f : Flash
       → (d : ℕ) × (q : ℕ) × (w : Sector) × IsGapless f d × HoldsNewest f s w d q
   no_loss_at none s b p v lt newest None is best = absurd (best b p newest.number v (all_seen s b p newest.number v newest.held) newest.held)
   no_loss_at none s b p v lt newest (Some x) is best =
-      let w = written x.at.block x.at.page s x.number best.0.0 best.0.1 in
+      let w = written x.at.block x.at.page best.0.1.0 x.number best.0.0 best.0.1.1 in
       let has = found_has x.at.block mount.found.items s lt (ap (is_at x.at.block) is ∙ at_is x.at.block x refl) in
       let no_gap = none_lost mount.found.items mount.gaps.items mount.read_blocks none x.at.block w.0 has in (
         x.at.block,
@@ -69,15 +69,16 @@ module _ (mount : Mount) (at_end : mount.read_blocks ≤ mount.block) (f : Flash
     shows : HoldsNewest f s (array s) x.at.block x.at.page
     shows = shows_best f mount.pages mount.block mount.page s (array s) x best (all_seen s) (recovers s lt) x.at best.0.0 best.0.1
 
-    same_as_found : (d q : ℕ) (w : Sector) (there : HoldsNewest f s w d q) → f d q ≡ Version s x.number w
+    same_as_found : (d q : ℕ) (w : Sector) (there : HoldsNewest f s w d q) → HasVersion f d q s x.number w
     same_as_found d q w there =
-        let mine : shows.number ≡ x.number = sym (same_held s x.number best.0.0 s shows.number (array s) (sym best.0.1 ∙ shows.held)).1 in
-        there.held ∙ ap (λ (n : ℕ). Version s n w) (same_newest f s x.at.block x.at.page d q (array s) w shows there ∙ mine)
+        let mine : shows.number ≡ x.number =
+        sym (same_version (f x.at.block x.at.page) s x.number best.0.0 s shows.number (array s) best.0.1 shows.held).0 in
+        subst (λ (n : ℕ). HasVersion f d q s n w) (same_newest f s x.at.block x.at.page d q (array s) w shows there ∙ mine) there.held
 
     found_whole : HasNoLoss f (length mount.found.items) → gaps_in mount.gaps.items x.at.block ≡ 0
     found_whole no_loss =
         let there = no_loss s x.at.block x.at.page (array s) lt shows in
-        let w = written there.0 there.1 s there.4.number there.2 there.4.held in
+        let w = written there.0 there.1 there.4.held.0 there.4.number there.2 there.4.held.1 in
         let before : there.0 < mount.block = omega (arith, w.0, at_end) in
         (prefers.0 there.0 there.1 there.2 before w.1 (same_as_found there.0 there.1 there.2 there.4)
         (noted.counts.read there.0 before ∙ whole_none f there.0 mount.pages there.3)).1
@@ -85,7 +86,7 @@ module _ (mount : Mount) (at_end : mount.read_blocks ≤ mount.block) (f : Flash
     twin_whole : (b : ℕ) → IsSafelyDuplicated f (length mount.found.items) b → x.at.block ≡ b → HasTwin mount.gaps.items x b
     twin_whole b doubled here =
         let there = doubled s x.at.page (array s) lt (subst (λ (c : ℕ). HoldsNewest f s (array s) c x.at.page) here shows) in
-        let w = written there.0 there.1 s there.5.number there.2 there.5.held in
+        let w = written there.0 there.1 there.5.held.0 there.5.number there.2 there.5.held.1 in
         let before : there.0 < mount.block = omega (arith, w.0, at_end) in
         let twin = prefers.2 there.0 there.1 there.2 before w.1 (same_as_found there.0 there.1 there.2 there.5)
         (noted.counts.read there.0 before ∙ whole_none f there.0 mount.pages there.4) (λ e. there.3 (e ∙ here)) in
@@ -110,7 +111,7 @@ module _ (mount : Mount) (at_end : mount.read_blocks ≤ mount.block) (f : Flash
   entry_whole array recovers no_loss avoided freeable s lt entry stays None is none at mapped = absurd (none_some at (sym none ∙ mapped))
   entry_whole array recovers no_loss avoided freeable s lt entry stays (Some x) is (inl here) at mapped =
       let best = best array recovers s x lt is in
-      let w = written x.at.block x.at.page s x.number best.0.0 best.0.1 in
+      let w = written x.at.block x.at.page best.0.1.0 x.number best.0.0 best.0.1.1 in
       subst (λ (a : PageAddr). IsGapless f a.block) (some_is x.at at (sym here ∙ mapped))
       (whole_of x.at.block w.0 (found_whole array recovers s x lt is no_loss))
   entry_whole array recovers no_loss avoided freeable s lt entry stays (Some x) is (inr twin) at mapped =
@@ -121,7 +122,7 @@ module _ (mount : Mount) (at_end : mount.read_blocks ≤ mount.block) (f : Flash
       let has = freeable s x lt is (stays x at is mapped apart) in
       let twin_same : has.0 ≡ at = some_is has.0 at (sym has.1 ∙ (twin.1 ∙ ap Some same)) in
       let held = best.2 has.0 has.1 in
-      let w = written has.0.block has.0.page s x.number held.0 held.1 in
+      let w = written has.0.block has.0.page held.1.0 x.number held.0 held.1.1 in
       subst (λ (a : PageAddr). IsGapless f a.block) twin_same (whole_of has.0.block w.0 (no_gap mount.gaps.items has.0.block has.3))
 
   pub mounts_whole : (core : Core) (avoided : ℕ) → IsUnharmed f (device_in mount) → (array : ℕ → Sector) → Recovers f (length mount.found.items) array

@@ -10,15 +10,15 @@ use Rattle.durable.specs.Losses.{IsGapless, version_count}
 use Rattle.durable.specs.Promise.{IsReadable, IsRecoverable}
 use Rattle.durable.specs.Runs.{Event, Completed, Failed, CutInside, CutBetween, Runs, acknowledged_in, begun_in}
 use Rattle.durable.specs.Whole.{IsUnharmed, KeepsWhole, IsMountedWhole, RunsWhole}
-use Rattle.durable.proofs.Cells.{erased_holds_none}
+use Rattle.durable.proofs.Cells.{erased_has_none}
 use Rattle.durable.proofs.Promises.{readable, readable_on, readable_renumbered, erased_recoverable, some_blocks, survives_idle_cut, runs_consistent}
-use Rattle.durable.proofs.Promises.{held_before}
+use Rattle.durable.proofs.Promises.{version_before}
 
 -- an erased flash has lost no page
 pub erased_unharmed : (f : Flash) (device : Device) → IsErased f → 0 < device.blocks → IsUnharmed f device
 erased_unharmed f device erased some = record {
-  no_loss = λ s b p v lt shows. absurd (erased_holds_none s shows.number v (sym (erased b p) ∙ shows.held));
-  spare = (0, some, λ s p v lt shows. absurd (erased_holds_none s shows.number v (sym (erased 0 p) ∙ shows.held)));
+  no_loss = λ s b p v lt shows. absurd (erased_has_none f b p s shows.number v (erased b p) shows.held);
+  spare = (0, some, λ s p v lt shows. absurd (erased_has_none f 0 p s shows.number v (erased 0 p) shows.held));
 }
 
 -- nor has one whose blocks are numbered anew, with one in use that has no version
@@ -29,15 +29,15 @@ module _ (f t : Flash) (blocks : ℕ) (renumbered : IsRenumbered f t blocks) whe
   renumbered_newest : (s : ℕ) (v : Sector) (b p : ℕ) → HoldsNewest f s v b p → HoldsNewest t s v (renumbered.to b) p
   renumbered_newest s v b p shows = record {
     number = shows.number;
-    held = renumbered.moved b p ∙ shows.held;
-    newest = λ c q m w e. shows.newest (renumbered.from c) q m w (held_before f t blocks renumbered c q s m w e);
+    held = (shows.held.0, renumbered.moved b p ∙ shows.held.1, shows.held.2);
+    newest = λ c q m w e. shows.newest (renumbered.from c) q m w (version_before f t blocks renumbered c q s m w e);
   }
 
   newest_before : (s : ℕ) (v : Sector) (c p : ℕ) → HoldsNewest t s v c p → HoldsNewest f s v (renumbered.from c) p
   newest_before s v c p shows = record {
     number = shows.number;
-    held = held_before f t blocks renumbered c p s shows.number v shows.held;
-    newest = λ b q m w e. shows.newest (renumbered.to b) q m w (renumbered.moved b q ∙ e);
+    held = version_before f t blocks renumbered c p s shows.number v shows.held;
+    newest = λ b q m w e. shows.newest (renumbered.to b) q m w (e.0, renumbered.moved b q ∙ e.1, e.2);
   }
 
   pub renumbered_unharmed : (old new : Device) → new.sectors ≡ old.sectors → HasVersionlessBlock t new → IsUnharmed f old → IsUnharmed t new
@@ -45,7 +45,7 @@ module _ (f t : Flash) (blocks : ℕ) (renumbered : IsRenumbered f t blocks) whe
     no_loss = λ s b p v lt shows.
         let there = unharmed.no_loss s (renumbered.from b) p v (omega (arith, lt, sectors)) (newest_before s v b p shows) in
         (renumbered.to there.0, there.1, there.2, renumbered_whole there.0 there.3, renumbered_newest s there.2 there.0 there.1 there.4);
-    spare = (blank.0, blank.1, λ s p v lt shows. absurd (blank.2 p s shows.number v shows.held));
+    spare = (blank.0, blank.1, λ s p v lt shows. absurd (blank.2 p shows.held.0 shows.number v shows.held.1));
   }
 
 -- such a run is one of those that keep what was acknowledged

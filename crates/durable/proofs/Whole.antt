@@ -8,8 +8,9 @@ use Rattle.geometry.specs.declared.page_addr.PageAddr.{PageAddr}
 use Rattle.durable.specs.declared.command.Command.{Command}
 use Rattle.durable.specs.declared.command.Command.TheVariants.{Program, Copy, Erase, Refused}
 use Rattle.durable.specs.declared.memory.Core.{Core}
-use Rattle.durable.specs.Flash.{PageContents, Erased, Torn, Version, Flash, HoldsNewest, SetsPage, LosesPages}
-use Rattle.durable.specs.Collecting.{IsFree}
+use Rattle.durable.specs.declared.extent.Extent.{Extent}
+use Rattle.durable.specs.Flash.{PageContents, Erased, Torn, Version, Flash, IsVersionOf, HasVersion, HoldsNewest, SetsPage, LosesPages}
+use Rattle.durable.specs.Collecting.{IsFree, MapsAll}
 use Rattle.durable.specs.Commands.{CutLeaves, Completes}
 use Rattle.durable.specs.Device.{device_of}
 use Rattle.durable.specs.Losses.{version_count, IsGapless, HasNoLoss}
@@ -19,8 +20,9 @@ use Rattle.durable.specs.Spare.{LeavesSpare}
 use Rattle.durable.specs.Whole.{IsSafelyDuplicated, IsUnharmed, IsFullBefore, IsSafelySpared, KeepsWhole}
 use Rattle.durable.specs.Whole.{CutsUnharmed, CutsIdleUnharmed, StaysWhole}
 use Rattle.durable.specs.Updates.{array_after}
-use Rattle.durable.proofs.Cells.{was, stays, same_held, torn_holds_none, erased_holds_none, kept_in_loss, kept_beside}
-use Rattle.durable.proofs.Moments.{erased_next, source_shows, programmed_kept, programmed_shows, copied_kept, copied_shows}
+use Rattle.durable.proofs.Extents.{cases_covered, none_all}
+use Rattle.durable.proofs.Cells.{was, stays, version_is, torn_has_none, erased_holds_none, erased_has_none, had, kept_in_loss}
+use Rattle.durable.proofs.Moments.{erased_next, source_shows, torn_kept, programmed_kept, programmed_shows, copied_kept, copied_shows}
 use Rattle.durable.proofs.Done.{IsPageAfter, BecomesCore}
 use Rattle.durable.proofs.Collects.{not_last, copy_apart}
 use Rattle.durable.proofs.Spares.{nothing_put, none_set}
@@ -51,10 +53,10 @@ module _ (f t : Flash) where
 
 -- the sector's newest version is in such a block, or it has none
 abbrev Stands : Flash → (ℕ → Type 0) → ℕ → Type 0
-Stands t P s = ((d : ℕ) × (q : ℕ) × (v : Sector) × P d × HoldsNewest t s v d q) ⊎ ((d q m : ℕ) (v : Sector) → t d q ≢ Version s m v)
+Stands t P s = ((d : ℕ) × (q : ℕ) × (v : Sector) × P d × HoldsNewest t s v d q) ⊎ ((d q m : ℕ) (v : Sector) → ¬ HasVersion t d q s m v)
 
 kept_stands : (t : Flash) (P : ℕ → Type 0) (s : ℕ) (c : Sector) (k : Option PageAddr) → IsMappedTo t s c k
-    → (k ≡ None → (d q m : ℕ) (v : Sector) → t d q ≢ Version s m v) → ((at : PageAddr) → k ≡ Some at → P at.block) → Stands t P s
+    → (k ≡ None → (d q m : ℕ) (v : Sector) → ¬ HasVersion t d q s m v) → ((at : PageAddr) → k ≡ Some at → P at.block) → Stands t P s
 kept_stands t P s c None kept none holds = inr (none refl)
 kept_stands t P s c (Some at) kept none holds = inl (at.block, at.page, c, holds at refl, kept)
 
@@ -74,7 +76,7 @@ module _ (f t : Flash) (b p : ℕ) (x : PageContents) (erased : f b p ≡ Erased
     (stay : (c : ℕ) → IsGapless f c → IsGapless t c) where
   -- a block stays safely doubled where one page more holds nothing, or a version that stands outside of it
   safe_put : (sectors c : ℕ) → IsSafelyDuplicated f sectors c
-      → ((s m : ℕ) (v : Sector) → x ≡ Version s m v → (d : ℕ) × (q : ℕ) × (d ≢ c) × IsGapless f d × (f d q ≡ Version s m v))
+      → ((s m : ℕ) (v : Sector) → IsVersionOf x s m v → (d : ℕ) × (q : ℕ) × (d ≢ c) × IsGapless f d × HasVersion f d q s m v)
       → IsSafelyDuplicated t sectors c
   safe_put sectors c doubled source = λ s q v lt shows. ⊎_elim
       (λ h. let from = source s shows.number v h in (
@@ -139,17 +141,16 @@ module _ (f t : Flash) (core : Core) (array : ℕ → Sector) (stands : Represen
     pub stay_whole : (c : ℕ) → IsGapless f c → IsGapless t c
     stay_whole = put_whole f t at.block at.page x (subst (IsErasedFrom f) is stands.erased) (subst (IsFullBefore f) is keeps.full) puts
 
-    pub nothing_there : (s : ℕ) → s < sectors → map_entry core s ≡ None → ((m : ℕ) (v : Sector) → x ≢ Version s m v) → (d q m : ℕ) (v : Sector)
-        → t d q ≢ Version s m v
+    pub nothing_there : (s : ℕ) → s < sectors → map_entry core s ≡ None → ((m : ℕ) (v : Sector) → ¬ IsVersionOf x s m v) → (d q m : ℕ) (v : Sector)
+        → ¬ HasVersion t d q s m v
     nothing_there s lt nowhere other = nothing_put f t at.block at.page x (erased_next f t core array stands at is) puts s
         (λ d q m v. clears.known s d q m v lt nowhere) other
 
   torn_unharmed : (at : PageAddr) → core.next_page ≡ Some at → SetsPage f t at.block at.page Torn → IsUnharmed t (device_of core)
   torn_unharmed at is puts = record {
     no_loss = no_loss_of t sectors (λ s lt. kept_stands t (IsGapless t) s (array s) (map_entry core s)
-        (kept_beside f t at.block at.page Torn (erased_next f t core array stands at is) puts s (array s) (map_entry core s) (stands.mapped s lt)
-        (torn_holds_none s))
-        (λ nowhere. nothing_there at Torn is puts s lt nowhere (torn_holds_none s))
+        (torn_kept f t core array stands at is puts s lt)
+        (λ nowhere. nothing_there at Torn is puts s lt nowhere (torn_has_none s))
         (λ to there. stay_whole at Torn is puts to.block (keeps.mapped s to lt there)));
     spare = torn_spare (spare_now core.next_page keeps.spared);
   }
@@ -159,37 +160,31 @@ module _ (f t : Flash) (core : Core) (array : ℕ → Sector) (stands : Represen
         spare.0,
         spare.1,
         safe_put f t at.block at.page Torn (erased_next f t core array stands at is) puts (stay_whole at Torn is puts) sectors spare.0 spare.2
-            (λ s m v e. absurd (torn_holds_none s m v e)),
+            (λ s m v e. absurd (torn_has_none s m v e)),
       )
 
-  -- a program: its sector's newest version is there, and that of each other sector where it was
-  module _ (at : PageAddr) (is : core.next_page ≡ Some at) (k n : ℕ) (c : Sector) (number : n ≡ core.next_number)
-      (puts : SetsPage f t at.block at.page (Version k n c)) where
+  -- a program: the newest version of its sectors is there, and that of each other sector where it was
+  module _ (at : PageAddr) (is : core.next_page ≡ Some at) (e : Extent) (n : ℕ) (c : Sector) (number : n ≡ core.next_number)
+      (puts : SetsPage f t at.block at.page (Version e n c)) where
     program_stands : (P : ℕ → Type 0) → P at.block → ((s : ℕ) (to : PageAddr) → s < sectors → map_entry core s ≡ Some to → P to.block)
         → (s : ℕ) → s < sectors → Stands t P s
     program_stands P here holds = λ s lt. ⊎_elim
-        (λ same. inl (
-          at.block,
-          at.page,
-          c,
-          here,
-          subst (λ (j : ℕ). HoldsNewest t j c at.block at.page) (sym same) (programmed_shows f t core array stands at is k n c number puts),
-        ))
-        (λ differs. kept_stands t P s (array s) (map_entry core s) (programmed_kept f t core array stands at is k n c number puts s lt differs)
-        (λ nowhere. nothing_there at (Version k n c) is puts s lt nowhere (λ m v h. differs (sym (same_held k n c s m v h).0)))
+        (λ has. inl (at.block, at.page, c, here, programmed_shows f t core array stands at is e n c number puts s has))
+        (λ out. kept_stands t P s (array s) (map_entry core s) (programmed_kept f t core array stands at is e n c number puts s lt out)
+        (λ nowhere. nothing_there at (Version e n c) is puts s lt nowhere (λ m v h. out (version_is e n c s m v h).0))
         (λ to there. holds s to lt there))
-        (cases_eq s k)
+        (cases_covered e s)
 
     program_unharmed : (b : ℕ) → b < core.blocks → b ≢ at.block → IsFree core.map.items b → IsUnharmed t (device_of core)
     program_unharmed b within apart none =
-        let open_whole = opens at (Version k n c) is puts in
-        let still = stay_whole at (Version k n c) is puts in
+        let open_whole = opens at (Version e n c) is puts in
+        let still = stay_whole at (Version e n c) is puts in
         record {
           no_loss = no_loss_of t sectors (program_stands (IsGapless t) open_whole (λ s to lt there. still to.block (keeps.mapped s to lt there)));
           spare = (
             b,
             within,
-            safe_of t sectors b (program_stands (WholeBeside t b) ((λ e. apart (sym e)), open_whole)
+            safe_of t sectors b (program_stands (WholeBeside t b) ((λ here. apart (sym here)), open_whole)
                 (λ s to lt there. (none s to lt there, still to.block (keeps.mapped s to lt there)))),
           );
         }
@@ -207,7 +202,7 @@ module _ (f t : Flash) (core : Core) (array : ℕ → Sector) (stands : Represen
           here,
           subst (λ (j : ℕ). HoldsNewest t j (array k) to.block to.page) (sym same) (copied_shows f t core array stands to from is k klt at puts),
         ))
-        (λ differs. kept_stands t P s (array s) (map_entry core s) (copied_kept f t core array stands to from is k klt at puts s lt differs)
+        (λ differs. kept_stands t P s (array s) (map_entry core s) (copied_kept f t core array stands to from is puts s lt)
         (λ nowhere. nothing_there to (f from.block from.page) is puts s lt nowhere (λ m v h. clears.known s from.block from.page m v lt nowhere h))
         (λ a there. holds s a lt there))
         (cases_eq s k)
@@ -241,7 +236,7 @@ module _ (f t : Flash) (core : Core) (array : ℕ → Sector) (stands : Represen
       → Stands t P s =
       λ P holds s lt. kept_stands t P s (array s) (map_entry core s)
       (kept_in_loss f t b s (array s) (map_entry core s) (stands.mapped s lt) (λ at is. none s at lt is) loses)
-      (λ nowhere d q m v e. clears.known s d q m v lt nowhere (loses.within d q s m v e))
+      (λ nowhere d q m v e. clears.known s d q m v lt nowhere (had f t b loses d q s m v e))
       (λ at is. holds s at lt is) in
       record {
         no_loss = no_loss_of t sectors (kept (IsGapless t) (λ s at lt is. lost_whole f t b loses at.block (none s at lt is) (keeps.mapped s at lt is)));
@@ -253,7 +248,7 @@ module _ (f t : Flash) (core : Core) (array : ℕ → Sector) (stands : Represen
         );
       }
 
-  pub cut_unharmed : (s : ℕ) (x : Sector) (m : Command) → IsNext core m → CutLeaves m s x f t → IsUnharmed t (device_of core)
+  pub cut_unharmed : (s : Extent) (x : Sector) (m : Command) → IsNext core m → CutLeaves m s x f t → IsUnharmed t (device_of core)
   cut_unharmed s x (Program at n) next cut = ⊎_elim same_unharmed (λ more. ⊎_elim
       (torn_unharmed at next.0)
       (λ puts. program_unharmed at next.0 s n x next.1 puts next.3.0 next.3.1 next.3.2 next.3.3) more) cut
@@ -269,22 +264,37 @@ some_addr x y e = cc e
 
 -- after a command that succeeds
 module _ (f t : Flash) (core new : Core) (array : ℕ → Sector) (stands : Represents f core array) (clears : LeavesSpare f core)
-    (keeps : KeepsWhole f core) (blocks : new.blocks ≡ core.blocks) (s : ℕ) (x : Sector) (lt : s < length core.map.items) where
-  -- a page is put, and a sector mapped to it
-  module _ (at : PageAddr) (c : PageContents) (is : core.next_page ≡ Some at) (puts : SetsPage f t at.block at.page c) (k : ℕ)
-      (klt : k < length core.map.items) (moved : new.map.items ≡ set core.map.items k (Some at)) (one : version_count c ≡ 1) where
+    (keeps : KeepsWhole f core) (blocks : new.blocks ≡ core.blocks) (s : Extent) (x : Sector) where
+  -- a page is put, and sectors mapped to it
+  abbrev MapsTo : PageAddr → Type 0
+  MapsTo at = (j : ℕ) (a : PageAddr) → j < length new.map.items → map_entry new j ≡ Some a
+      → (a ≡ at) ⊎ ((j < length core.map.items) × (map_entry core j ≡ Some a))
+
+  maps_all : (at : PageAddr) → MapsAll core.map.items new.map.items s at → MapsTo at
+  maps_all at maps j a l entry = ⊎_elim
+      (λ has. inl (some_addr a at (sym entry ∙ maps.covered j has)))
+      (λ out. inr (omega (arith, l, maps.size), sym (maps.others j out) ∙ entry))
+      (cases_covered s j)
+
+  maps_one : (k : ℕ) (at : PageAddr) → k < length core.map.items → new.map.items ≡ set core.map.items k (Some at) → MapsTo at
+  maps_one k at klt moved j a l entry =
+      let there : get_or (set core.map.items k (Some at)) j None ≡ Some a = ap (λ (m : List (Option PageAddr)). get_or m j None) (sym moved) ∙ entry in
+      ⊎_elim
+      (λ here. inl (some_addr a at (sym (subst (λ (i : ℕ). get_or (set core.map.items k (Some at)) i None ≡ Some a) here there)
+      ∙ get_or-set_same core.map.items k (Some at) None klt)))
+      (λ differs. inr (
+        subst (λ (n : ℕ). j < n) (ap length moved ∙ length-set core.map.items k (Some at)) l,
+        sym (get_or-set_other core.map.items k j (Some at) None differs) ∙ there,
+      ))
+      (cases_eq j k)
+
+  module _ (at : PageAddr) (c : PageContents) (is : core.next_page ≡ Some at) (puts : SetsPage f t at.block at.page c) (maps : MapsTo at)
+      (one : version_count c ≡ 1) where
     put_mapped : (j : ℕ) (a : PageAddr) → j < length new.map.items → map_entry new j ≡ Some a → IsGapless t a.block
-    put_mapped j a l entry =
-        let there : get_or (set core.map.items k (Some at)) j None ≡ Some a = ap (λ (m : List (Option PageAddr)). get_or m j None) (sym moved) ∙ entry in
-        let inside : j < length core.map.items = subst (λ (n : ℕ). j < n) (ap length moved ∙ length-set core.map.items k (Some at)) l in
-        ⊎_elim
-        (λ here. subst (λ (y : PageAddr). IsGapless t y.block)
-        (some_addr at a (sym (get_or-set_same core.map.items k (Some at) None klt)
-        ∙ subst (λ (i : ℕ). get_or (set core.map.items k (Some at)) i None ≡ Some a) here there))
-        (opens f t core array stands clears keeps at c is puts))
-        (λ differs. stay_whole f t core array stands clears keeps at c is puts a.block
-        (keeps.mapped j a inside (sym (get_or-set_other core.map.items k j (Some at) None differs) ∙ there)))
-        (cases_eq j k)
+    put_mapped j a l entry = ⊎_elim
+        (λ here. subst (λ (y : PageAddr). IsGapless t y.block) (sym here) (opens f t core array stands clears keeps at c is puts))
+        (λ there. stay_whole f t core array stands clears keeps at c is puts a.block (keeps.mapped j a there.0 there.1))
+        (maps j a l entry)
 
     put_full : (next : Option PageAddr) → IsPageAfter at core.pages next → IsFullBefore t next
     put_full None after = tt
@@ -294,19 +304,18 @@ module _ (f t : Flash) (core new : Core) (array : ℕ → Sector) (stands : Repr
         ∙ subst (IsFullBefore f) is keeps.full p (omega (arith, less, after.0.1, differs)))
         (cases_eq p at.page)
 
-    put_keeps : IsPageAfter at core.pages new.next_page → IsSafelySpared t (set core.map.items k (Some at)) core.blocks new.next_page → KeepsWhole t new
+    put_keeps : IsPageAfter at core.pages new.next_page → IsSafelySpared t new.map.items core.blocks new.next_page → KeepsWhole t new
     put_keeps after spared = record {
       mapped = put_mapped;
       full = put_full new.next_page after;
-      spared = subst (λ (n : ℕ). IsSafelySpared t new.map.items n new.next_page) (sym blocks)
-          (subst (λ (m : List (Option PageAddr)). IsSafelySpared t m core.blocks new.next_page) (sym moved) spared);
+      spared = subst (λ (n : ℕ). IsSafelySpared t new.map.items n new.next_page) (sym blocks) spared;
     }
 
-  program_spared : (at : PageAddr) (k : Option PageAddr) (b : ℕ) → b < core.blocks → b ≢ at.block → IsFree core.map.items b → IsPageAfter at core.pages k
-      → IsSafelySpared t (set core.map.items s (Some at)) core.blocks k
-  program_spared at None b within apart none next = (b, within, none_set core.map.items s at b lt none apart)
-  program_spared at (Some to) b within apart none next = inl
-      (b, within, (λ e. apart (omega (arith, e, next.0.0))), none_set core.map.items s at b lt none apart)
+  program_spared : (at : PageAddr) (k : Option PageAddr) (b : ℕ) → MapsAll core.map.items new.map.items s at → b < core.blocks → b ≢ at.block
+      → IsFree core.map.items b → IsPageAfter at core.pages k → IsSafelySpared t new.map.items core.blocks k
+  program_spared at None b maps within apart none next = (b, within, none_all core.map.items new.map.items s at b maps none apart)
+  program_spared at (Some to) b maps within apart none next = inl
+      (b, within, (λ here. apart (omega (arith, here, next.0.0))), none_all core.map.items new.map.items s at b maps none apart)
 
   copy_spared : (from to : PageAddr) (k : ℕ) (n : Option PageAddr) → k < length core.map.items → map_entry core k ≡ Some from → from.block ≢ to.block
       → core.next_page ≡ Some to → SetsPage f t to.block to.page (f from.block from.page)
@@ -328,13 +337,14 @@ module _ (f t : Flash) (core new : Core) (array : ℕ → Sector) (stands : Repr
 
   pub whole_after : (m : Command) → IsNext core m → Completes m s x f t → BecomesCore core s m new → KeepsWhole t new
   whole_after (Program at n) next puts becomes =
-      put_keeps at (Version s n x) next.0 puts s lt becomes.0 refl becomes.2
-      (program_spared at new.next_page next.3.0 next.3.1 next.3.2 next.3.3 becomes.2)
+      put_keeps at (Version s n x) next.0 puts (maps_all at becomes.0) refl becomes.2
+      (program_spared at new.next_page next.3.0 becomes.0 next.3.1 next.3.2 next.3.3 becomes.2)
   whole_after (Copy k from to) next puts becomes =
-      put_keeps to (f from.block from.page) next.0 puts k next.1 becomes.0
-      (ap version_count (source_shows f t core array stands k from next.1 next.2).held) becomes.2
+      put_keeps to (f from.block from.page) next.0 puts (maps_one k to next.1 becomes.0)
+      (ap version_count (source_shows f t core array stands k from next.1 next.2).held.1) becomes.2
+      (subst (λ (m : List (Option PageAddr)). IsSafelySpared t m core.blocks new.next_page) (sym becomes.0)
       (copy_spared from to k new.next_page next.1 next.2 (copy_apart core s k from to next) next.0 puts (not_last core s k from to next) becomes.2
-      (subst (IsSafelySpared f core.map.items core.blocks) next.0 keeps.spared))
+      (subst (IsSafelySpared f core.map.items core.blocks) next.0 keeps.spared)))
   whole_after (Erase b) next gone becomes = record {
     mapped = λ j a l entry.
         let there : map_entry core j ≡ Some a = ap (λ (m : List (Option PageAddr)). get_or m j None) (sym becomes.0) ∙ entry in
@@ -342,7 +352,7 @@ module _ (f t : Flash) (core new : Core) (array : ℕ → Sector) (stands : Repr
         same_whole f t a.block (λ q. gone.1 a.block q (next.2 j a inside there)) (keeps.mapped j a inside there);
     full = subst (IsFullBefore t) (sym becomes.2) (λ p less. absurd (omega (arith, less)));
     spared = subst (λ (k : Option PageAddr). IsSafelySpared t new.map.items new.blocks k) (sym becomes.2)
-        (inr (omega (arith, next.1, blocks), λ j q v l shows. absurd (erased_holds_none j shows.number v (sym (gone.0 q) ∙ shows.held))));
+        (inr (omega (arith, next.1, blocks), λ j q v l shows. absurd (erased_has_none t b q j shows.number v (gone.0 q) shows.held)));
   }
   whole_after Refused next same becomes = subst (λ (g : Flash). KeepsWhole g new) (λ i b p. sym (same b p) i) (record {
     mapped = λ j a l entry. keeps.mapped j a (omega (arith, l, ap length becomes.0))
@@ -353,14 +363,14 @@ module _ (f t : Flash) (core new : Core) (array : ℕ → Sector) (stands : Repr
         (subst (IsSafelySpared f core.map.items core.blocks) (sym becomes.2) keeps.spared));
   })
 
-pub cuts_unharmed : (core : Core) (s : ℕ) (m : Command) → IsNext core m → CutsUnharmed core s m
+pub cuts_unharmed : (core : Core) (s : Extent) (m : Command) → IsNext core m → CutsUnharmed core s m
 cuts_unharmed core s m next f t x acked begun is keeps cut =
     cut_unharmed f t core (array_after is.updates) is.represents is.spare keeps s x m next cut
 
 pub cuts_idle_unharmed : (core : Core) → CutsIdleUnharmed core
 cuts_idle_unharmed core f acked begun is keeps = idle_unharmed f f core (array_after is.updates) is.represents is.spare keeps
 
-pub remains_whole : (core new : Core) (s : ℕ) (m : Command) → s < length core.map.items → IsNext core m → BecomesCore core s m new
+pub remains_whole : (core new : Core) (s : Extent) (m : Command) → IsNext core m → BecomesCore core s m new
     → new.blocks ≡ core.blocks → StaysWhole core s m new
-remains_whole core new s m lt next becomes blocks f t x acked begun is keeps does =
-    whole_after f t core new (array_after is.updates) is.represents is.spare keeps blocks s x lt m next does becomes
+remains_whole core new s m next becomes blocks f t x acked begun is keeps does =
+    whole_after f t core new (array_after is.updates) is.represents is.spare keeps blocks s x m next does becomes

@@ -1,6 +1,7 @@
 -- What the public calls keep of the promise.
 use Rattle.std.specs.Prelude.{◌≡◌, ◌<◌, ℕ, List, ◌∷◌, length, None, slice_index_or}
 use Rattle.geometry.specs.Sectors.{Sector}
+use Rattle.durable.specs.declared.extent.Extent.{Extent}
 use Rattle.durable.specs.Updates.{Update}
 use Rattle.durable.specs.Flash.{Flash}
 use Rattle.durable.specs.Commands.{Completes, CutLeaves, IsAllowed, updates_with}
@@ -17,18 +18,20 @@ abbrev pub IsSafe : Core → Command → Type 0
 IsSafe core command = (f : Flash) (acked begun : List Update) → IsConsistent f core acked begun → NamesOn (device_of core) command × IsAllowed f command
 
 -- whatever a power cut inside the command leaves can be mounted, with the update begun
-abbrev pub SurvivesCut : Core → ℕ → Command → Type 0
-SurvivesCut core s command = (f t : Flash) (value : Sector) (acked begun : List Update) → IsConsistent f core acked begun
-    → CutLeaves command s value f t → IsRecoverable t (device_of core) acked (record { sector = s; value = value } ∷ begun)
+abbrev pub SurvivesCut : Core → Extent → Command → Type 0
+SurvivesCut core extent command = (f t : Flash) (value : Sector) (acked begun : List Update) → IsConsistent f core acked begun
+    → CutLeaves command extent value f t → IsRecoverable t (device_of core) acked (record { extent = extent; value = value } ∷ begun)
 
 -- a power cut between two commands leaves a flash that can be mounted
 abbrev pub SurvivesIdleCut : Core → Type 0
 SurvivesIdleCut core = (f : Flash) (acked begun : List Update) → IsConsistent f core acked begun → IsRecoverable f (device_of core) acked begun
 
 -- after the command has succeeded, flash and layer are consistent again; its program acknowledges the update
-abbrev pub Acknowledges : Core → ℕ → Command → Core → Type 0
-Acknowledges old s command new = (f t : Flash) (value : Sector) (acked begun : List Update) → IsConsistent f old acked begun → Completes command s value f t
-    → let update : Update = record { sector = s; value = value } in IsConsistent t new (updates_with command update acked) (updates_with command update begun)
+abbrev pub Acknowledges : Core → Extent → Command → Core → Type 0
+Acknowledges old extent command new = (f t : Flash) (value : Sector) (acked begun : List Update) → IsConsistent f old acked begun
+    → Completes command extent value f t
+    → let update : Update = record { extent = extent; value = value } in IsConsistent t new (updates_with command update acked) (updates_with command
+    update begun)
 
 -- the stamps that were noted are those of the flash's pages, block by block, and their gaps were counted
 pub record HasNoted (f : Flash) (mount : Mount) : Type 0 where

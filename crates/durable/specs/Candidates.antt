@@ -1,9 +1,12 @@
 -- Which pages are found as their stamps are read, and which block can be freed.
-use Rattle.std.specs.Prelude.{◌≡◌, ◌≢◌, ◌⊎◌, ◌<◌, ◌+◌, ◌==◌, ℕ, false, max, List, length, Option, None, Some, if◌then◌else◌, nat_lt, slice_set, slice_index_or}
+use Rattle.std.specs.Prelude.{◌≡◌, ◌≢◌, ◌⊎◌, ◌<◌, ◌+◌, ◌==◌, ℕ, false, max, List}
+use Rattle.std.specs.Prelude.{[], ◌∷◌, length, Option, None, Some, if◌then◌else◌, nat_lt, slice_index_or}
 use Rattle.geometry.specs.declared.page_addr.PageAddr.{PageAddr}
+use Rattle.packed_map.specs.Entries.{IsPackable}
 use Rattle.durable.specs.declared.found.Candidate.{Candidate}
 use Rattle.durable.specs.declared.found.Stamp.{Stamp}
 use Rattle.durable.specs.Losses.{has_gap}
+use Rattle.durable.specs.Updates.{Covers}
 
 -- the twin of a page that was found: this one, unless there is one in a block without a gap
 abbrev pub twin_with : List ℕ → Option PageAddr → PageAddr → PageAddr
@@ -25,15 +28,46 @@ newer_of gaps (Some old) at number =
     else if nat_lt old.number number then Some (record { at = at; number = number; twin = None })
     else Some (with_twin gaps old at)
 
+-- the newest version of each sector that was found
+pub record Candidates : Type 0 where
+  pub items : List (Option Candidate)
+
+-- what was found of a sector, by its page, number and twin
+abbrev pub candidate_of : Option PageAddr → ℕ → Option PageAddr → Option Candidate
+candidate_of None number twin = None
+candidate_of (Some at) number twin = Some (record { at = at; number = number; twin = twin })
+
+-- the same of each sector
+unfoldable pub candidates_of : List (Option PageAddr) → List ℕ → List (Option PageAddr) → List (Option Candidate)
+candidates_of [] numbers twins = []
+candidates_of (page ∷ pages) [] twins = []
+candidates_of (page ∷ pages) (number ∷ numbers) [] = []
+candidates_of (page ∷ pages) (number ∷ numbers) (twin ∷ twins) = candidate_of page number twin ∷ candidates_of pages numbers twins
+
+-- the pages of a version can be packed
+abbrev pub IsPackableVersion : Option Candidate → Type 0
+IsPackableVersion None = Unit {0}
+IsPackableVersion (Some x) = IsPackable (Some x.at) × IsPackable x.twin
+
+-- the page of a sector, or its twin, if the page is in this block
+abbrev pub outside_of : ℕ → Option PageAddr → Option PageAddr → Option PageAddr
+outside_of avoided None twin = None
+outside_of avoided (Some at) None = Some at
+outside_of avoided (Some at) (Some twin) = if at.block == avoided then Some twin else Some at
+
 -- the entry names the page that was found, or its twin
 abbrev pub IsEntryOf : Option Candidate → Option PageAddr → Type 0
 IsEntryOf None entry = entry ≡ None
 IsEntryOf (Some x) entry = (entry ≡ Some x.at) ⊎ ((t : PageAddr) × (x.twin ≡ Some t) × (entry ≡ Some t))
 
--- what was found, with one page more
-abbrev pub found_with : List ℕ → List (Option Candidate) → PageAddr → Option Stamp → List (Option Candidate)
-found_with gaps found at None = found
-found_with gaps found at (Some stamp) = slice_set found stamp.sector (newer_of gaps (slice_index_or found stamp.sector None) at stamp.number)
+-- what was found, with one page more: the newer one of each sector that it is of
+abbrev pub IsFoundWith : List ℕ → List (Option Candidate) → List (Option Candidate) → PageAddr → Option Stamp → Type 0
+IsFoundWith gaps old new at None = new ≡ old
+IsFoundWith gaps old new at (Some stamp) =
+    (length new ≡ length old)
+    × ((s : ℕ) → s < length old → Covers stamp.extent s
+    → slice_index_or new s None ≡ newer_of gaps (slice_index_or old s None) at stamp.number)
+    × ((s : ℕ) → s < length old → ¬ Covers stamp.extent s → slice_index_or new s None ≡ slice_index_or old s None)
 
 -- a number above each that was read
 abbrev pub number_above : ℕ → Option Stamp → ℕ

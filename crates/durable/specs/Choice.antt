@@ -1,29 +1,15 @@
--- Which command comes next, and why a call comes to its end.
-use Rattle.std.specs.Prelude.{◌≡◌, ◌≢◌, ◌<◌, ◌≤◌, ◌+◌, ◌-◌, ◌^◌, ℕ, length, Option, None, Some}
+-- Which command comes next for a layer, and why a call comes to its end.
+use Rattle.std.specs.Prelude.{◌≡◌, ◌<◌, ◌≤◌, ◌+◌, ◌-◌, ℕ, Option, None, Some}
 use Rattle.geometry.specs.declared.page_addr.PageAddr.{PageAddr}
 use Rattle.durable.specs.declared.command.Command.{Command}
 use Rattle.durable.specs.declared.command.Command.TheVariants.{Program, Copy, Erase, Refused}
 use Rattle.durable.specs.declared.memory.Core.{Core}
-use Rattle.durable.specs.Collecting.{IsFree, live_in}
-use Rattle.durable.specs.Memory.{map_entry}
-
--- a block beside this one is free
-abbrev pub HasFreeBeside : Core → ℕ → Type 0
-HasFreeBeside core avoided = (b : ℕ) × (b < core.blocks) × (b ≢ avoided) × IsFree core.map.items b
-
--- the block has the fewest live pages of all beside the open one
-abbrev pub IsFewestBeside : Core → ℕ → ℕ → Type 0
-IsFewestBeside core opened victim = (b : ℕ) → b < core.blocks → b ≢ opened
-    → (victim < core.blocks) × (victim ≢ opened) × (live_in victim core.map.items ≤ live_in b core.map.items)
+use Rattle.durable.specs.Next.{IsNextFor}
 
 -- a program needs the open block's next page and a free block beside it; a copy moves a live page of the victim there; an erase
 -- opens a free block
 abbrev pub IsNext : Core → Command → Type 0
-IsNext core (Program at n) = (core.next_page ≡ Some at) × (n ≡ core.next_number) × (n + 1 < 2 ^ 64) × HasFreeBeside core at.block
-IsNext core (Copy k from to) = (core.next_page ≡ Some to) × (k < length core.map.items) × (map_entry core k ≡ Some from)
-    × IsFewestBeside core to.block from.block
-IsNext core (Erase b) = (core.next_page ≡ None) × (b < core.blocks) × IsFree core.map.items b
-IsNext core Refused = Unit {0}
+IsNext core = IsNextFor core.blocks core.map.items core.next_page core.next_number
 
 -- the most commands that a call still needs
 abbrev pub left_at : ℕ → Option PageAddr → ℕ

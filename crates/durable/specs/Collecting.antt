@@ -1,10 +1,18 @@
 -- How many sectors are mapped to each block, and when there is room to collect.
 use Rattle.std.specs.Prelude.{◌≡◌, ◌≢◌, ◌<◌, ◌≤◌, ◌+◌, ◌-◌, ◌*◌, ◌==◌, ℕ, Bool, false, cond, List, [], ◌∷◌, length, Option, None, Some, slice_index_or}
 use Rattle.geometry.specs.declared.page_addr.PageAddr.{PageAddr}
+use Rattle.durable.specs.Updates.{Covers}
+use Rattle.durable.specs.declared.extent.Extent.{Extent}
 
 -- no sector is mapped to the block
 abbrev pub IsFree : List (Option PageAddr) → ℕ → Type 0
 IsFree map b = (s : ℕ) (at : PageAddr) → s < length map → slice_index_or map s None ≡ Some at → at.block ≢ b
+
+-- the sectors of an extent are mapped to a page, and the others as before
+pub record MapsAll (old new : List (Option PageAddr)) (extent : Extent) (to : PageAddr) : Type 0 where
+  pub size : length new ≡ length old
+  pub covered : (s : ℕ) → Covers extent s → slice_index_or new s None ≡ Some to
+  pub others : (s : ℕ) → ¬ Covers extent s → slice_index_or new s None ≡ slice_index_or old s None
 
 -- whether the entry names the block
 abbrev pub is_in : ℕ → Option PageAddr → Bool

@@ -3,6 +3,7 @@ use Rattle.std.specs.Prelude.{◌≡◌, ◌≢◌, ◌⊎◌, ℕ, List, ◌∷
 use Rattle.geometry.specs.Sectors.{Sector}
 use Rattle.durable.specs.Flash.{Erased, Torn, Version, Flash, SetsPage, LosesPages}
 use Rattle.durable.specs.Updates.{Update}
+use Rattle.durable.specs.declared.extent.Extent.{Extent}
 use Rattle.durable.specs.declared.command.Command.{Command}
 use Rattle.durable.specs.declared.command.Command.TheVariants.{Program, Copy, Erase, Refused}
 
@@ -11,20 +12,20 @@ abbrev pub IsSameFlash : Flash → Flash → Type 0
 IsSameFlash f t = (b p : ℕ) → t b p ≡ f b p
 
 -- what a command leaves that succeeds
-abbrev pub Completes : Command → ℕ → Sector → Flash → Flash → Type 0
-Completes (Program at n) s value f t = SetsPage f t at.block at.page (Version s n value)
-Completes (Copy k from to) s value f t = SetsPage f t to.block to.page (f from.block from.page)
-Completes (Erase b) s value f t = ((p : ℕ) → t b p ≡ Erased) × ((d p : ℕ) → d ≢ b → t d p ≡ f d p)
-Completes Refused s value f t = IsSameFlash f t
+abbrev pub Completes : Command → Extent → Sector → Flash → Flash → Type 0
+Completes (Program at n) extent value f t = SetsPage f t at.block at.page (Version extent n value)
+Completes (Copy k from to) extent value f t = SetsPage f t to.block to.page (f from.block from.page)
+Completes (Erase b) extent value f t = ((p : ℕ) → t b p ≡ Erased) × ((d p : ℕ) → d ≢ b → t d p ≡ f d p)
+Completes Refused extent value f t = IsSameFlash f t
 
 -- what a power cut inside a command may leave: nothing of it, a torn page, or all of it; of an erase, any part of the block's pages lost
-abbrev pub CutLeaves : Command → ℕ → Sector → Flash → Flash → Type 0
-CutLeaves (Program at n) s value f t =
-    IsSameFlash f t ⊎ SetsPage f t at.block at.page Torn ⊎ SetsPage f t at.block at.page (Version s n value)
-CutLeaves (Copy k from to) s value f t =
+abbrev pub CutLeaves : Command → Extent → Sector → Flash → Flash → Type 0
+CutLeaves (Program at n) extent value f t =
+    IsSameFlash f t ⊎ SetsPage f t at.block at.page Torn ⊎ SetsPage f t at.block at.page (Version extent n value)
+CutLeaves (Copy k from to) extent value f t =
     IsSameFlash f t ⊎ SetsPage f t to.block to.page Torn ⊎ SetsPage f t to.block to.page (f from.block from.page)
-CutLeaves (Erase b) s value f t = LosesPages f t b
-CutLeaves Refused s value f t = IsSameFlash f t
+CutLeaves (Erase b) extent value f t = LosesPages f t b
+CutLeaves Refused extent value f t = IsSameFlash f t
 
 -- only an erased page is programmed
 abbrev pub IsAllowed : Flash → Command → Type 0

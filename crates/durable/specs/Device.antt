@@ -2,7 +2,9 @@
 use Rattle.std.specs.Prelude.{◌≡◌, ◌<◌, ◌+◌, ◌^◌, ℕ, length, Option}
 use Rattle.geometry.specs.Sectors.{Sector}
 use Rattle.geometry.specs.declared.page_addr.PageAddr.{PageAddr}
+use Rattle.durable.specs.Updates.{LiesWithin}
 use Rattle.durable.specs.Flash.{Version, Flash}
+use Rattle.durable.specs.declared.extent.Extent.{Extent}
 use Rattle.durable.specs.declared.command.Command.{Command}
 use Rattle.durable.specs.declared.command.Command.TheVariants.{Program, Copy, Erase, Refused}
 use Rattle.durable.specs.declared.memory.Core.{Core}
@@ -51,7 +53,7 @@ NamesOn device (Copy k from to) = IsReadOn device from × LiesOn device to
 NamesOn device (Erase b) = b < device.blocks
 NamesOn device Refused = Unit {0}
 
--- each version is in a page that is read, of one of its sectors, and has a number below the greatest
+-- each version is in a page that is read, of an extent of its sectors, and has a number below the greatest
 abbrev pub IsWrittenOn : Device → Flash → Type 0
-IsWrittenOn device f = (b p s m : ℕ) (v : Sector) → f b p ≡ Version s m v
-    → (b < device.read_blocks) × (p < device.pages) × (s < device.sectors) × (m + 1 < 2 ^ 64)
+IsWrittenOn device f = (b p : ℕ) (e : Extent) (m : ℕ) (v : Sector) → f b p ≡ Version e m v
+    → (b < device.read_blocks) × (p < device.pages) × LiesWithin device.sectors e × (m + 1 < 2 ^ 64)

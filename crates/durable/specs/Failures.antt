@@ -3,6 +3,7 @@ use Rattle.std.specs.Prelude.{◌≡◌, ◌≢◌, ◌<◌, ◌==◌, ℕ, if�
 use Rattle.geometry.specs.Sectors.{Sector}
 use Rattle.durable.specs.Flash.{Version, Flash}
 use Rattle.durable.specs.Device.{Device}
+use Rattle.durable.specs.declared.extent.Extent.{Extent}
 use Rattle.durable.specs.declared.command.Command.{Command}
 use Rattle.durable.specs.declared.command.Command.TheVariants.{Program, Copy, Erase, Refused}
 
@@ -16,7 +17,7 @@ pub record IsRenumbered (f t : Flash) (blocks : ℕ) : Type 0 where
 
 -- no page of the block has a version
 abbrev pub HoldsNoVersion : Flash → ℕ → Type 0
-HoldsNoVersion f b = (p s m : ℕ) (v : Sector) → f b p ≢ Version s m v
+HoldsNoVersion f b = (p : ℕ) (e : Extent) (m : ℕ) (v : Sector) → f b p ≢ Version e m v
 
 -- a block that is in use has no version
 abbrev pub HasVersionlessBlock : Flash → Device → Type 0

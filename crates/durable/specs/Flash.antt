@@ -1,16 +1,27 @@
 -- What the pages of a flash hold, and what a mount reads from them.
 use Rattle.std.specs.Prelude.{◌≡◌, ◌≢◌, ◌⊎◌, ◌<◌, ℕ, List, None, Some}
 use Rattle.geometry.specs.Sectors.{Sector}
+use Rattle.durable.specs.Updates.{Covers}
+use Rattle.durable.specs.declared.extent.Extent.{Extent}
 
--- what a page holds: it is erased; or torn, so that no read takes it for a version; or it has a version of a sector, with its number
+-- what a page holds: it is erased; or torn, so that no read takes it for a version; or it has a version of an extent's sectors, with its number: all of
+-- them have this value
 pub data PageContents : Type 0 where
   Erased : PageContents
   Torn : PageContents
-  Version : (sector : ℕ) (number : ℕ) (value : Sector) → PageContents
+  Version : (extent : Extent) (number : ℕ) (value : Sector) → PageContents
 
 -- the contents of each block's pages
 abbrev pub Flash : Type 0
 Flash = ℕ → ℕ → PageContents
+
+-- this is a version of the sector: one of an extent that has it
+abbrev pub IsVersionOf : PageContents → ℕ → ℕ → Sector → Type 0
+IsVersionOf contents s m v = (extent : Extent) × (contents ≡ Version extent m v) × Covers extent s
+
+-- the page has a version of the sector, with this number and value
+abbrev pub HasVersion : Flash → ℕ → ℕ → ℕ → ℕ → Sector → Type 0
+HasVersion f b p s m v = IsVersionOf (f b p) s m v
 
 -- each page is erased
 abbrev pub IsErased : Flash → Type 0
@@ -18,17 +29,17 @@ IsErased f = (b p : ℕ) → f b p ≡ Erased
 
 -- no page has a version of the sector with a greater number, and those with this number have this value
 abbrev pub IsNewest : Flash → ℕ → ℕ → Sector → Type 0
-IsNewest f s n value = (b p m : ℕ) (v : Sector) → f b p ≡ Version s m v → (m < n) ⊎ ((m ≡ n) × (v ≡ value))
+IsNewest f s n value = (b p m : ℕ) (v : Sector) → HasVersion f b p s m v → (m < n) ⊎ ((m ≡ n) × (v ≡ value))
 
 -- the page has the newest version of the sector
 pub record HoldsNewest (f : Flash) (s : ℕ) (value : Sector) (b p : ℕ) : Type 0 where
   pub number : ℕ
-  pub held : f b p ≡ Version s number value
+  pub held : HasVersion f b p s number value
   pub newest : IsNewest f s number value
 
 -- no page has a value of the sector
 abbrev pub HoldsNoValue : Flash → ℕ → Type 0
-HoldsNoValue f s = (b p m : ℕ) (bytes : List ℕ) → f b p ≢ Version s m (Some bytes)
+HoldsNoValue f s = (b p m : ℕ) (bytes : List ℕ) → ¬ HasVersion f b p s m (Some bytes)
 
 -- what a mount reads of a sector: its newest version, or nothing where no page has a value of it
 abbrev pub RecoversSector : Flash → ℕ → Sector → Type 0
@@ -45,5 +56,5 @@ pub record SetsPage (f t : Flash) (b p : ℕ) (contents : PageContents) : Type 0
 
 -- the block may have lost versions, and has no new ones; no other block has changed
 pub record LosesPages (f t : Flash) (b : ℕ) : Type 0 where
-  pub within : (c p s m : ℕ) (v : Sector) → t c p ≡ Version s m v → f c p ≡ Version s m v
+  pub within : (c p : ℕ) (e : Extent) (m : ℕ) (v : Sector) → t c p ≡ Version e m v → f c p ≡ Version e m v
   pub outside : (c p : ℕ) → c ≢ b → t c p ≡ f c p

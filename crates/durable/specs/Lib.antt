@@ -12,6 +12,7 @@ pub mod Faults
 -- How the layer chooses its commands, and what a mount has found: internal.
 pub mod Collecting
 pub mod Memory
+pub mod Next
 pub mod Choice
 pub mod Spare
 pub mod Losses

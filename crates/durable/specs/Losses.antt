@@ -4,13 +4,14 @@ use Rattle.std.specs.Prelude.{◌≡◌, ◌≢◌, ◌<◌, ◌≤◌, ◌+◌,
 use Rattle.std.specs.Prelude.{Some, slice_index_or, slice_set}
 use Rattle.geometry.specs.Sectors.{Sector}
 use Rattle.geometry.specs.declared.page_addr.PageAddr.{PageAddr}
-use Rattle.durable.specs.Flash.{PageContents, Erased, Torn, Version, Flash, HoldsNewest}
+use Rattle.durable.specs.Flash.{PageContents, Erased, Torn, Version, Flash, HasVersion, HoldsNewest}
+use Rattle.durable.specs.declared.extent.Extent.{Extent}
 use Rattle.durable.specs.declared.found.Candidate.{Candidate}
 use Rattle.durable.specs.declared.found.Stamp.{Stamp}
 
 -- one if the page has a version
 abbrev pub version_count : PageContents → ℕ
-version_count (Version s n v) = 1
+version_count (Version e n v) = 1
 version_count Erased = 0
 version_count Torn = 0
 
@@ -21,7 +22,7 @@ versions_before f b (suc p) = versions_before f b p + version_count (f b p)
 
 -- the gaps up to a page and with it: before a version they are all pages without one
 abbrev pub gaps_with : PageContents → ℕ → ℕ → ℕ → ℕ
-gaps_with (Version s n v) p versions gaps = p - versions
+gaps_with (Version e n v) p versions gaps = p - versions
 gaps_with Erased p versions gaps = gaps
 gaps_with Torn p versions gaps = gaps
 
@@ -32,7 +33,7 @@ gaps_before f b (suc p) = gaps_with (f b p) p (versions_before f b p) (gaps_befo
 
 -- the block has no gap: each page before a version has one
 abbrev pub IsGapless : Flash → ℕ → Type 0
-IsGapless f b = (p q s m : ℕ) (v : Sector) → p < q → f b q ≡ Version s m v → version_count (f b p) ≡ 1
+IsGapless f b = (p q : ℕ) (e : Extent) (m : ℕ) (v : Sector) → p < q → f b q ≡ Version e m v → version_count (f b p) ≡ 1
 
 -- the newest version of each sector is in a block without a gap
 abbrev pub HasNoLoss : Flash → ℕ → Type 0
@@ -92,9 +93,9 @@ IsWholeOrHere gaps b c = (c ≡ b) ⊎ ((c < b) × (gaps_in gaps c ≡ 0))
 abbrev pub IsPreferred : Flash → ℕ → ℕ → ℕ → List ℕ → ℕ → Option Candidate → Type 0
 IsPreferred f pages b p gaps s None = Unit {0}
 IsPreferred f pages b p gaps s (Some x) =
-    ((c q : ℕ) (v : Sector) → c < b → q < pages → f c q ≡ Version s x.number v → gaps_in gaps c ≡ 0 → IsInWhole gaps b x)
-    × ((q : ℕ) (v : Sector) → q < p → f b q ≡ Version s x.number v → IsWholeOrHere gaps b x.at.block)
-    × ((c q : ℕ) (v : Sector) → c < b → q < pages → f c q ≡ Version s x.number v → gaps_in gaps c ≡ 0 → c ≢ x.at.block
+    ((c q : ℕ) (v : Sector) → c < b → q < pages → HasVersion f c q s x.number v → gaps_in gaps c ≡ 0 → IsInWhole gaps b x)
+    × ((q : ℕ) (v : Sector) → q < p → HasVersion f b q s x.number v → IsWholeOrHere gaps b x.at.block)
+    × ((c q : ℕ) (v : Sector) → c < b → q < pages → HasVersion f c q s x.number v → gaps_in gaps c ≡ 0 → c ≢ x.at.block
     → (t : PageAddr) × (x.twin ≡ Some t) × (t.block < b) × (gaps_in gaps t.block ≡ 0))
-    × ((q : ℕ) (v : Sector) → q < p → f b q ≡ Version s x.number v → x.at.block ≢ b → (t : PageAddr) × (x.twin ≡ Some t) × IsWholeOrHere gaps b t.block)
+    × ((q : ℕ) (v : Sector) → q < p → HasVersion f b q s x.number v → x.at.block ≢ b → (t : PageAddr) × (x.twin ≡ Some t) × IsWholeOrHere gaps b t.block)
     × ((t : PageAddr) → x.twin ≡ Some t → t.block ≤ b)

@@ -2,6 +2,7 @@
 use Rattle.std.specs.Prelude.{◌≡◌, ◌<◌, ◌≤◌, ℕ, length, Option, None, Some, slice_index_or}
 use Rattle.geometry.specs.Sectors.{Sector}
 use Rattle.geometry.specs.declared.page_addr.PageAddr.{PageAddr}
+use Rattle.durable.specs.declared.extent.Extent.{Extent}
 use Rattle.durable.specs.Flash.{Erased, Version, Flash, HoldsNewest, HoldsNoValue}
 use Rattle.durable.specs.declared.memory.Core.{Core}
 
@@ -22,5 +23,5 @@ IsErasedFrom f (Some at) = (p : ℕ) → at.page ≤ p → f at.block p ≡ Eras
 -- the flash has the array, and the layer's map says where
 pub record Represents (f : Flash) (core : Core) (array : ℕ → Sector) : Type 0 where
   pub mapped : (s : ℕ) → s < length core.map.items → IsMappedTo f s (array s) (map_entry core s)
-  pub numbers : (b p s m : ℕ) (v : Sector) → f b p ≡ Version s m v → m < core.next_number
+  pub numbers : (b p : ℕ) (e : Extent) (m : ℕ) (v : Sector) → f b p ≡ Version e m v → m < core.next_number
   pub erased : IsErasedFrom f core.next_page

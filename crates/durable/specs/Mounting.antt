@@ -2,9 +2,10 @@
 use Rattle.std.specs.Prelude.{◌≡◌, ◌≢◌, ◌⊎◌, ◌<◌, ◌≤◌, ◌+◌, ℕ, if◌then◌else◌, nat_lt, List, length, Option, None, Some, slice_index_or}
 use Rattle.geometry.specs.Sectors.{Sector}
 use Rattle.geometry.specs.declared.page_addr.PageAddr.{PageAddr}
+use Rattle.durable.specs.declared.extent.Extent.{Extent}
 use Rattle.durable.specs.declared.found.Stamp.{Stamp}
 use Rattle.durable.specs.declared.found.Candidate.{Candidate}
-use Rattle.durable.specs.Flash.{Version, Flash}
+use Rattle.durable.specs.Flash.{Version, Flash, HasVersion}
 use Rattle.durable.specs.declared.mount.Mount.{Mount}
 
 -- this page, if it lies on a device with so many blocks
@@ -27,27 +28,27 @@ IsRead pages b p c q = (q < pages) × ((c < b) ⊎ ((c ≡ b) × (q < p)))
 
 -- the page has a version with this stamp, or none
 abbrev pub IsStampOf : Flash → ℕ → ℕ → Option Stamp → Type 0
-IsStampOf f b p None = (s m : ℕ) (v : Sector) → f b p ≢ Version s m v
-IsStampOf f b p (Some stamp) = (v : Sector) × (f b p ≡ Version stamp.sector stamp.number v)
+IsStampOf f b p None = (e : Extent) (m : ℕ) (v : Sector) → f b p ≢ Version e m v
+IsStampOf f b p (Some stamp) = (v : Sector) × (f b p ≡ Version stamp.extent stamp.number v)
 
 -- the page that was found has the greatest number of the sector among those that were read
 abbrev pub IsBest : Flash → ℕ → ℕ → ℕ → ℕ → Option Candidate → Type 0
-IsBest f pages b p s None = (c q m : ℕ) (v : Sector) → IsRead pages b p c q → f c q ≢ Version s m v
+IsBest f pages b p s None = (c q m : ℕ) (v : Sector) → IsRead pages b p c q → ¬ HasVersion f c q s m v
 IsBest f pages b p s (Some x) =
-    ((v : Sector) × (f x.at.block x.at.page ≡ Version s x.number v))
-    × ((c q m : ℕ) (v : Sector) → IsRead pages b p c q → f c q ≡ Version s m v → m ≤ x.number)
-    × ((t : PageAddr) → x.twin ≡ Some t → (v : Sector) × (f t.block t.page ≡ Version s x.number v))
+    ((v : Sector) × HasVersion f x.at.block x.at.page s x.number v)
+    × ((c q m : ℕ) (v : Sector) → IsRead pages b p c q → HasVersion f c q s m v → m ≤ x.number)
+    × ((t : PageAddr) → x.twin ≡ Some t → (v : Sector) × HasVersion f t.block t.page s x.number v)
 
 -- the twin is in another block, and without a twin no other block has the version; no later block was read
 abbrev pub IsLone : Flash → ℕ → ℕ → ℕ → ℕ → Option Candidate → Type 0
 IsLone f pages b p s None = Unit {0}
 IsLone f pages b p s (Some x) =
-    (x.twin ≡ None → (c q : ℕ) (v : Sector) → IsRead pages b p c q → f c q ≡ Version s x.number v → c ≡ x.at.block)
+    (x.twin ≡ None → (c q : ℕ) (v : Sector) → IsRead pages b p c q → HasVersion f c q s x.number v → c ≡ x.at.block)
     × ((t : PageAddr) → x.twin ≡ Some t → t.block ≢ x.at.block)
     × (x.at.block ≤ b)
 
 -- what was found before page p of block b
 pub record Finds (f : Flash) (pages b p : ℕ) (found : List (Option Candidate)) (next : ℕ) : Type 0 where
   pub best : (s : ℕ) → s < length found → IsBest f pages b p s (slice_index_or found s None)
-  pub numbers : (c q s m : ℕ) (v : Sector) → IsRead pages b p c q → f c q ≡ Version s m v → m < next
+  pub numbers : (c q : ℕ) (e : Extent) (m : ℕ) (v : Sector) → IsRead pages b p c q → f c q ≡ Version e m v → m < next
   pub lone : (s : ℕ) → s < length found → IsLone f pages b p s (slice_index_or found s None)

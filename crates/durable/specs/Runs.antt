@@ -25,12 +25,12 @@ IsMountedFrom f core = (mount : Mount) × HasNoted f mount × (device_of core �
 -- and `Mount::finish` ensure. A command that fails leaves what a power cut inside it may leave; the blocks are numbered anew then
 abbrev pub Happens : Event → Flash → Core → Flash → Core → Type 0
 Happens (Completed update command) f old t new =
-    Completes command update.sector update.value f t × Acknowledges old update.sector command new × (device_of new ≡ device_of old)
+    Completes command update.extent update.value f t × Acknowledges old update.extent command new × (device_of new ≡ device_of old)
 Happens (Failed update command) f old t new =
-    (left : Flash) × SurvivesCut old update.sector command × CutLeaves command update.sector update.value f left
+    (left : Flash) × SurvivesCut old update.extent command × CutLeaves command update.extent update.value f left
     × IsRenumbered left t (device_of old).read_blocks × IsMountedFrom t new × IsSameFlashOf (device_of old) (device_of new)
 Happens (CutInside update command) f old t new =
-    SurvivesCut old update.sector command × CutLeaves command update.sector update.value f t × IsMountedFrom t new × (device_of new ≡ device_of old)
+    SurvivesCut old update.extent command × CutLeaves command update.extent update.value f t × IsMountedFrom t new × (device_of new ≡ device_of old)
 Happens CutBetween f old t new = (t ≡ f) × IsMountedFrom t new × (device_of new ≡ device_of old)
 
 -- a run from the first mount of an erased flash, its newest event first
@@ -75,7 +75,7 @@ failures_in (CutBetween ∷ events) = failures_in events
 abbrev pub HappensOnReserve : ℕ → Event → Flash → Core → Flash → Core → Type 0
 HappensOnReserve spent (Completed update command) f old t new = IsSafe old command × Happens (Completed update command) f old t new
 HappensOnReserve spent (Failed update command) f old t new =
-    IsSafe old command × (left : Flash) × (b : ℕ) × SurvivesCut old update.sector command × CutLeaves command update.sector update.value f left
+    IsSafe old command × (left : Flash) × (b : ℕ) × SurvivesCut old update.extent command × CutLeaves command update.extent update.value f left
     × Changes command b × IsSwapped left t b ((device_of old).blocks + spent) × IsMountedFrom t new × (device_of new ≡ device_of old)
 HappensOnReserve spent (CutInside update command) f old t new = IsSafe old command × Happens (CutInside update command) f old t new
 HappensOnReserve spent CutBetween f old t new = Happens CutBetween f old t new

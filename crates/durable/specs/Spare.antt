@@ -2,7 +2,7 @@
 use Rattle.std.specs.Prelude.{◌≡◌, ◌≢◌, ◌⊎◌, ◌<◌, ℕ, List, length, Option, None, Some}
 use Rattle.geometry.specs.Sectors.{Sector}
 use Rattle.geometry.specs.declared.page_addr.PageAddr.{PageAddr}
-use Rattle.durable.specs.Flash.{Version, Flash, HoldsNewest}
+use Rattle.durable.specs.Flash.{Flash, HasVersion, HoldsNewest}
 use Rattle.durable.specs.declared.memory.Core.{Core}
 use Rattle.durable.specs.Collecting.{IsFree}
 use Rattle.durable.specs.Memory.{map_entry}
@@ -23,5 +23,5 @@ IsSparedAt f map blocks (Some to) = ((b : ℕ) × (b < blocks) × (b ≢ to.bloc
 
 -- whatever a power cut leaves, a mount can free a block: the map misses no version, and a block is spared
 pub record LeavesSpare (f : Flash) (core : Core) : Type 0 where
-  pub known : (s d q m : ℕ) (v : Sector) → s < length core.map.items → map_entry core s ≡ None → f d q ≢ Version s m v
+  pub known : (s d q m : ℕ) (v : Sector) → s < length core.map.items → map_entry core s ≡ None → ¬ HasVersion f d q s m v
   pub spared : IsSparedAt f core.map.items core.blocks core.next_page

@@ -1,20 +1,37 @@
 -- The array of sectors and the updates that change it. It knows no page, block or number.
-use Rattle.std.specs.Prelude.{◌≡◌, ◌⊎◌, ℕ, Bool, true, false, List, [], ◌∷◌, None, if◌then◌else◌, ◌==◌}
+use Rattle.std.specs.Prelude.{◌≡◌, ◌⊎◌, ◌<◌, ◌≤◌, ◌+◌, ℕ, Bool, true, false, List, [], ◌∷◌, None, if◌then◌else◌, nat_lt}
 use Rattle.geometry.specs.Sectors.{Sector}
+use Rattle.durable.specs.declared.extent.Extent.{Extent}
 
--- an update: a sector, and what it holds from then on, which for a trim is nothing
+-- the extent has this sector
+abbrev pub Covers : Extent → ℕ → Type 0
+Covers extent k = (extent.first ≤ k) × (k < extent.first + extent.count)
+
+-- whether it has
+abbrev pub is_covered : Extent → ℕ → Bool
+is_covered extent k = if nat_lt k extent.first then false else nat_lt k (extent.first + extent.count)
+
+-- the extent has sectors, and all of them are among the first so many
+abbrev pub LiesWithin : ℕ → Extent → Type 0
+LiesWithin sectors extent = (0 < extent.count) × (extent.first + extent.count ≤ sectors)
+
+-- the extent of one sector
+abbrev pub sole : ℕ → Extent
+sole sector = record { first = sector; count = 1 }
+
+-- an update: an extent, and what each of its sectors holds from then on, which for a trim is nothing
 pub record Update : Type 0 where
-  pub sector : ℕ
+  pub extent : Extent
   pub value : Sector
 
--- the array with one sector changed
-abbrev pub changed : (ℕ → Sector) → ℕ → Sector → ℕ → Sector
-changed array s value k = if k == s then value else array k
+-- the array with all sectors of an extent changed
+abbrev pub changed : (ℕ → Sector) → Extent → Sector → ℕ → Sector
+changed array extent value k = if is_covered extent k then value else array k
 
 -- the array after these updates, the newest first; before the first one all sectors are empty
 abbrev pub array_after : List Update → ℕ → Sector
 array_after [] k = None
-array_after (update ∷ earlier) k = changed (array_after earlier) update.sector update.value k
+array_after (update ∷ earlier) k = changed (array_after earlier) update.extent update.value k
 
 -- the first list is the second with some updates left out, in the same order
 abbrev pub IsSubsequence : List Update → List Update → Type 0

@@ -4,6 +4,7 @@ use Rattle.geometry.specs.Sectors.{Sector}
 use Rattle.geometry.specs.declared.page_addr.PageAddr.{PageAddr}
 use Rattle.durable.specs.Flash.{Flash, HoldsNewest, IsErased}
 use Rattle.durable.specs.Updates.{Update}
+use Rattle.durable.specs.declared.extent.Extent.{Extent}
 use Rattle.durable.specs.Device.{Device, device_of, device_in, losses_of}
 use Rattle.durable.specs.Collecting.{IsFree}
 use Rattle.durable.specs.Commands.{Completes, CutLeaves}
@@ -45,18 +46,18 @@ pub record KeepsWhole (f : Flash) (core : Core) : Type 0 where
   pub spared : IsSafelySpared f core.map.items core.blocks core.next_page
 
 -- whatever a power cut inside the command leaves has lost no page
-abbrev pub CutsUnharmed : Core → ℕ → Command → Type 0
-CutsUnharmed core s command = (f t : Flash) (value : Sector) (acked begun : List Update) → IsConsistent f core acked begun → KeepsWhole f core
-    → CutLeaves command s value f t → IsUnharmed t (device_of core)
+abbrev pub CutsUnharmed : Core → Extent → Command → Type 0
+CutsUnharmed core extent command = (f t : Flash) (value : Sector) (acked begun : List Update) → IsConsistent f core acked begun → KeepsWhole f core
+    → CutLeaves command extent value f t → IsUnharmed t (device_of core)
 
 -- nor has what one between two commands leaves
 abbrev pub CutsIdleUnharmed : Core → Type 0
 CutsIdleUnharmed core = (f : Flash) (acked begun : List Update) → IsConsistent f core acked begun → KeepsWhole f core → IsUnharmed f (device_of core)
 
 -- after the command has succeeded the layer still keeps nothing in a block that has a gap
-abbrev pub StaysWhole : Core → ℕ → Command → Core → Type 0
-StaysWhole old s command new = (f t : Flash) (value : Sector) (acked begun : List Update) → IsConsistent f old acked begun → KeepsWhole f old
-    → Completes command s value f t → KeepsWhole t new
+abbrev pub StaysWhole : Core → Extent → Command → Core → Type 0
+StaysWhole old extent command new = (f t : Flash) (value : Sector) (acked begun : List Update) → IsConsistent f old acked begun → KeepsWhole f old
+    → Completes command extent value f t → KeepsWhole t new
 
 -- a mount of a flash that has lost no page tells no loss, and the layer keeps nothing in a block that has a gap
 abbrev pub MountsWhole : Mount → Core → Type 0
@@ -71,15 +72,15 @@ IsMountedWhole f core = (mount : Mount) × HasNoted f mount × (device_of core �
 -- versions comes in use, such as one in reserve
 abbrev pub HappensWhole : Event → Flash → Core → Flash → Core → Type 0
 HappensWhole (Completed update command) f old t new =
-    Completes command update.sector update.value f t × Acknowledges old update.sector command new × (device_of new ≡ device_of old)
-    × StaysWhole old update.sector command new × (losses_of new ≡ losses_of old)
+    Completes command update.extent update.value f t × Acknowledges old update.extent command new × (device_of new ≡ device_of old)
+    × StaysWhole old update.extent command new × (losses_of new ≡ losses_of old)
 HappensWhole (Failed update command) f old t new =
-    (left : Flash) × SurvivesCut old update.sector command × CutLeaves command update.sector update.value f left
+    (left : Flash) × SurvivesCut old update.extent command × CutLeaves command update.extent update.value f left
     × IsRenumbered left t (device_of old).read_blocks × IsMountedWhole t new × IsSameFlashOf (device_of old) (device_of new)
-    × CutsUnharmed old update.sector command × HasVersionlessBlock t (device_of new)
+    × CutsUnharmed old update.extent command × HasVersionlessBlock t (device_of new)
 HappensWhole (CutInside update command) f old t new =
-    SurvivesCut old update.sector command × CutLeaves command update.sector update.value f t × IsMountedWhole t new × (device_of new ≡ device_of old)
-    × CutsUnharmed old update.sector command
+    SurvivesCut old update.extent command × CutLeaves command update.extent update.value f t × IsMountedWhole t new × (device_of new ≡ device_of old)
+    × CutsUnharmed old update.extent command
 HappensWhole CutBetween f old t new = (t ≡ f) × IsMountedWhole t new × (device_of new ≡ device_of old) × CutsIdleUnharmed old
 
 -- a run from the first mount of an erased flash, its newest event first, in which no page is lost

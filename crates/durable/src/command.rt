@@ -5,9 +5,9 @@ use geometry::PageAddr;
 /// What the flash has to do next for a call.
 #[derive(Clone, Copy, Debug, PartialEq, Eq)]
 pub enum Command {
-    /// Program the page with the sector's new value, and a stamp with this number. The call is acknowledged after it.
+    /// Program the page with the new value of the call's sectors, and a stamp with this number. The call is acknowledged after it.
     Program(PageAddr, u64),
-    /// Copy the sector's page, from the first address to the second, with its stamp: ONFI 4.0, Copyback.
+    /// Copy the sector's page, from the first address to the second, with its stamp: ONFI 4.0, Copyback. Other sectors with the same page keep it.
     Copy(u32, PageAddr, PageAddr),
     /// Erase the block.
     Erase(u32),

@@ -2,7 +2,7 @@ ghost use Rattle.std.specs.Prelude.{◌≡◌, ◌<◌, ◌≤◌, ◌+◌, ◌^
 ghost use Rattle.durable.specs.Losses.{gaps_noted, has_found, losses_in, versions_noted};
 ghost use Rattle.durable.specs.Losses.{has_gap as has_counted_gap};
 
-use crate::found::{Candidate, Stamp};
+use crate::found::{Found, Stamp};
 use geometry::PageAddr;
 
 /// Whether a gap was counted in the block: a page without a version before one with a version.
@@ -27,9 +27,9 @@ pub fn count_gaps(gaps: &mut Vec<u32>, versions: &mut u32, at: PageAddr, stamp: 
 }
 
 /// How many gaps there are in blocks that have a page that was found.
-pub fn losses(found: &[Option<Candidate>], gaps: &[u32]) -> u64
+pub fn losses(found: &Found, gaps: &[u32]) -> u64
     requires { length gaps.now < 2 ^ 32 }
-    ensures { result ≡ losses_in found.now gaps.now (length gaps.now) }
+    ensures { result ≡ losses_in found.now.items gaps.now (length gaps.now) }
 {
     let mut losses = 0;
     for block in 0..gaps.len() as u32 {
@@ -41,11 +41,11 @@ pub fn losses(found: &[Option<Candidate>], gaps: &[u32]) -> u64
 }
 
 // Whether the block has a page that was found.
-fn has_page(found: &[Option<Candidate>], block: u32) -> bool
-    ensures { result ≡ has_found block found.now }
+fn has_page(found: &Found, block: u32) -> bool
+    ensures { result ≡ has_found block found.now.items }
 {
     for i in 0..found.len() {
-        if let Some(x) = found[i] {
+        if let Some(x) = found.get(i) {
             if x.at.block == block {
                 return true;
             }

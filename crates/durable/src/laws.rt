@@ -1,16 +1,17 @@
 //! Laws of the definitions: each function has no code, and its clauses say on small values where a definition holds and where not.
-ghost use Rattle.std.specs.Prelude.{◌≡◌, ◌≢◌, ◌⊎◌, ◌<◌, ◌+◌, ◌-◌, ◌^◌, ℕ, List, [], ◌∷◌, None, Some, true, false, length, codes};
+ghost use Rattle.std.specs.Prelude.{◌≡◌, ◌≢◌, ◌⊎◌, ◌<◌, ◌+◌, ◌-◌, ◌^◌, ℕ, List, [], ◌∷◌, Option, None, Some, true, false, length, codes, slice_index_or};
 ghost use Rattle.geometry.specs.Sectors.{Sector};
 ghost use Rattle.geometry.specs.declared.page_addr.PageAddr.{PageAddr as Addr};
-ghost use Rattle.durable.specs.Candidates.{IsEntryOf, IsFreeable, found_with, number_above, with_twin};
+ghost use Rattle.durable.specs.Candidates.{IsEntryOf, IsFoundWith, IsFreeable, IsPackableVersion, candidates_of, number_above, with_twin};
 ghost use Rattle.durable.specs.Calls.{Acknowledges, HasNoted, IsSafe, Remounts, SurvivesCut, SurvivesIdleCut, TellsLosses, TellsNoFalseLoss};
 ghost use Rattle.durable.specs.Choice.{IsNext, Spends, StaysOpen, left, number_after};
-ghost use Rattle.durable.specs.Collecting.{AreLiveCounts, CanCollect, HasCapacity, IsFree, IsPageOn, live_in};
+ghost use Rattle.durable.specs.declared.found.Candidate.{Candidate as Seen};
+ghost use Rattle.durable.specs.Collecting.{AreLiveCounts, CanCollect, HasCapacity, IsFree, IsPageOn, MapsAll, live_in};
 ghost use Rattle.durable.specs.Commands.{Completes, CutLeaves, IsAllowed, is_program, updates_with};
 ghost use Rattle.durable.specs.Device.{Device, IsReadOn, IsWrittenOn, NamesOn, device_in, device_of, losses_of, next_number_of, next_page_of};
 ghost use Rattle.durable.specs.Failures.{Changes, HasVersionlessBlock, HoldsNoVersion, IsRenumbered, IsSameFlashOf, IsSwapped, swapped};
 ghost use Rattle.durable.specs.Faults.{mount_fault_text};
-ghost use Rattle.durable.specs.Flash.{Erased, Flash, HoldsNewest, IsErased, RecoversSector, SetsPage, Torn, Version};
+ghost use Rattle.durable.specs.Flash.{Erased, Flash, HasVersion, HoldsNewest, IsErased, RecoversSector, SetsPage, Torn, Version};
 ghost use Rattle.durable.specs.Losses.{HasNoLoss, IsGapless, gaps_before, gaps_noted, losses_in, versions_before, versions_noted};
 ghost use Rattle.durable.specs.Memory.{IsMappedTo, map_entry};
 ghost use Rattle.durable.specs.Mounting.{IsStampOf, next_in, after_in};
@@ -18,17 +19,44 @@ ghost use Rattle.durable.specs.Promise.{IsConsistent, IsReadable, IsRecoverable,
 ghost use Rattle.durable.specs.Runs.{Completed, CutBetween, CutInside, Event, Failed, IsMountedFrom, Runs, RunsOnReserve};
 ghost use Rattle.durable.specs.Whole.{CutsIdleUnharmed, CutsUnharmed, IsMountedWhole, IsSafelyDuplicated, IsUnharmed, KeepsWhole, RunsWhole, StaysWhole};
 ghost use Rattle.durable.specs.Runs.{acknowledged_in, begun_in, outcomes_in, failures_in};
-ghost use Rattle.durable.specs.Updates.{AreMade, IsSubsequence, Makes, Update, array_after, changed};
+ghost use Rattle.durable.specs.Updates.{AreMade, Covers, IsSubsequence, LiesWithin, Makes, Update, array_after, changed, is_covered, sole};
 ghost use Rattle.durable.specs.declared.command.Command.TheVariants as command;
+ghost use Rattle.durable.specs.declared.extent.Extent.{Extent as Sectors};
 ghost use Rattle.durable.specs.declared.fault.MountFault.TheVariants.{NoFreeBlock};
 ghost use Rattle.durable.specs.declared.memory.Core.{Core as Layer};
 ghost use Rattle.durable.specs.declared.mount.Mount.{Mount as Reading};
 
+/// Which sectors an extent has, and what an update of it changes.
+pub fn extents()
+    ensures first { Covers (record { first = 7; count = 2 }) 7 }
+    ensures last { Covers (record { first = 7; count = 2 }) 8 }
+    ensures before { ¬ Covers (record { first = 7; count = 2 }) 6 }
+    ensures after { ¬ Covers (record { first = 7; count = 2 }) 9 }
+    ensures none { (k : ℕ) → ¬ Covers (record { first = 7; count = 0 }) k }
+    ensures one { (k : ℕ) → Covers (sole 7) k → k ≡ 7 }
+    ensures tells { (is_covered (record { first = 7; count = 2 }) 8 ≡ true) × (is_covered (record { first = 7; count = 2 }) 9 ≡ false) }
+    ensures within { LiesWithin 9 (record { first = 7; count = 2 }) }
+    ensures beyond { ¬ LiesWithin 8 (record { first = 7; count = 2 }) }
+    ensures empty { ¬ LiesWithin 9 (record { first = 7; count = 0 }) }
+    ensures changed_first { (array : ℕ → Sector) (v : Sector) → changed array (record { first = 7; count = 2 }) v 7 ≡ v }
+    ensures changed_last { (array : ℕ → Sector) (v : Sector) → changed array (record { first = 7; count = 2 }) v 8 ≡ v }
+    ensures kept_before { (array : ℕ → Sector) (v : Sector) → changed array (record { first = 7; count = 2 }) v 6 ≡ array 6 }
+    ensures kept_after { (array : ℕ → Sector) (v : Sector) → changed array (record { first = 7; count = 2 }) v 9 ≡ array 9 }
+    ensures version { (f : Flash) (v : Sector) → f 1 2 ≡ Version (record { first = 7; count = 2 }) 5 v → HasVersion f 1 2 8 5 v }
+    ensures other { (f : Flash) (v : Sector) → f 1 2 ≡ Version (record { first = 7; count = 2 }) 5 v → ¬ HasVersion f 1 2 9 5 v }
+    ensures number { (f : Flash) (v : Sector) → f 1 2 ≡ Version (record { first = 7; count = 2 }) 5 v → ¬ HasVersion f 1 2 8 6 v }
+    ensures value { (f : Flash) (v w : Sector) → v ≢ w → f 1 2 ≡ Version (record { first = 7; count = 2 }) 5 v → ¬ HasVersion f 1 2 8 5 w }
+    ensures mapped { (old new : List (Option Addr)) (at : Addr) → MapsAll old new (record { first = 0; count = 2 }) at → slice_index_or new 1 None ≡ Some at }
+    ensures others { (old new : List (Option Addr)) (at : Addr) → MapsAll old new (record { first = 0; count = 2 }) at
+        → slice_index_or new 2 None ≡ slice_index_or old 2 None }
+    ensures size { (old new : List (Option Addr)) (at : Addr) → MapsAll old new (record { first = 0; count = 2 }) at → length new ≡ length old }
+{}
+
 /// What the array holds after updates, the newest first.
 pub fn arrays()
     ensures new { array_after [] 0 ≡ None }
-    ensures newest { (v w : Sector) → array_after (record { sector = 0; value = v } ∷ record { sector = 0; value = w } ∷ []) 0 ≡ v }
-    ensures other { (v w : Sector) → array_after (record { sector = 1; value = v } ∷ record { sector = 0; value = w } ∷ []) 0 ≡ w }
+    ensures newest { (v w : Sector) → array_after (record { extent = sole 0; value = v } ∷ record { extent = sole 0; value = w } ∷ []) 0 ≡ v }
+    ensures other { (v w : Sector) → array_after (record { extent = sole 1; value = v } ∷ record { extent = sole 0; value = w } ∷ []) 0 ≡ w }
     ensures all { (u v : Update) → IsSubsequence (u ∷ v ∷ []) (u ∷ v ∷ []) }
     ensures some { (u v : Update) → IsSubsequence (v ∷ []) (u ∷ v ∷ []) }
     ensures more { (u : Update) → ¬ IsSubsequence (u ∷ []) [] }
@@ -46,9 +74,9 @@ pub fn arrays()
 
 /// What is read of a sector with two versions, and of one with none.
 pub fn versions_of_a_sector()
-    ensures newest { (f : Flash) (v w : Sector) → f 0 0 ≡ Version 7 1 v → f 1 1 ≡ Version 7 2 w → ¬ HoldsNewest f 7 v 0 0 }
-    ensures other { (f : Flash) (v w : Sector) → f 0 0 ≡ Version 7 1 v → ¬ HoldsNewest f 8 v 0 0 }
-    ensures value { (f : Flash) (v w : Sector) → v ≢ w → f 0 0 ≡ Version 7 1 v → ¬ HoldsNewest f 7 w 0 0 }
+    ensures newest { (f : Flash) (v w : Sector) → f 0 0 ≡ Version (sole 7) 1 v → f 1 1 ≡ Version (sole 7) 2 w → ¬ HoldsNewest f 7 v 0 0 }
+    ensures other { (f : Flash) (v w : Sector) → f 0 0 ≡ Version (sole 7) 1 v → ¬ HoldsNewest f 8 v 0 0 }
+    ensures value { (f : Flash) (v w : Sector) → v ≢ w → f 0 0 ≡ Version (sole 7) 1 v → ¬ HoldsNewest f 7 w 0 0 }
     ensures torn { (f : Flash) (v : Sector) → f 0 0 ≡ Torn → ¬ HoldsNewest f 7 v 0 0 }
     ensures erased { (f : Flash) → IsErased f → RecoversSector f 7 None }
     ensures none { (f : Flash) (bytes : List ℕ) → IsErased f → ¬ RecoversSector f 7 (Some bytes) }
@@ -57,27 +85,28 @@ pub fn versions_of_a_sector()
 
 /// What commands leave, and a power cut inside them.
 pub fn commands()
-    ensures programs { (f t : Flash) (v : Sector) → Completes (command.Program (record { block = 1; page = 2 }) 5) 7 v f t → t 1 2 ≡ Version 7 5 v }
-    ensures other_page { (f t : Flash) (v : Sector) → Completes (command.Program (record { block = 1; page = 2 }) 5) 7 v f t → t 1 3 ≡ f 1 3 }
+    ensures programs { (f t : Flash) (v : Sector) → Completes (command.Program (record { block = 1; page = 2 }) 5) (sole 7) v f t
+        → t 1 2 ≡ Version (sole 7) 5 v }
+    ensures other_page { (f t : Flash) (v : Sector) → Completes (command.Program (record { block = 1; page = 2 }) 5) (sole 7) v f t → t 1 3 ≡ f 1 3 }
     ensures copies { (f t : Flash) (v : Sector)
-        → Completes (command.Copy 7 (record { block = 0; page = 4 }) (record { block = 1; page = 2 })) 7 v f t → t 1 2 ≡ f 0 4 }
-    ensures erases { (f t : Flash) (v : Sector) → Completes (command.Erase 1) 7 v f t → t 1 3 ≡ Erased }
-    ensures other_block { (f t : Flash) (v : Sector) → Completes (command.Erase 1) 7 v f t → t 0 3 ≡ f 0 3 }
-    ensures torn { (f t : Flash) (v : Sector) → SetsPage f t 1 2 Torn → CutLeaves (command.Program (record { block = 1; page = 2 }) 5) 7 v f t }
-    ensures whole { (f t : Flash) (v : Sector) → SetsPage f t 1 2 (Version 7 5 v)
-        → CutLeaves (command.Program (record { block = 1; page = 2 }) 5) 7 v f t }
+        → Completes (command.Copy 7 (record { block = 0; page = 4 }) (record { block = 1; page = 2 })) (sole 7) v f t → t 1 2 ≡ f 0 4 }
+    ensures erases { (f t : Flash) (v : Sector) → Completes (command.Erase 1) (sole 7) v f t → t 1 3 ≡ Erased }
+    ensures other_block { (f t : Flash) (v : Sector) → Completes (command.Erase 1) (sole 7) v f t → t 0 3 ≡ f 0 3 }
+    ensures torn { (f t : Flash) (v : Sector) → SetsPage f t 1 2 Torn → CutLeaves (command.Program (record { block = 1; page = 2 }) 5) (sole 7) v f t }
+    ensures whole { (f t : Flash) (v : Sector) → SetsPage f t 1 2 (Version (sole 7) 5 v)
+        → CutLeaves (command.Program (record { block = 1; page = 2 }) 5) (sole 7) v f t }
     ensures torn_copy { (f t : Flash) (v : Sector) → SetsPage f t 1 2 Torn
-        → CutLeaves (command.Copy 7 (record { block = 0; page = 4 }) (record { block = 1; page = 2 })) 7 v f t }
+        → CutLeaves (command.Copy 7 (record { block = 0; page = 4 }) (record { block = 1; page = 2 })) (sole 7) v f t }
     ensures whole_copy { (f t : Flash) (v : Sector) → SetsPage f t 1 2 (f 0 4)
-        → CutLeaves (command.Copy 7 (record { block = 0; page = 4 }) (record { block = 1; page = 2 })) 7 v f t }
-    ensures part { (f t : Flash) (v : Sector) → SetsPage f t 1 3 Torn → CutLeaves (command.Erase 1) 7 v f t }
-    ensures erased_part { (f t : Flash) (v : Sector) → SetsPage f t 1 3 Erased → CutLeaves (command.Erase 1) 7 v f t }
-    ensures nothing { (f : Flash) (v : Sector) → CutLeaves (command.Program (record { block = 1; page = 2 }) 5) 7 v f f }
-    ensures no_other { (f t : Flash) (v : Sector) → f 1 3 ≢ t 1 3 → ¬ CutLeaves (command.Program (record { block = 1; page = 2 }) 5) 7 v f t }
-    ensures no_value { (f t : Flash) (v w : Sector) → v ≢ w → f 1 2 ≡ Erased → t 1 2 ≡ Version 7 5 w
-        → ¬ CutLeaves (command.Program (record { block = 1; page = 2 }) 5) 7 v f t }
-    ensures no_new { (f t : Flash) (v : Sector) → f 1 3 ≡ Torn → t 1 3 ≡ Version 7 5 v → ¬ CutLeaves (command.Erase 1) 7 v f t }
-    ensures no_beside { (f t : Flash) (v : Sector) → f 0 3 ≡ Version 7 5 v → t 0 3 ≡ Torn → ¬ CutLeaves (command.Erase 1) 7 v f t }
+        → CutLeaves (command.Copy 7 (record { block = 0; page = 4 }) (record { block = 1; page = 2 })) (sole 7) v f t }
+    ensures part { (f t : Flash) (v : Sector) → SetsPage f t 1 3 Torn → CutLeaves (command.Erase 1) (sole 7) v f t }
+    ensures erased_part { (f t : Flash) (v : Sector) → SetsPage f t 1 3 Erased → CutLeaves (command.Erase 1) (sole 7) v f t }
+    ensures nothing { (f : Flash) (v : Sector) → CutLeaves (command.Program (record { block = 1; page = 2 }) 5) (sole 7) v f f }
+    ensures no_other { (f t : Flash) (v : Sector) → f 1 3 ≢ t 1 3 → ¬ CutLeaves (command.Program (record { block = 1; page = 2 }) 5) (sole 7) v f t }
+    ensures no_value { (f t : Flash) (v w : Sector) → v ≢ w → f 1 2 ≡ Erased → t 1 2 ≡ Version (sole 7) 5 w
+        → ¬ CutLeaves (command.Program (record { block = 1; page = 2 }) 5) (sole 7) v f t }
+    ensures no_new { (f t : Flash) (v : Sector) → f 1 3 ≡ Torn → t 1 3 ≡ Version (sole 7) 5 v → ¬ CutLeaves (command.Erase 1) (sole 7) v f t }
+    ensures no_beside { (f t : Flash) (v : Sector) → f 0 3 ≡ Version (sole 7) 5 v → t 0 3 ≡ Torn → ¬ CutLeaves (command.Erase 1) (sole 7) v f t }
     ensures last { is_program (command.Program (record { block = 1; page = 2 }) 5) ≡ true }
     ensures not_last { is_program (command.Erase 1) ≡ false }
     ensures added { (u : Update) → updates_with (command.Program (record { block = 1; page = 2 }) 5) u [] ≡ u ∷ [] }
@@ -93,10 +122,11 @@ pub fn devices()
     ensures full { ¬ HasCapacity 8 3 4 }
     ensures no_blocks { ¬ HasCapacity 0 0 4 }
     ensures no_pages { ¬ HasCapacity 0 3 0 }
-    ensures block { (f : Flash) (v : Sector) → f 3 0 ≡ Version 7 1 v → ¬ IsWrittenOn (record { blocks = 3; read_blocks = 3; pages = 4; sectors = 8 }) f }
-    ensures page { (f : Flash) (v : Sector) → f 2 4 ≡ Version 7 1 v → ¬ IsWrittenOn (record { blocks = 3; read_blocks = 3; pages = 4; sectors = 8 }) f }
-    ensures sector { (f : Flash) (v : Sector) → f 2 3 ≡ Version 8 1 v → ¬ IsWrittenOn (record { blocks = 3; read_blocks = 3; pages = 4; sectors = 8 }) f }
-    ensures number { (f : Flash) (v : Sector) → f 2 3 ≡ Version 7 (2 ^ 64 - 1) v
+    ensures block { (f : Flash) (v : Sector) → f 3 0 ≡ Version (sole 7) 1 v → ¬ IsWrittenOn (record { blocks = 3; read_blocks = 3; pages = 4; sectors = 8 }) f }
+    ensures page { (f : Flash) (v : Sector) → f 2 4 ≡ Version (sole 7) 1 v → ¬ IsWrittenOn (record { blocks = 3; read_blocks = 3; pages = 4; sectors = 8 }) f }
+    ensures sector { (f : Flash) (v : Sector) → f 2 3 ≡ Version (sole 8) 1 v
+        → ¬ IsWrittenOn (record { blocks = 3; read_blocks = 3; pages = 4; sectors = 8 }) f }
+    ensures number { (f : Flash) (v : Sector) → f 2 3 ≡ Version (sole 7) (2 ^ 64 - 1) v
         → ¬ IsWrittenOn (record { blocks = 3; read_blocks = 3; pages = 4; sectors = 8 }) f }
     ensures erased { (f : Flash) → IsErased f → IsWrittenOn (record { blocks = 3; read_blocks = 3; pages = 4; sectors = 8 }) f }
     ensures program { ¬ NamesOn (record { blocks = 3; read_blocks = 3; pages = 4; sectors = 8 }) (command.Program (record { block = 3; page = 0 }) 1) }
@@ -168,11 +198,11 @@ pub fn next_commands()
 pub fn stamps()
     ensures erased { (f : Flash) → f 1 2 ≡ Erased → IsStampOf f 1 2 None }
     ensures torn { (f : Flash) → f 1 2 ≡ Torn → IsStampOf f 1 2 None }
-    ensures version { (f : Flash) (v : Sector) → f 1 2 ≡ Version 7 5 v → ¬ IsStampOf f 1 2 None }
-    ensures stamp { (f : Flash) (v : Sector) → f 1 2 ≡ Version 7 5 v → IsStampOf f 1 2 (Some (record { sector = 7; number = 5 })) }
-    ensures other { (f : Flash) (v : Sector) → f 1 2 ≡ Version 7 5 v → ¬ IsStampOf f 1 2 (Some (record { sector = 8; number = 5 })) }
-    ensures number { (f : Flash) (v : Sector) → f 1 2 ≡ Version 7 5 v → ¬ IsStampOf f 1 2 (Some (record { sector = 7; number = 6 })) }
-    ensures not_torn { (f : Flash) → f 1 2 ≡ Torn → ¬ IsStampOf f 1 2 (Some (record { sector = 7; number = 5 })) }
+    ensures version { (f : Flash) (v : Sector) → f 1 2 ≡ Version (sole 7) 5 v → ¬ IsStampOf f 1 2 None }
+    ensures stamp { (f : Flash) (v : Sector) → f 1 2 ≡ Version (sole 7) 5 v → IsStampOf f 1 2 (Some (record { extent = sole 7; number = 5 })) }
+    ensures other { (f : Flash) (v : Sector) → f 1 2 ≡ Version (sole 7) 5 v → ¬ IsStampOf f 1 2 (Some (record { extent = sole 8; number = 5 })) }
+    ensures number { (f : Flash) (v : Sector) → f 1 2 ≡ Version (sole 7) 5 v → ¬ IsStampOf f 1 2 (Some (record { extent = sole 7; number = 6 })) }
+    ensures not_torn { (f : Flash) → f 1 2 ≡ Torn → ¬ IsStampOf f 1 2 (Some (record { extent = sole 7; number = 5 })) }
     ensures here { (mount : Reading) → mount.read_blocks ≡ 3 → mount.block ≡ 2 → mount.page ≡ 1 → next_in mount ≡ Some (record { block = 2; page = 1 }) }
     ensures end { (mount : Reading) → mount.read_blocks ≡ 3 → mount.block ≡ 3 → next_in mount ≡ None }
     ensures after { (mount : Reading) → mount.read_blocks ≡ 3 → mount.pages ≡ 4 → mount.block ≡ 2 → mount.page ≡ 1
@@ -180,9 +210,26 @@ pub fn stamps()
     ensures block { (mount : Reading) → mount.read_blocks ≡ 3 → mount.pages ≡ 4 → mount.block ≡ 1 → mount.page ≡ 3
         → after_in mount ≡ Some (record { block = 2; page = 0 }) }
     ensures last { (mount : Reading) → mount.read_blocks ≡ 3 → mount.pages ≡ 4 → mount.block ≡ 2 → mount.page ≡ 3 → after_in mount ≡ None }
-    ensures above { number_above 5 (Some (record { sector = 7; number = 5 })) ≡ 6 }
-    ensures below { number_above 9 (Some (record { sector = 7; number = 5 })) ≡ 9 }
+    ensures above { number_above 5 (Some (record { extent = sole 7; number = 5 })) ≡ 6 }
+    ensures below { number_above 9 (Some (record { extent = sole 7; number = 5 })) ≡ 9 }
     ensures no_stamp { number_above 5 None ≡ 5 }
+{}
+
+/// What was found of sectors, by tables of their pages, numbers and twins, and which pages have places there.
+#[tactic(auto, unfolding(crate::specs::Candidates::candidates_of))]
+pub fn tables_of_candidates()
+    ensures tables { candidates_of (Some (record { block = 1; page = 0 }) ∷ None ∷ []) (5 ∷ 6 ∷ []) (None ∷ Some (record { block = 2; page = 3 }) ∷ [])
+        ≡ Some (record { at = record { block = 1; page = 0 }; number = 5; twin = None }) ∷ None ∷ [] }
+    ensures twin { candidates_of (Some (record { block = 1; page = 0 }) ∷ []) (5 ∷ []) (Some (record { block = 2; page = 3 }) ∷ [])
+        ≡ Some (record { at = record { block = 1; page = 0 }; number = 5; twin = Some (record { block = 2; page = 3 }) }) ∷ [] }
+    ensures nothing { IsPackableVersion None }
+    ensures small { IsPackableVersion (Some (record { at = record { block = 1; page = 0 }; number = 5; twin = None })) }
+    ensures last { ¬ IsPackableVersion (Some (record { at = record { block = 4294967295; page = 4294967295 }; number = 5; twin = None })) }
+    ensures last_twin { ¬ IsPackableVersion (Some (record {
+      at = record { block = 1; page = 0 };
+      number = 5;
+      twin = Some (record { block = 4294967295; page = 4294967295 });
+    })) }
 {}
 
 /// What a mount finds of sectors, and which block it can free.
@@ -191,16 +238,24 @@ pub fn candidates()
     ensures found { IsEntryOf (Some (record { at = record { block = 1; page = 0 }; number = 5; twin = None })) (Some (record { block = 1; page = 0 })) }
     ensures other { ¬ IsEntryOf (Some (record { at = record { block = 1; page = 0 }; number = 5; twin = None })) (Some (record { block = 2; page = 0 })) }
     ensures lost { ¬ IsEntryOf (Some (record { at = record { block = 1; page = 0 }; number = 5; twin = None })) None }
-    ensures newer { found_with [] (Some (record { at = record { block = 1; page = 0 }; number = 5; twin = None }) ∷ []) (record { block = 2; page = 3 })
-        (Some (record { sector = 0; number = 6 })) ≡ Some (record { at = record { block = 2; page = 3 }; number = 6; twin = None }) ∷ [] }
-    ensures older { found_with [] (Some (record { at = record { block = 1; page = 0 }; number = 5; twin = None }) ∷ []) (record { block = 2; page = 3 })
-        (Some (record { sector = 0; number = 4 })) ≡ Some (record { at = record { block = 1; page = 0 }; number = 5; twin = None }) ∷ [] }
-    ensures twin { found_with [] (Some (record { at = record { block = 1; page = 0 }; number = 5; twin = None }) ∷ []) (record { block = 2; page = 3 })
-        (Some (record { sector = 0; number = 5 }))
-        ≡ Some (record { at = record { block = 1; page = 0 }; number = 5; twin = Some (record { block = 2; page = 3 }) }) ∷ [] }
-    ensures gap { found_with (0 ∷ 1 ∷ []) (Some (record { at = record { block = 1; page = 0 }; number = 5; twin = None }) ∷ [])
-        (record { block = 2; page = 3 }) (Some (record { sector = 0; number = 5 }))
-        ≡ Some (record { at = record { block = 2; page = 3 }; number = 5; twin = Some (record { block = 1; page = 0 }) }) ∷ [] }
+    ensures newer { (new : List (Option Seen)) → IsFoundWith [] (None ∷ Some (record { at = record { block = 1; page = 0 }; number = 5; twin = None }) ∷ [])
+        new (record { block = 2; page = 3 }) (Some (record { extent = record { first = 0; count = 2 }; number = 6 }))
+        → new ≡ Some (record { at = record { block = 2; page = 3 }; number = 6; twin = None })
+        ∷ Some (record { at = record { block = 2; page = 3 }; number = 6; twin = None }) ∷ [] }
+    ensures older { (new : List (Option Seen)) → IsFoundWith [] (Some (record { at = record { block = 1; page = 0 }; number = 5; twin = None }) ∷ [])
+        new (record { block = 2; page = 3 }) (Some (record { extent = sole 0; number = 4 }))
+        → new ≡ Some (record { at = record { block = 1; page = 0 }; number = 5; twin = None }) ∷ [] }
+    ensures twin { (new : List (Option Seen)) → IsFoundWith [] (Some (record { at = record { block = 1; page = 0 }; number = 5; twin = None }) ∷ [])
+        new (record { block = 2; page = 3 }) (Some (record { extent = sole 0; number = 5 }))
+        → new ≡ Some (record { at = record { block = 1; page = 0 }; number = 5; twin = Some (record { block = 2; page = 3 }) }) ∷ [] }
+    ensures gap { (new : List (Option Seen)) → IsFoundWith (0 ∷ 1 ∷ [])
+        (Some (record { at = record { block = 1; page = 0 }; number = 5; twin = None }) ∷ []) new
+        (record { block = 2; page = 3 }) (Some (record { extent = sole 0; number = 5 }))
+        → new ≡ Some (record { at = record { block = 2; page = 3 }; number = 5; twin = Some (record { block = 1; page = 0 }) }) ∷ [] }
+    ensures beside { (new : List (Option Seen)) → IsFoundWith [] (None ∷ None ∷ []) new (record { block = 2; page = 3 })
+        (Some (record { extent = sole 0; number = 5 }))
+        → new ≡ Some (record { at = record { block = 2; page = 3 }; number = 5; twin = None }) ∷ None ∷ [] }
+    ensures unread { (old new : List (Option Seen)) → IsFoundWith [] old new (record { block = 2; page = 3 }) None → new ≡ old }
     ensures third { with_twin (0 ∷ 0 ∷ 1 ∷ []) (record { at = record { block = 1; page = 0 }; number = 5; twin = Some (record { block = 2; page = 3 }) })
         (record { block = 4; page = 0 })
         ≡ record { at = record { block = 1; page = 0 }; number = 5; twin = Some (record { block = 4; page = 0 }) } }
@@ -222,14 +277,14 @@ pub fn candidates()
 /// Which pages are gaps, and which gaps are losses.
 pub fn losses()
     ensures erased { (f : Flash) → IsErased f → IsGapless f 1 }
-    ensures gap { (f : Flash) (v : Sector) → f 1 0 ≡ Torn → f 1 1 ≡ Version 7 5 v → ¬ IsGapless f 1 }
-    ensures erased_gap { (f : Flash) (v : Sector) → f 1 0 ≡ Erased → f 1 1 ≡ Version 7 5 v → ¬ IsGapless f 1 }
-    ensures counted { (f : Flash) (v : Sector) → f 1 0 ≡ Torn → f 1 1 ≡ Version 7 5 v → gaps_before f 1 2 ≡ 1 }
-    ensures torn_last { (f : Flash) (v : Sector) → f 1 0 ≡ Version 7 5 v → f 1 1 ≡ Torn → gaps_before f 1 2 ≡ 0 }
-    ensures versions { (f : Flash) (v : Sector) → f 1 0 ≡ Torn → f 1 1 ≡ Version 7 5 v → versions_before f 1 2 ≡ 1 }
-    ensures noted { gaps_noted (0 ∷ 0 ∷ []) 1 3 1 (Some (record { sector = 7; number = 5 })) ≡ 0 ∷ 2 ∷ [] }
+    ensures gap { (f : Flash) (v : Sector) → f 1 0 ≡ Torn → f 1 1 ≡ Version (sole 7) 5 v → ¬ IsGapless f 1 }
+    ensures erased_gap { (f : Flash) (v : Sector) → f 1 0 ≡ Erased → f 1 1 ≡ Version (sole 7) 5 v → ¬ IsGapless f 1 }
+    ensures counted { (f : Flash) (v : Sector) → f 1 0 ≡ Torn → f 1 1 ≡ Version (sole 7) 5 v → gaps_before f 1 2 ≡ 1 }
+    ensures torn_last { (f : Flash) (v : Sector) → f 1 0 ≡ Version (sole 7) 5 v → f 1 1 ≡ Torn → gaps_before f 1 2 ≡ 0 }
+    ensures versions { (f : Flash) (v : Sector) → f 1 0 ≡ Torn → f 1 1 ≡ Version (sole 7) 5 v → versions_before f 1 2 ≡ 1 }
+    ensures noted { gaps_noted (0 ∷ 0 ∷ []) 1 3 1 (Some (record { extent = sole 7; number = 5 })) ≡ 0 ∷ 2 ∷ [] }
     ensures not_noted { gaps_noted (0 ∷ 4 ∷ []) 1 3 1 None ≡ 0 ∷ 4 ∷ [] }
-    ensures one_more { versions_noted 1 (Some (record { sector = 7; number = 5 })) ≡ 2 }
+    ensures one_more { versions_noted 1 (Some (record { extent = sole 7; number = 5 })) ≡ 2 }
     ensures as_many { versions_noted 1 None ≡ 1 }
     ensures new { (f : Flash) → IsErased f → HasNoLoss f 8 }
     ensures lost { (f : Flash) (v : Sector) → f 1 0 ≡ Torn → HoldsNewest f 7 v 1 1 → ((d q : ℕ) → HoldsNewest f 7 v d q → d ≡ 1)
@@ -258,12 +313,12 @@ pub fn unharmed()
         → IsUnharmed f (device_in from.0) → KeepsWhole f layer × (layer.losses ≡ 0) }
     ensures first { (f : Flash) (layer : Layer) → RunsWhole [] f layer → IsErased f × IsMountedWhole f layer }
     ensures done { (events : List Event) (t : Flash) (new : Layer) (u : Update) → RunsWhole (Completed u (command.Erase 1) ∷ events) t new
-        → (f : Flash) × (old : Layer) × RunsWhole events f old × StaysWhole old u.sector (command.Erase 1) new × (losses_of new ≡ losses_of old) }
+        → (f : Flash) × (old : Layer) × RunsWhole events f old × StaysWhole old u.extent (command.Erase 1) new × (losses_of new ≡ losses_of old) }
     ensures failed { (events : List Event) (t : Flash) (new : Layer) (u : Update) → RunsWhole (Failed u (command.Erase 1) ∷ events) t new
-        → (f : Flash) × (old : Layer) × RunsWhole events f old × CutsUnharmed old u.sector (command.Erase 1) × IsMountedWhole t new
+        → (f : Flash) × (old : Layer) × RunsWhole events f old × CutsUnharmed old u.extent (command.Erase 1) × IsMountedWhole t new
         × HasVersionlessBlock t (device_of new) }
     ensures inside { (events : List Event) (t : Flash) (new : Layer) (u : Update) → RunsWhole (CutInside u (command.Erase 1) ∷ events) t new
-        → (f : Flash) × (old : Layer) × RunsWhole events f old × CutsUnharmed old u.sector (command.Erase 1) × IsMountedWhole t new }
+        → (f : Flash) × (old : Layer) × RunsWhole events f old × CutsUnharmed old u.extent (command.Erase 1) × IsMountedWhole t new }
     ensures idle { (events : List Event) (t : Flash) (new : Layer) → RunsWhole (CutBetween ∷ events) t new
         → (f : Flash) × (old : Layer) × RunsWhole events f old × CutsIdleUnharmed old × IsMountedWhole t new }
 {}
@@ -272,32 +327,33 @@ pub fn unharmed()
 pub fn promises()
     ensures nothing { (f : Flash) → IsErased f → KeepsAcknowledged f 8 [] [] }
     ensures lost { (f : Flash) (bytes : List ℕ) → IsErased f
-        → ¬ KeepsAcknowledged f 8 (record { sector = 7; value = Some bytes } ∷ []) (record { sector = 7; value = Some bytes } ∷ []) }
+        → ¬ KeepsAcknowledged f 8 (record { extent = sole 7; value = Some bytes } ∷ []) (record { extent = sole 7; value = Some bytes } ∷ []) }
     ensures not_begun { (f : Flash) (bytes : List ℕ) → HoldsNewest f 7 (Some bytes) 0 0 → ¬ KeepsAcknowledged f 8 [] [] }
     ensures keeps { (f : Flash) (device : Device) (acked begun : List Update) → IsRecoverable f device acked begun
         → KeepsAcknowledged f device.sectors acked begun }
     ensures written { (f : Flash) (device : Device) (acked begun : List Update) → IsRecoverable f device acked begun → IsWrittenOn device f }
     ensures frees { (f : Flash) (acked begun : List Update) → ¬ IsRecoverable f (record { blocks = 0; read_blocks = 0; pages = 4; sectors = 8 }) acked begun }
-    ensures number { (f : Flash) (core : Layer) (v : Sector) (acked begun : List Update) → IsConsistent f core acked begun → f 0 0 ≡ Version 7 5 v
+    ensures number { (f : Flash) (core : Layer) (v : Sector) (acked begun : List Update) → IsConsistent f core acked begun → f 0 0 ≡ Version (sole 7) 5 v
         → 5 < next_number_of core }
     ensures open { (f : Flash) (core : Layer) (acked begun : List Update) → IsConsistent f core acked begun
         → next_page_of core ≡ Some (record { block = 1; page = 2 }) → f 1 3 ≡ Erased }
-    ensures on_device { (f : Flash) (core : Layer) (v : Sector) (acked begun : List Update) → IsConsistent f core acked begun → f 3 0 ≡ Version 7 5 v
+    ensures on_device { (f : Flash) (core : Layer) (v : Sector) (acked begun : List Update) → IsConsistent f core acked begun → f 3 0 ≡ Version (sole 7) 5 v
         → 3 < (device_of core).read_blocks }
     ensures safe { (f : Flash) (core : Layer) (acked begun : List Update) → IsConsistent f core acked begun
         → IsSafe core (command.Program (record { block = 1; page = 2 }) 5) → f 1 2 ≡ Erased }
     ensures off_device { (f : Flash) (core : Layer) (acked begun : List Update) → IsConsistent f core acked begun → core.blocks ≡ 3
         → ¬ IsSafe core (command.Erase 3) }
-    ensures cut { (f : Flash) (core : Layer) (acked begun : List Update) → IsConsistent f core acked begun → SurvivesCut core 7 command.Refused
-        → IsRecoverable f (device_of core) acked (record { sector = 7; value = None } ∷ begun) }
+    ensures cut { (f : Flash) (core : Layer) (acked begun : List Update) → IsConsistent f core acked begun → SurvivesCut core (sole 7) command.Refused
+        → IsRecoverable f (device_of core) acked (record { extent = sole 7; value = None } ∷ begun) }
     ensures idle { (f : Flash) (core : Layer) (acked begun : List Update) → IsConsistent f core acked begun → SurvivesIdleCut core
         → IsRecoverable f (device_of core) acked begun }
-    ensures refused { (f : Flash) (old new : Layer) (acked begun : List Update) → IsConsistent f old acked begun → Acknowledges old 7 command.Refused new
+    ensures refused { (f : Flash) (old new : Layer) (acked begun : List Update) → IsConsistent f old acked begun → Acknowledges old (sole 7) command.Refused new
         → IsConsistent f new acked begun }
     ensures programmed { (f t : Flash) (v : Sector) (old new : Layer) (acked begun : List Update) → IsConsistent f old acked begun
-        → Acknowledges old 7 (command.Program (record { block = 1; page = 2 }) 5) new → Completes (command.Program (record { block = 1; page = 2 }) 5) 7 v f t
-        → IsConsistent t new (record { sector = 7; value = v } ∷ acked) (record { sector = 7; value = v } ∷ begun) }
-    ensures noted { (f : Flash) (mount : Reading) (v : Sector) → HasNoted f mount → f 0 0 ≡ Version 7 5 v → 0 < mount.block → 5 < mount.next_number }
+        → Acknowledges old (sole 7) (command.Program (record { block = 1; page = 2 }) 5) new
+        → Completes (command.Program (record { block = 1; page = 2 }) 5) (sole 7) v f t
+        → IsConsistent t new (record { extent = sole 7; value = v } ∷ acked) (record { extent = sole 7; value = v } ∷ begun) }
+    ensures noted { (f : Flash) (mount : Reading) (v : Sector) → HasNoted f mount → f 0 0 ≡ Version (sole 7) 5 v → 0 < mount.block → 5 < mount.next_number }
     ensures remounts { (f : Flash) (mount : Reading) (core : Layer) (acked begun : List Update) → Remounts mount core → HasNoted f mount
         → IsReadable f (device_in mount) acked begun → IsConsistent f core acked begun }
     ensures reads { (f : Flash) (device : Device) (acked begun : List Update) → IsReadable f device acked begun
@@ -310,12 +366,12 @@ pub fn promises()
 /// Blocks that are numbered anew, and blocks without versions.
 pub fn failures()
     ensures same { (f : Flash) → IsRenumbered f f 3 }
-    ensures lost { (f t : Flash) (v : Sector) → f 0 1 ≡ Version 7 5 v → IsErased t → ¬ IsRenumbered f t 3 }
-    ensures grown { (f t : Flash) (v : Sector) → IsErased f → t 0 1 ≡ Version 7 5 v → ¬ IsRenumbered f t 3 }
+    ensures lost { (f t : Flash) (v : Sector) → f 0 1 ≡ Version (sole 7) 5 v → IsErased t → ¬ IsRenumbered f t 3 }
+    ensures grown { (f t : Flash) (v : Sector) → IsErased f → t 0 1 ≡ Version (sole 7) 5 v → ¬ IsRenumbered f t 3 }
     ensures within { (f t : Flash) (anew : IsRenumbered f t 3) → anew.to 2 < 3 }
     ensures blank { (f : Flash) → IsErased f → HasVersionlessBlock f (record { blocks = 3; read_blocks = 5; pages = 4; sectors = 8 }) }
     ensures torn { (f : Flash) → ((p : ℕ) → f 1 p ≡ Torn) → HoldsNoVersion f 1 }
-    ensures version { (f : Flash) (v : Sector) → f 1 2 ≡ Version 7 5 v → ¬ HoldsNoVersion f 1 }
+    ensures version { (f : Flash) (v : Sector) → f 1 2 ≡ Version (sole 7) 5 v → ¬ HoldsNoVersion f 1 }
     ensures not_used { (f : Flash) → ¬ HasVersionlessBlock f (record { blocks = 0; read_blocks = 5; pages = 4; sectors = 8 }) }
     ensures fewer { IsSameFlashOf
         (record { blocks = 5; read_blocks = 5; pages = 4; sectors = 8 }) (record { blocks = 4; read_blocks = 5; pages = 4; sectors = 8 }) }
@@ -346,23 +402,23 @@ pub fn runs()
     ensures completed { (u : Update) → begun_in (Completed u (command.Program (record { block = 1; page = 2 }) 5) ∷ CutBetween ∷ []) ≡ u ∷ [] }
     ensures erased { (f : Flash) (core : Layer) → Runs [] f core → IsErased f }
     ensures inside { (events : List Event) (f t : Flash) (old new : Layer) (u : Update) → Runs events f old
-        → SurvivesCut old u.sector (command.Erase 1) → CutLeaves (command.Erase 1) u.sector u.value f t → IsMountedFrom t new
+        → SurvivesCut old u.extent (command.Erase 1) → CutLeaves (command.Erase 1) u.extent u.value f t → IsMountedFrom t new
         → device_of new ≡ device_of old → Runs (CutInside u (command.Erase 1) ∷ events) t new }
     ensures numbered_anew { (events : List Event) (f left t : Flash) (old new : Layer) (u : Update) → Runs events f old
-        → SurvivesCut old u.sector (command.Erase 1) → CutLeaves (command.Erase 1) u.sector u.value f left → IsRenumbered left t (device_of old).read_blocks
+        → SurvivesCut old u.extent (command.Erase 1) → CutLeaves (command.Erase 1) u.extent u.value f left → IsRenumbered left t (device_of old).read_blocks
         → IsMountedFrom t new → IsSameFlashOf (device_of old) (device_of new) → Runs (Failed u (command.Erase 1) ∷ events) t new }
     ensures idle { (events : List Event) (f : Flash) (old new : Layer) → Runs events f old → IsMountedFrom f new → device_of new ≡ device_of old
         → Runs (CutBetween ∷ events) f new }
     ensures done { (events : List Event) (f t : Flash) (old new : Layer) (u : Update) → Runs events f old
-        → Completes (command.Erase 1) u.sector u.value f t → Acknowledges old u.sector (command.Erase 1) new → device_of new ≡ device_of old
+        → Completes (command.Erase 1) u.extent u.value f t → Acknowledges old u.extent (command.Erase 1) new → device_of new ≡ device_of old
         → Runs (Completed u (command.Erase 1) ∷ events) t new }
     ensures between { (t : Flash) (new : Layer) → Runs (CutBetween ∷ []) t new → (b p : ℕ) → t b p ≡ Erased }
     ensures mounted { (f : Flash) (core : Layer) (acked begun : List Update) → IsMountedFrom f core → IsReadable f (device_of core) acked begun
         → IsConsistent f core acked begun }
     ensures failed_erase { (t : Flash) (new : Layer) (u : Update) → Runs (Failed u (command.Erase 1) ∷ []) t new
-        → (b p s m : ℕ) (v : Sector) → t b p ≢ Version s m v }
+        → (b p : ℕ) (e : Sectors) (m : ℕ) (v : Sector) → t b p ≢ Version e m v }
     ensures failed_chosen { (events : List Event) (t : Flash) (new : Layer) (u : Update) → Runs (Failed u (command.Erase 1) ∷ events) t new
-        → (f : Flash) × (old : Layer) × Runs events f old × SurvivesCut old u.sector (command.Erase 1) }
+        → (f : Flash) × (old : Layer) × Runs events f old × SurvivesCut old u.extent (command.Erase 1) }
     ensures failed_mounted { (events : List Event) (t : Flash) (new : Layer) (u : Update) → Runs (Failed u (command.Erase 1) ∷ events) t new
         → IsMountedFrom t new }
     ensures failed_same { (events : List Event) (t : Flash) (new : Layer) (u : Update) → Runs (Failed u (command.Erase 1) ∷ events) t new
@@ -379,16 +435,16 @@ pub fn runs()
 pub fn reserves()
     ensures first { (f : Flash) (core : Layer) → RunsOnReserve [] f core → IsErased f }
     ensures replaced { (events : List Event) (t : Flash) (new : Layer) (u : Update) → RunsOnReserve (Failed u (command.Erase 1) ∷ events) t new
-        → (f left : Flash) × (old : Layer) × RunsOnReserve events f old × CutLeaves (command.Erase 1) u.sector u.value f left
+        → (f left : Flash) × (old : Layer) × RunsOnReserve events f old × CutLeaves (command.Erase 1) u.extent u.value f left
         × IsSwapped left t 1 (old.blocks + failures_in events) × IsMountedFrom t new × (device_of new ≡ device_of old) }
     ensures replaces { (events : List Event) (f left t : Flash) (old new : Layer) (u : Update) → RunsOnReserve events f old → IsSafe old (command.Erase 1)
-        → SurvivesCut old u.sector (command.Erase 1) → CutLeaves (command.Erase 1) u.sector u.value f left
+        → SurvivesCut old u.extent (command.Erase 1) → CutLeaves (command.Erase 1) u.extent u.value f left
         → IsSwapped left t 1 (old.blocks + failures_in events) → IsMountedFrom t new → device_of new ≡ device_of old
         → RunsOnReserve (Failed u (command.Erase 1) ∷ events) t new }
     ensures safe { (events : List Event) (t : Flash) (new : Layer) (u : Update) → RunsOnReserve (Completed u (command.Erase 1) ∷ events) t new
-        → (f : Flash) × (old : Layer) × IsSafe old (command.Erase 1) × Completes (command.Erase 1) u.sector u.value f t }
+        → (f : Flash) × (old : Layer) × IsSafe old (command.Erase 1) × Completes (command.Erase 1) u.extent u.value f t }
     ensures safe_cut { (events : List Event) (t : Flash) (new : Layer) (u : Update) → RunsOnReserve (CutInside u (command.Erase 1) ∷ events) t new
-        → (f : Flash) × (old : Layer) × IsSafe old (command.Erase 1) × CutLeaves (command.Erase 1) u.sector u.value f t }
+        → (f : Flash) × (old : Layer) × IsSafe old (command.Erase 1) × CutLeaves (command.Erase 1) u.extent u.value f t }
     ensures idle { (events : List Event) (t : Flash) (new : Layer) → RunsOnReserve (CutBetween ∷ events) t new
         → (f : Flash) × (old : Layer) × RunsOnReserve events f old × (t ≡ f) }
 {}

@@ -1,15 +1,16 @@
-ghost use Rattle.std.specs.Prelude.{◌≡◌, ◌≢◌, ◌<◌, ◌+◌, ◌^◌, ℕ, List, length, Some, None, IfSome};
+ghost use Rattle.std.specs.Prelude.{◌≡◌, ◌≢◌, ◌<◌, ◌+◌, ◌^◌, List, true, false};
 ghost use Rattle.durable.specs.Collecting.{IsFree, live_in};
 
 use crate::command::Command;
-use crate::counting::remap;
+use crate::counting::{remap, remap_all};
+use crate::extent::Extent;
 use crate::memory::Core;
 use crate::search::{page_after, source};
 use geometry::PageAddr;
 
 impl Core {
     ghost use Rattle.durable.specs.Flash.{Flash};
-    ghost use Rattle.durable.specs.Updates.{Update, array_after};
+    ghost use Rattle.durable.specs.Updates.{LiesWithin, Update, array_after};
     ghost use Rattle.durable.specs.Device.{device_of, losses_of, next_page_of, next_number_of};
     ghost use Rattle.durable.specs.Memory.{IsMappedTo};
     ghost use Rattle.durable.specs.Choice.{IsNext, StaysOpen, Spends, left, number_after};
@@ -39,17 +40,17 @@ impl Core {
         ensures { (f : Flash) (acked begun : List Update) (consistent : IsConsistent f self.now acked begun)
             → IsMappedTo f sector (array_after consistent.updates sector) result }
     {
-        self.map[sector as usize]
+        self.map.get(sector as usize)
     }
 
-    /// The command that comes next for a write or trim of the sector. It depends on nothing but the layer's memory.
-    pub fn next(&self, sector: u32) -> Command
-        requires { sector < (device_of self.now).sectors }
+    /// The command that comes next for a write or trim of these sectors. It depends on nothing but the layer's memory.
+    pub fn next(&self, extent: Extent) -> Command
+        requires { LiesWithin (device_of self.now).sectors extent }
         ensures next { IsNext self.now result }
         ensures safe { IsSafe self.now result }
-        ensures cut { SurvivesCut self.now sector result }
+        ensures cut { SurvivesCut self.now extent result }
         ensures idle { SurvivesIdleCut self.now }
-        ensures unharmed { CutsUnharmed self.now sector result }
+        ensures unharmed { CutsUnharmed self.now extent result }
         ensures idle_unharmed { CutsIdleUnharmed self.now }
 
         // It is refused only if the numbers have run out.
@@ -59,33 +60,41 @@ impl Core {
     }
 
     /// The command that came next has succeeded.
-    pub fn done(&mut self, sector: u32, command: Command)
-        requires sector { sector < (device_of self.old).sectors }
+    pub fn done(&mut self, extent: Extent, command: Command)
+        requires within { LiesWithin (device_of self.old).sectors extent }
         requires next { IsNext self.old command }
         ensures device { device_of self.new ≡ device_of self.old }
         ensures losses { losses_of self.new ≡ losses_of self.old }
-        ensures acknowledges { Acknowledges self.old sector command self.new }
-        ensures whole { StaysWhole self.old sector command self.new }
+        ensures acknowledges { Acknowledges self.old extent command self.new }
+        ensures whole { StaysWhole self.old extent command self.new }
         ensures number { next_number_of self.new ≡ number_after command (next_number_of self.old) }
 
         // Each command but the program brings the call nearer to its end.
         ensures spends { Spends command (device_of self.old).pages (left self.old) (left self.new) }
         ensures open { StaysOpen command (device_of self.old).pages (next_page_of self.new) }
     {
+        self.chosen = Command::Refused;
         match command {
             Command::Program(at, number) => {
-                self.owners.moved(self.map[sector as usize], at, sector);
-                remap(&mut self.map, &mut self.counts, sector, at);
+                self.owners.programmed(at, extent);
+                remap_all(&mut self.map, &mut self.counts, extent, at);
                 self.next_number = number + 1;
                 self.next_page = page_after(at, self.pages);
+                self.chosen = self.decide();
             }
             Command::Copy(sector, from, to) => {
-                self.owners.moved(Some(from), to, sector);
-                remap(&mut self.map, &mut self.counts, sector, to);
+                remap(&mut self.map, &mut self.counts, sector, Some(from), to);
+                self.owners.copied(&self.map, sector, from, to);
                 self.hand = from.page;
                 self.next_page = page_after(to, self.pages);
+                self.chosen = self.decide();
             }
-            Command::Erase(block) => self.next_page = Some(PageAddr { block, page: 0 }),
+            Command::Erase(block) => {
+                self.owners.look_through(&self.map, &self.counts, block);
+                self.hand = 0;
+                self.next_page = Some(PageAddr { block, page: 0 });
+                self.chosen = self.decide();
+            }
             Command::Refused => {}
         }
     }
@@ -95,36 +104,46 @@ impl Core {
         ensures next { IsNext self.now result }
         ensures progress { next_number_of self.now + 1 < 2 ^ 64 → result ≢ Refused }
     {
+        match self.chosen {
+            Command::Refused => self.decide(),
+            chosen => chosen,
+        }
+    }
+
+    // The same, by the counts and the owners.
+    fn decide(&self) -> Command
+        ensures next { IsNext self.now result }
+        ensures progress { next_number_of self.now + 1 < 2 ^ 64 → result ≢ Refused }
+    {
         match self.next_page {
             Some(to) => {
-                if self.free_beside(to.block).is_some() {
+                let victim = self.counts.fewest(to.block);
+                if self.is_free_beside(victim, to.block) {
                     if self.next_number >= u64::MAX {
                         return Command::Refused;
                     }
                     return Command::Program(to, self.next_number);
                 }
-                let victim = self.counts.fewest(to.block);
                 match source(&self.map, &self.owners, victim, self.hand) {
                     Some((sector, from)) => Command::Copy(sector, from, to),
                     None => Command::Refused,
                 }
             }
-            None => match self.free_beside(self.blocks) {
-                Some(block) => Command::Erase(block),
-                None => Command::Refused,
-            },
+            None => {
+                let block = self.counts.fewest(self.blocks);
+                if self.is_free_beside(block, self.blocks) {
+                    return Command::Erase(block);
+                }
+                Command::Refused
+            }
         }
     }
 
-    // A free block, beside one.
-    fn free_beside(&self, avoided: u32) -> Option<u32>
-        ensures free { IfSome result (λ b. IsFree self.now.map.items b × (b < self.now.blocks) × (b ≢ avoided)) }
-        ensures none { result ≡ None → (b : ℕ) → b < self.now.blocks → b ≢ avoided → 0 < live_in b self.now.map.items }
+    // Whether a block is free, and another one than this.
+    fn is_free_beside(&self, block: u32, avoided: u32) -> bool
+        ensures yes { result ≡ true → IsFree self.now.map.items block × (block < self.now.blocks) × (block ≢ avoided) }
+        ensures no { result ≡ false → block < self.now.blocks → block ≢ avoided → 0 < live_in block self.now.map.items }
     {
-        let block = self.counts.fewest(avoided);
-        if block < self.blocks && block != avoided && self.counts.get(block) == 0 {
-            return Some(block);
-        }
-        None
+        block < self.blocks && block != avoided && self.counts.get(block) == 0
     }
 }

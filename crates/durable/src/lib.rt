@@ -5,6 +5,7 @@
 mod candidates;
 mod command;
 mod counting;
+mod extent;
 mod fault;
 mod found;
 mod gaps;
@@ -20,6 +21,7 @@ mod runs;
 mod search;
 
 pub use command::Command;
+pub use extent::Extent;
 pub use fault::MountFault;
 pub use found::Stamp;
 pub use geometry::PageAddr;

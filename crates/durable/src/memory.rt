@@ -1,9 +1,12 @@
 ghost use Rattle.std.specs.Prelude.{◌≡◌, ◌<◌, ◌≤◌, ◌^◌, length};
 ghost use Rattle.durable.specs.Collecting.{AreLiveCounts, HasCapacity, CanCollect, IsPageOn};
+ghost use Rattle.durable.specs.Next.{IsNextFor};
 
+use crate::command::Command;
 use crate::owners::Owners;
 use crate::ranking::Counts;
 use geometry::PageAddr;
+use packed_map::PackedMap;
 
 /// What the layer knows of a flash: where each sector is, the page to be programmed next, and the next version's number.
 #[derive(Drop)]
@@ -12,7 +15,7 @@ pub struct Core {
     pub(crate) blocks: u32,
     pub(crate) read_blocks: u32,
     pub(crate) pages: u32,
-    pub(crate) map: Vec<Option<PageAddr>>,
+    pub(crate) map: PackedMap,
     // How many live pages each block has.
     pub(crate) counts: Counts,
     // Which sector each page has, and the page at which the next search of the victim starts.
@@ -21,6 +24,8 @@ pub struct Core {
     // None: no block is open.
     pub(crate) next_page: Option<PageAddr>,
     pub(crate) next_number: u64,
+    // The command that comes next, as far as it is known. Refused: it has to be chosen.
+    pub(crate) chosen: Command,
     // How many losses the mount has told.
     pub(crate) losses: u64,
     pub ghost on_device: { IsPageOn blocks pages next_page },
@@ -30,4 +35,5 @@ pub struct Core {
     pub ghost few_sectors: { length map.items < 2 ^ 32 },
     pub ghost has_capacity: { HasCapacity (length map.items) blocks pages },
     pub ghost can_collect: { CanCollect map.items blocks pages next_page },
+    pub ghost is_next: { ∥ IsNextFor blocks map.items next_page next_number chosen ∥₁ },
 }

@@ -1,7 +1,7 @@
 ghost use Rattle.std.specs.Prelude.{◌≡◌, ◌<◌, ◌≤◌, ◌^◌, length};
 ghost use Rattle.durable.specs.Collecting.{HasCapacity};
 
-use crate::found::Candidate;
+use crate::found::Found;
 
 /// A mount under way: the stamps of all pages are read in order, block by block. It gives the flash no command.
 #[derive(Drop)]
@@ -11,7 +11,7 @@ pub struct Mount {
     // How many are read: those, and bad ones and a reserve after them.
     pub(crate) read_blocks: u32,
     pub(crate) pages: u32,
-    pub(crate) found: Vec<Option<Candidate>>,
+    pub(crate) found: Found,
     pub(crate) next_number: u64,
     // How many gaps each block has that is read.
     pub(crate) gaps: Vec<u32>,

@@ -1,10 +1,11 @@
 ghost use Rattle.std.specs.Prelude.{◌≡◌, ◌≢◌, ◌⊎◌, ◌<◌, ◌≤◌, ◌+◌, ◌-◌, ◌*◌, ℕ, List, length, Ok, Err, Some, None, IfOk, OnOk, OnErr, IfSome};
 ghost use Rattle.durable.specs.Flash.{Flash};
 
-use crate::candidates::{entries_of, freeable, is_of_device, take};
+use crate::candidates::{freeable, is_of_device, take};
+use crate::command::Command;
 use crate::counting::counts_of;
 use crate::fault::MountFault;
-use crate::found::Stamp;
+use crate::found::{Found, Stamp};
 use crate::gaps::{count_gaps, losses};
 use crate::memory::Core;
 use crate::mount::Mount;
@@ -54,7 +55,7 @@ impl Mount {
         if blocks == 0 || u64::from(sectors) >= u64::from(blocks - 1) * u64::from(pages) {
             return Err(MountFault::TooManySectors);
         }
-        let Ok(found) = vec![in alloc; None; sectors as usize] else {
+        let Ok(found) = Found::new(alloc, sectors) else {
             return Err(MountFault::OutOfMemory);
         };
         let Ok(gaps) = vec![in alloc; 0; read_blocks as usize] else {
@@ -134,13 +135,14 @@ impl Mount {
         ensures frees { (f : Flash) (acked begun : List Update) → HasNoted f self → IsRecoverable f (device_in self) acked begun → result ≢ Err NoFreeBlock }
         ensures cause { OnErr result ((result ≡ Err NoFreeBlock) ⊎ (result ≡ Err OutOfMemory)) }
     {
-        let avoided = freeable(&self.found, &self.gaps, self.blocks);
+        let Ok(avoided) = freeable(alloc, &self.found, &self.gaps, self.blocks) else {
+            return Err(MountFault::OutOfMemory);
+        };
         if avoided >= self.blocks {
             return Err(MountFault::NoFreeBlock);
         }
-        let Ok(map) = entries_of(alloc, &self.found, avoided) else {
-            return Err(MountFault::OutOfMemory);
-        };
+        let losses = losses(&self.found, &self.gaps);
+        let map = self.found.into_map(avoided);
         let Ok(counts) = counts_of(alloc, &map, self.blocks, self.pages) else {
             return Err(MountFault::OutOfMemory);
         };
@@ -157,7 +159,8 @@ impl Mount {
             hand: 0,
             next_page: None,
             next_number: self.next_number,
-            losses: losses(&self.found, &self.gaps),
+            chosen: Command::Refused,
+            losses,
         })
     }
 }

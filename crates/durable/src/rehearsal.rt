@@ -1,6 +1,7 @@
 ghost use Rattle.std.specs.Prelude.{◌≡◌, ◌<◌, ◌≤◌, ◌+◌, ◌^◌};
 
 use crate::command::Command;
+use crate::extent::Extent;
 use crate::memory::Core;
 
 /// What a call costs before its program.
@@ -12,10 +13,11 @@ pub struct Cost {
 
 impl Core {
     ghost use Rattle.durable.specs.Device.{device_of, next_number_of};
+    ghost use Rattle.durable.specs.Updates.{LiesWithin};
 
     /// A whole call in memory, as if each command succeeded. It costs at most one erase, a copy fewer than a block has pages, and one program.
-    pub fn rehearse(&mut self, sector: u32) -> Cost
-        requires sector { sector < (device_of self.old).sectors }
+    pub fn rehearse(&mut self, extent: Extent) -> Cost
+        requires within { LiesWithin (device_of self.old).sectors extent }
         requires number { next_number_of self.old + 1 < 2 ^ 64 }
         ensures erases { result.erases ≤ 1 }
         ensures copies { result.copies + 1 ≤ (device_of self.old).pages }
@@ -27,8 +29,8 @@ impl Core {
             copies: 0,
         };
         loop {
-            let command = self.next(sector);
-            self.done(sector, command);
+            let command = self.next(extent);
+            self.done(extent, command);
             match command {
                 Command::Program(..) => return cost,
                 Command::Copy(..) => cost.copies += 1,

@@ -8,6 +8,7 @@ ghost use Rattle.durable.specs.Whole.{IsUnharmed, KeepsWhole, RunsWhole};
 ghost use Rattle.geometry.specs.Sectors.{Sector};
 ghost use Rattle.durable.specs.Updates.{AreMade, Update, array_after};
 ghost use Rattle.durable.specs.declared.command.Command.{Command as Next};
+ghost use Rattle.durable.specs.declared.extent.Extent.{Extent};
 ghost use Rattle.durable.specs.declared.memory.Core.{Core as Layer};
 ghost use Rattle.durable.specs.Promise.{KeepsAcknowledged, IsReadable, IsRecoverable, IsConsistent};
 ghost use Rattle.durable.specs.Runs.{Event, Runs, RunsOnReserve, acknowledged_in, begun_in, outcomes_in, failures_in};
@@ -30,7 +31,8 @@ pub fn keeps_acknowledged()
 /// What a command that fails leaves can be mounted, if the blocks are numbered so that one without versions comes in use: one in reserve, since no
 /// command changes a block that isn't in use. It computes nothing: its clauses are the theorem.
 pub fn survives_failures()
-    ensures untouched { (f t : Flash) (device : Device) (command : Next) (s : ℕ) (value : Sector) → NamesOn device command → CutLeaves command s value f t
+    ensures untouched { (f t : Flash) (device : Device) (command : Next) (extent : Extent) (value : Sector) → NamesOn device command
+        → CutLeaves command extent value f t
         → (b p : ℕ) → device.blocks ≤ b → t b p ≡ f b p }
     ensures renumbered { (f t : Flash) (old new : Device) (acked begun : List Update) → IsReadable f old acked begun
         → IsRenumbered f t old.read_blocks → IsSameFlashOf old new → IsReadable t new acked begun }
@@ -45,7 +47,7 @@ pub fn survives_as_many_failures_as_spares()
         → (device_of layer).read_blocks ≡ (device_of layer).blocks + spare → failures_in events ≤ spare → Runs events f layer }
     ensures mounts { (spare : ℕ) (events : List Event) (f left t : Flash) (layer : Layer) (update : Update) (command : Next) (b : ℕ)
         → RunsOnReserve events f layer → (device_of layer).read_blocks ≡ (device_of layer).blocks + spare → failures_in events < spare
-        → IsSafe layer command → SurvivesCut layer update.sector command → CutLeaves command update.sector update.value f left → Changes command b
+        → IsSafe layer command → SurvivesCut layer update.extent command → CutLeaves command update.extent update.value f left → Changes command b
         → IsSwapped left t b ((device_of layer).blocks + failures_in events)
         → IsRecoverable t (device_of layer) (acknowledged_in events) (update ∷ begun_in events) }
     ensures untouched { (events : List Event) (f : Flash) (layer : Layer) (spare c : ℕ) → RunsOnReserve events f layer

@@ -4,6 +4,7 @@ ghost use Rattle.durable.specs.Collecting.{IsFree};
 
 use crate::owners::Owners;
 use geometry::PageAddr;
+use packed_map::PackedMap;
 
 /// The page after this one, if the block has one.
 pub fn page_after(at: PageAddr, pages: u32) -> Option<PageAddr>
@@ -38,15 +39,11 @@ pub fn fewest(counts: &[u32], avoided: u32) -> u32
 }
 
 /// A sector that is mapped to a block, and its page: the first from a page on, or otherwise any.
-pub fn source(
-    map: &[Option<PageAddr>],
-    owners: &Owners,
-    block: u32,
-    from: u32,
-) -> Option<(u32, PageAddr)>
-    requires { length map.now < 2 ^ 32 }
-    ensures found { IfSome result (λ found. (found.0 < length map.now) × (slice_index_or map.now found.0 None ≡ Some found.1) × (found.1.block ≡ block)) }
-    ensures none { result ≡ None → IsFree map.now block }
+pub fn source(map: &PackedMap, owners: &Owners, block: u32, from: u32) -> Option<(u32, PageAddr)>
+    requires { length map.now.items < 2 ^ 32 }
+    ensures found { IfSome result (λ found. (found.0 < length map.now.items) × (slice_index_or map.now.items found.0 None ≡ Some found.1)
+        × (found.1.block ≡ block)) }
+    ensures none { result ≡ None → IsFree map.now.items block }
 {
     if let Some(found) = owners.next_in(map, block, from) {
         return Some(found);
@@ -57,13 +54,14 @@ pub fn source(
     }
 }
 
-fn source_in_map(map: &[Option<PageAddr>], block: u32) -> Option<(u32, PageAddr)>
-    requires { length map.now < 2 ^ 32 }
-    ensures found { IfSome result (λ found. (found.0 < length map.now) × (slice_index_or map.now found.0 None ≡ Some found.1) × (found.1.block ≡ block)) }
-    ensures none { result ≡ None → IsFree map.now block }
+fn source_in_map(map: &PackedMap, block: u32) -> Option<(u32, PageAddr)>
+    requires { length map.now.items < 2 ^ 32 }
+    ensures found { IfSome result (λ found. (found.0 < length map.now.items) × (slice_index_or map.now.items found.0 None ≡ Some found.1)
+        × (found.1.block ≡ block)) }
+    ensures none { result ≡ None → IsFree map.now.items block }
 {
     for s in 0..map.len() {
-        if let Some(at) = map[s] {
+        if let Some(at) = map.get(s) {
             if at.block == block {
                 return Some((s as u32, at));
             }

@@ -1,4 +1,4 @@
-use nand::{Chip, Cut, Durable, Failure, Got, MountFault, OpenFailure, Shape, Was};
+use nand::{Chip, Cut, Durable, Extent, Failure, Got, MountFault, Nand, OpenFailure, Shape, Was};
 use std::alloc::Global;
 use std::fmt::Debug;
 use std::process::Abort;
@@ -67,22 +67,24 @@ pub(crate) fn read(
     }
 }
 
-/// A call that changes a sector.
+/// A call that changes a sector, or trims an extent.
 #[derive(Clone, Copy, Debug, PartialEq, Eq)]
 pub(crate) enum Call {
     Write(u32, u8),
     WriteNew(u32, u8),
-    Trim(u32),
+    Trim(Extent),
 }
 
 impl Call {
-    pub(crate) fn sector(self) -> u32 {
+    /// The sectors that it changes.
+    pub(crate) fn extent(self) -> Extent {
         match self {
-            Call::Write(sector, _) | Call::WriteNew(sector, _) | Call::Trim(sector) => sector,
+            Call::Write(first, _) | Call::WriteNew(first, _) => Extent { first, count: 1 },
+            Call::Trim(extent) => extent,
         }
     }
 
-    /// What the sector holds after the call, if it is done.
+    /// What a sector of it holds after the call, if it is done.
     pub(crate) fn value(self, held: Option<u8>) -> Option<u8> {
         match self {
             Call::Write(_, byte) => Some(byte),
@@ -92,14 +94,13 @@ impl Call {
     }
 }
 
-/// Makes a call. An answer that doesn't fit what the sector held ends the test.
+/// Makes a call. An answer that doesn't fit what its sectors held, of which one was written or none, ends the test.
 pub(crate) fn make(
     rt: &impl Abort,
     layer: &mut Durable<Chip>,
     call: Call,
     held: Option<u8>,
 ) -> Result<(), Failure> {
-    assert!(rt; call.sector() < layer.sectors());
     assert!(rt; layer.page_bytes() == 1);
     match call {
         Call::Write(sector, byte) => {
@@ -120,9 +121,10 @@ pub(crate) fn make(
                 Err(failure) => Err(failure),
             }
         }
-        Call::Trim(sector) => {
-            assert!(rt; sector < layer.sectors());
-            match layer.trim(sector) {
+        Call::Trim(extent) => {
+            let within = extent.lies_within(layer.sectors() as usize);
+            assert!(rt; within);
+            match layer.trim(extent) {
                 Ok(was) => {
                     expect(rt, (was == Was::Written) == held.is_some(), &call);
                     Ok(())
@@ -131,6 +133,19 @@ pub(crate) fn make(
             }
         }
     }
+}
+
+/// How many blocks are marked bad.
+pub(crate) fn marked(rt: &impl Abort, chip: &mut Chip) -> u32 {
+    let mut count = 0u32;
+    for block in 0..chip.shape().blocks {
+        let is_bad = chip.is_bad(block);
+        expect(rt, is_bad.is_ok(), &block);
+        if is_bad == Ok(true) {
+            count = count.wrapping_add(1);
+        }
+    }
+    count
 }
 
 /// Checks that a chip without power is not opened, and gives it power.

@@ -1,24 +1,12 @@
-use crate::bench::{Call, chip, expect, make, open, power_on, read};
+use crate::bench::{Call, chip, expect, make, marked, open, power_on, read};
 use crate::random::start;
-use nand::{Chip, Durable, Failure, Nand};
+use nand::{Chip, Durable, Failure};
 use std::process::Abort;
 use std::test::Fail;
 
 // 4 blocks of 2 pages, 3 sectors: three blocks are in use, and one is in reserve. Without a failure the commands 0 to 8 are those of
 // the rows with three blocks.
 const WRITES: [(u32, u8); 5] = [(0, 1), (1, 2), (2, 3), (0, 4), (1, 5)];
-
-fn bad_blocks(rt: &impl Abort, chip: &mut Chip) -> u32 {
-    let mut count = 0u32;
-    for block in 0..chip.shape().blocks {
-        let is_bad = chip.is_bad(block);
-        expect(rt, is_bad.is_ok(), &block);
-        if is_bad == Ok(true) {
-            count = count.wrapping_add(1);
-        }
-    }
-    count
-}
 
 fn holds(rt: &impl Abort, layer: &mut Durable<Chip>, row: u64) {
     let found = (read(rt, layer, 0), read(rt, layer, 1), read(rt, layer, 2));
@@ -46,7 +34,7 @@ fn each_command_fails_in_turn(rt: HostRuntime) -> Result<(), Fail> {
         holds(&rt, &mut layer, command);
         expect(&rt, layer.reserve() == 0, &(command, layer.reserve()));
         let mut nand = layer.into_nand();
-        expect(&rt, bad_blocks(&rt, &mut nand) == 1, &command);
+        expect(&rt, marked(&rt, &mut nand) == 1, &command);
         assert!(rt; nand.violations() == 0);
         let Some(mut layer) = open(&rt, nand, 3) else {
             return Ok(());
@@ -81,7 +69,7 @@ fn one_failure_more_than_the_reserve_has(rt: HostRuntime) -> Result<(), Fail> {
         }
         nand = layer.into_nand();
     }
-    expect(&rt, bad_blocks(&rt, &mut nand) == 3, &3);
+    expect(&rt, marked(&rt, &mut nand) == 3, &3);
     let Some(mut layer) = open(&rt, nand, 3) else {
         return Ok(());
     };
@@ -170,11 +158,11 @@ fn play(
         run.check(rt, &mut layer, call_of(stopped));
         let left = layer.reserve();
         chip = layer.into_nand();
-        let all = bad_blocks(rt, &mut chip).wrapping_add(left);
+        let all = marked(rt, &mut chip).wrapping_add(left);
         expect(rt, all == blocks / 50 + 1, &(all, left));
     }
     expect(rt, chip.violations() == 0, &chip.violations());
-    expect(rt, bad_blocks(rt, &mut chip) == blocks / 50 + 1, &blocks);
+    expect(rt, marked(rt, &mut chip) == blocks / 50 + 1, &blocks);
     Ok(())
 }
 

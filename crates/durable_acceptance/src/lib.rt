@@ -10,3 +10,5 @@ mod failures;
 mod random;
 #[cfg(test)]
 mod rows;
+#[cfg(test)]
+mod several;

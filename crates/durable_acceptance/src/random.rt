@@ -1,7 +1,7 @@
 ghost use Rattle.std.specs.Prelude.{◌≤◌};
 
 use crate::bench::{Call, SECTORS, chip, expect, make, open, power_on, read};
-use nand::{Chip, Cut, Durable, Failure, Shape};
+use nand::{Chip, Cut, Durable, Extent, Failure, Shape};
 use std::process::Abort;
 use std::test::Fail;
 
@@ -28,9 +28,18 @@ impl Random {
         let sector = (self.below(u64::from(sectors)) % 4294967296) as u32;
         let byte = (self.below(255) % 256) as u8;
         match self.below(8) {
-            0 => Call::Trim(sector),
+            0 => Call::Trim(self.extent(sector, sectors)),
             1 => Call::WriteNew(sector, byte),
             _ => Call::Write(sector, byte),
+        }
+    }
+
+    // Up to four sectors from this one on.
+    fn extent(&mut self, first: u32, sectors: u32) -> Extent {
+        let most = u64::from(sectors.saturating_sub(first)).min(4);
+        Extent {
+            first,
+            count: (self.below(most) % 4) as u32 + 1,
         }
     }
 
@@ -58,29 +67,48 @@ impl Run {
         self.shadow.get(sector as usize).copied().flatten()
     }
 
-    fn note(&mut self, sector: u32, value: Option<u8>) {
-        if (sector as usize) < SECTORS {
-            self.shadow[sector as usize] = value;
+    // What a sector of the call holds that is written, or nothing if none of them is.
+    fn held_by(&self, call: Call) -> Option<u8> {
+        for sector in 0..self.sectors {
+            if call.extent().covers(sector) && self.held(sector).is_some() {
+                return self.held(sector);
+            }
+        }
+        None
+    }
+
+    // What a sector holds after a call.
+    fn after(&self, call: Call, sector: u32) -> Option<u8> {
+        if call.extent().covers(sector) {
+            call.value(self.held(sector))
+        } else {
+            self.held(sector)
         }
     }
 
-    // Each sector has to hold what was acknowledged; the one of a call that was cut short may hold its value already.
+    fn note(&mut self, call: Call) {
+        for sector in 0..SECTORS {
+            self.shadow[sector] = self.after(call, sector as u32);
+        }
+    }
+
+    // The sectors have to hold what was acknowledged; those of a call that was cut short may all hold its value already.
     pub(crate) fn check(
         &mut self,
         rt: &impl Abort,
         layer: &mut Durable<Chip>,
         cut_short: Option<Call>,
     ) {
+        let mut before = true;
+        let mut after = true;
         for sector in 0..self.sectors {
             let found = read(rt, layer, sector);
-            let held = self.held(sector);
-            if let Some(call) = cut_short {
-                if call.sector() == sector && found == Ok(call.value(held)) {
-                    self.note(sector, call.value(held));
-                    continue;
-                }
-            }
-            expect(rt, found == Ok(held), &(self.calls, sector, found, held));
+            before &= found == Ok(self.held(sector));
+            after &= cut_short.is_some_and(|call| found == Ok(self.after(call, sector)));
+        }
+        expect(rt, before || after, &(self.calls, cut_short));
+        if let (true, Some(call)) = (after, cut_short) {
+            self.note(call);
         }
     }
 
@@ -104,10 +132,10 @@ impl Run {
     ) -> Option<(Call, Failure)> {
         for _ in 0..most {
             let call = self.random.call(self.sectors);
-            let held = self.held(call.sector());
+            let held = self.held_by(call);
             self.calls = self.calls.wrapping_add(1);
             match make(rt, layer, call, held) {
-                Ok(()) => self.note(call.sector(), call.value(held)),
+                Ok(()) => self.note(call),
                 Err(failure) => return Some((call, failure)),
             }
         }

@@ -1,5 +1,5 @@
 use crate::bench::{Call, chip, expect, make, open, power_on, read};
-use nand::{Change, Chip, Cut, Durable, Failure, Nand, PageAddr, Reading, Shape};
+use nand::{Change, Chip, Cut, Durable, Extent, Failure, Nand, PageAddr, Reading, Shape};
 use std::process::Abort;
 use std::test::Fail;
 
@@ -120,7 +120,7 @@ fn a_list_of_calls_goes_on_after_a_failure(rt: HostRuntime) -> Result<(), Fail> 
     let changes = [
         Change::Write(0, vec![in rt.alloc(); 7; 1]?),
         Change::Write(1, vec![in rt.alloc(); 8; 1]?),
-        Change::Trim(1),
+        Change::Trim(Extent { first: 0, count: 2 }),
         Change::Write(2, vec![in rt.alloc(); 9; 1]?),
     ];
     let mut acknowledged = Vec::new(rt.alloc());
@@ -168,5 +168,38 @@ fn a_page_that_is_lost_cannot_be_read(rt: HostRuntime) -> Result<(), Fail> {
     let at = PageAddr { block: 0, page: 1 };
     nand.lose_page(at);
     assert!(rt; nand.stamp(at) == Ok(Reading::Unreadable));
+    Ok(())
+}
+
+#[test]
+fn a_trim_of_many_sectors_programs_one_page(rt: HostRuntime) -> Result<(), Fail> {
+    let Some(mut layer) = open(&rt, chip(rt.alloc(), 8, 16)?, 64) else {
+        return Ok(());
+    };
+    for sector in 0..64 {
+        let written = make(&rt, &mut layer, Call::Write(sector, 7), None);
+        expect(&rt, written.is_ok(), &sector);
+    }
+    let most = Extent {
+        first: 1,
+        count: 62,
+    };
+    let programmed = layer.into_nand();
+    let before = programmed.commands();
+    let Some(mut layer) = open(&rt, programmed, 64) else {
+        return Ok(());
+    };
+    assert!(rt; make(&rt, &mut layer, Call::Trim(most), Some(7)).is_ok());
+    assert!(rt; make(&rt, &mut layer, Call::Trim(most), None).is_ok());
+    let trimmed = layer.into_nand();
+    // The erase that opens a block, and one program.
+    assert!(rt; trimmed.commands() == before.wrapping_add(2));
+    let Some(mut layer) = open(&rt, trimmed, 64) else {
+        return Ok(());
+    };
+    for sector in 0..64 {
+        let held = (sector == 0 || sector == 63).then_some(7);
+        expect(&rt, read(&rt, &mut layer, sector) == Ok(held), &sector);
+    }
     Ok(())
 }

@@ -1,7 +1,8 @@
 -- What a call of C returns, and what it leaves: by what the handle has.
-use Rattle.std.specs.Prelude.{◌≡◌, ◌≢◌, ◌<◌, ℕ, Bool, nat_le, ◌==◌, List, Option, None, Some, IfSome, if◌then◌else◌}
+use Rattle.std.specs.Prelude.{◌≡◌, ◌≢◌, ◌<◌, ℕ, Bool, nat_le, nat_lt, ◌+◌, ◌&&◌, ◌==◌, List, Option, None, Some, IfSome, if◌then◌else◌}
 use Rattle.geometry.specs.declared.page_addr.PageAddr.{PageAddr}
 use Rattle.durable.specs.Flash.{Flash}
+use Rattle.durable.specs.declared.extent.Extent.{Extent}
 use Rattle.durable.specs.Updates.{Update, array_after}
 use Rattle.durable.specs.Device.{Device, device_of, device_in, losses_of, next_page_of, next_number_of, IsWrittenOn}
 use Rattle.durable.specs.Memory.{IsMappedTo}
@@ -109,29 +110,33 @@ IsMounted m l =
 abbrev pub sector_code : ℕ → ℕ → Layer → ℕ
 sector_code s code l = if nat_le (layer_device l).sectors s then 3 else code
 
+-- the code of a call for an extent of a layer
+abbrev pub extent_code : Extent → ℕ → Layer → ℕ
+extent_code e code l = if nat_lt 0 e.count && nat_le (e.first + e.count) (layer_device l).sectors then code else 3
+
 -- the page that was found has the newest version of the sector, if the device has the sector
 abbrev pub IsNewestPageOf : ℕ → Option PageAddr → Layer → Type 0
 IsNewestPageOf s page l = s < (layer_device l).sectors → (f : Flash) (acked begun : List Update) (consistent : IsConsistent f l.core acked begun)
     → IsMappedTo f s (array_after consistent.updates s) page
 
--- the report is of the command that comes next for the sector: it may be given to the flash, and a power cut inside it or before it loses nothing
-abbrev pub IsCommandFor : ℕ → CommandReport → Layer → Type 0
-IsCommandFor s out l =
-    (command : Command) × (out ≡ report_of s command) × (command ≢ Refused)
-    × IsNext l.core command × IsSafe l.core command × SurvivesCut l.core s command × SurvivesIdleCut l.core
-    × CutsUnharmed l.core s command × CutsIdleUnharmed l.core
+-- the report is of the command that comes next for the extent: it may be given to the flash, and a power cut inside it or before it loses nothing
+abbrev pub IsCommandFor : Extent → CommandReport → Layer → Type 0
+IsCommandFor e out l =
+    (command : Command) × (out ≡ report_of e.first command) × (command ≢ Refused)
+    × IsNext l.core command × IsSafe l.core command × SurvivesCut l.core e command × SurvivesIdleCut l.core
+    × CutsUnharmed l.core e command × CutsIdleUnharmed l.core
 
--- the command of this report has succeeded for the sector
-abbrev pub IsDone : ℕ → CommandReport → Layer → Layer → Type 0
-IsDone s did l after =
-    (command : Command) × (did ≡ report_of s command) × IsNext l.core command
-    × (layer_device after ≡ layer_device l) × Acknowledges l.core s command after.core
-    × (layer_losses after ≡ layer_losses l) × StaysWhole l.core s command after.core
+-- the command of this report has succeeded for the extent
+abbrev pub IsDone : Extent → CommandReport → Layer → Layer → Type 0
+IsDone e did l after =
+    (command : Command) × (did ≡ report_of e.first command) × IsNext l.core command
+    × (layer_device after ≡ layer_device l) × Acknowledges l.core e command after.core
+    × (layer_losses after ≡ layer_losses l) × StaysWhole l.core e command after.core
     × (next_number_of after.core ≡ number_after command (next_number_of l.core))
     × Spends command (layer_device l).pages (left l.core) (left after.core)
     × StaysOpen command (layer_device l).pages (next_page_of after.core)
     × (after.totals ≡ totals_with command l.totals)
 
 -- the stamp that a note passes, if the page has a version
-abbrev pub stamp_of : ℕ → ℕ → ℕ → Option Stamp
-stamp_of has_version s n = if has_version == 0 then None else Some (record { sector = s; number = n })
+abbrev pub stamp_of : ℕ → Extent → ℕ → Option Stamp
+stamp_of has_version e n = if has_version == 0 then None else Some (record { extent = e; number = n })

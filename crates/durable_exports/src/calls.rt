@@ -6,7 +6,7 @@ ghost use Rattle.durable_exports.specs.Handles.{seat_of};
 ghost use Rattle.durable_exports.specs.Reports.{found_page};
 ghost use Rattle.durable_exports.specs.Calls.{code_of_mount, code_of_layer, OfMount, OfLayer, HasMount, HasLayer, begin_code, note_code};
 ghost use Rattle.durable_exports.specs.Calls.{finish_code, FreesBlock, Accepts, IsBegun, IsNoted, IsMounted};
-ghost use Rattle.durable_exports.specs.Calls.{sector_code, IsNewestPageOf, IsCommandFor, IsDone, layer_losses, stamp_of};
+ghost use Rattle.durable_exports.specs.Calls.{sector_code, extent_code, IsNewestPageOf, IsCommandFor, IsDone, layer_losses, stamp_of};
 
 use crate::codes::{
     ALREADY_OPEN, CLOSED, DONE, NO_BLOCK, NO_MEMORY, OUT_OF_ORDER, TOO_FEW_BLOCKS, WRONG_KIND,
@@ -16,7 +16,7 @@ use crate::layer::Layer;
 use crate::mounts;
 use crate::reports::{CommandReport, PlaceReport, Totals};
 use crate::seat::Seat;
-use durable::{Mount, MountFault, Stamp};
+use durable::{Extent, Mount, MountFault, Stamp};
 use std::alloc::Global;
 
 /// Begins the mount of a device with these numbers, whose blocks are all in use.
@@ -98,28 +98,30 @@ fn has_capacity(blocks: u32, pages: u32, sectors: u32) -> bool
     blocks > 0 && u64::from(sectors) < u64::from(blocks - 1) * u64::from(pages)
 }
 
-/// Notes the stamp of the next page: its sector and number if the page has a version, and otherwise nothing.
+/// Notes the stamp of the next page: its sectors, from the first one on, and its number if the page has a version, and otherwise nothing.
 #[unsafe(no_mangle)]
 pub extern "C" fn mintlintel_core_note(
     alloc: Global,
     handle: &mut Handle,
     has_version: u32,
-    sector: u32,
+    first: u32,
+    count: u32,
     number: u64,
 ) -> u32
     ensures code { result ≡ code_of_mount (seat_of handle.old) (λ m. note_code (next_in m) (nat_eq result 30)) }
-    ensures accepts { OfMount (seat_of handle.old) (Accepts (stamp_of has_version sector number) result) }
+    ensures accepts { OfMount (seat_of handle.old) (Accepts (stamp_of has_version (record { first = first; count = count }) number) result) }
     ensures noted { result ≡ 0 → OfMount (seat_of handle.old)
-        (λ m. HasMount (seat_of handle.new) (IsNoted (stamp_of has_version sector number) m)) }
+        (λ m. HasMount (seat_of handle.new) (IsNoted (stamp_of has_version (record { first = first; count = count }) number) m)) }
     ensures same { result ≢ 0 → seat_of handle.new ≡ seat_of handle.old }
 {
     let Some(mut seat) = handle.take(alloc) else {
         return CLOSED;
     };
+    let extent = Extent { first, count };
     let stamp = if has_version == 0 {
         None
     } else {
-        Some(Stamp { sector, number })
+        Some(Stamp { extent, number })
     };
     let code = note(&mut seat, stamp);
     handle.put(seat);
@@ -212,17 +214,18 @@ fn page(seat: &Seat, sector: u32, out: &mut PlaceReport) -> u32
     }
 }
 
-/// The command that comes next for a write or trim of a sector.
+/// The command that comes next for a write of a sector, or a trim of as many as are counted from the first one on.
 #[unsafe(no_mangle)]
 pub extern "C" fn mintlintel_core_next(
     alloc: Global,
     handle: &mut Handle,
-    sector: u32,
+    first: u32,
+    count: u32,
     out: &mut CommandReport,
 ) -> u32
-    ensures code { result ≡ code_of_layer (seat_of handle.old) (sector_code sector (if result == 31 then 31 else 0)) }
+    ensures code { result ≡ code_of_layer (seat_of handle.old) (extent_code (record { first = first; count = count }) (if result == 31 then 31 else 0)) }
     ensures progress { OfLayer (seat_of handle.old) (λ l. next_number_of l.core + 1 < 2 ^ 64 → result ≢ 31) }
-    ensures command { result ≡ 0 → OfLayer (seat_of handle.old) (IsCommandFor sector out.new) }
+    ensures command { result ≡ 0 → OfLayer (seat_of handle.old) (IsCommandFor (record { first = first; count = count }) out.new) }
     ensures report { result ≢ 0 → out.new ≡ out.old }
     ensures same { seat_of handle.new ≡ seat_of handle.old }
 {
@@ -230,23 +233,25 @@ pub extern "C" fn mintlintel_core_next(
         return CLOSED;
     };
     let code = match &*seat {
-        Seat::Mounted(layer) => layer.next(sector, out),
+        Seat::Mounted(layer) => layer.next(Extent { first, count }, out),
         Seat::Mounting(_) => WRONG_KIND,
     };
     handle.put(seat);
     code
 }
 
-/// The command that comes next for a sector has succeeded.
+/// The command that comes next for these sectors has succeeded.
 #[unsafe(no_mangle)]
 pub extern "C" fn mintlintel_core_done(
     alloc: Global,
     handle: &mut Handle,
-    sector: u32,
+    first: u32,
+    count: u32,
     command: &mut CommandReport,
 ) -> u32
-    ensures code { result ≡ code_of_layer (seat_of handle.old) (sector_code sector (if result == 32 then 32 else 0)) }
-    ensures done { result ≡ 0 → OfLayer (seat_of handle.old) (λ l. HasLayer (seat_of handle.new) (IsDone sector command.old l)) }
+    ensures code { result ≡ code_of_layer (seat_of handle.old) (extent_code (record { first = first; count = count }) (if result == 32 then 32 else 0)) }
+    ensures done { result ≡ 0
+        → OfLayer (seat_of handle.old) (λ l. HasLayer (seat_of handle.new) (IsDone (record { first = first; count = count }) command.old l)) }
     ensures same { result ≢ 0 → seat_of handle.new ≡ seat_of handle.old }
     ensures report { command.new ≡ command.old }
 {
@@ -254,7 +259,7 @@ pub extern "C" fn mintlintel_core_done(
         return CLOSED;
     };
     let code = match &mut *seat {
-        Seat::Mounted(layer) => layer.done(sector, *command),
+        Seat::Mounted(layer) => layer.done(Extent { first, count }, *command),
         Seat::Mounting(_) => WRONG_KIND,
     };
     handle.put(seat);

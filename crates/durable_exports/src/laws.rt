@@ -23,7 +23,8 @@ ghost use Rattle.durable_exports.specs.declared.seat.Seat.TheVariants.{Mounting,
 ghost use Rattle.durable_exports.specs.Handles.{seat_of};
 ghost use Rattle.durable_exports.specs.Reports.{found_page, place_of, page_at, report_of, one_more, no_totals, totals_with};
 ghost use Rattle.durable_exports.specs.Calls.{layer_device, layer_losses, code_of_mount, code_of_layer, OfMount, OfLayer, HasMount, HasLayer};
-ghost use Rattle.durable_exports.specs.Calls.{begin_code, note_code, finish_code, sector_code, stamp_of};
+ghost use Rattle.durable.specs.Updates.{sole};
+ghost use Rattle.durable_exports.specs.Calls.{begin_code, note_code, finish_code, sector_code, extent_code, stamp_of};
 ghost use Rattle.durable_exports.specs.Calls.{Accepts, FreesBlock, IsBegun, IsNoted, IsMounted, IsNewestPageOf, IsCommandFor, IsDone};
 
 /// The code of a call, by what the handle has.
@@ -45,6 +46,9 @@ pub fn codes()
     ensures too_early { (at : Addr) → finish_code (Some at) 7 ≡ 32 }
     ensures no_sector { (l : Layer) → (layer_device l).sectors ≡ 8 → sector_code 8 0 l ≡ 3 }
     ensures sector { (l : Layer) → (layer_device l).sectors ≡ 8 → sector_code 7 5 l ≡ 5 }
+    ensures extent { (l : Layer) → (layer_device l).sectors ≡ 8 → extent_code (record { first = 6; count = 2 }) 5 l ≡ 5 }
+    ensures past { (l : Layer) → (layer_device l).sectors ≡ 8 → extent_code (record { first = 7; count = 2 }) 5 l ≡ 3 }
+    ensures empty { (l : Layer) → (layer_device l).sectors ≡ 8 → extent_code (record { first = 7; count = 0 }) 5 l ≡ 3 }
 {}
 
 /// What is said of a mount or a layer, by what the handle has.
@@ -66,9 +70,9 @@ pub fn handles()
 
 /// Stamps, pages, commands and totals, as C passes and sees them.
 pub fn reports()
-    ensures no_stamp { stamp_of 0 7 5 ≡ None }
-    ensures stamp { stamp_of 1 7 5 ≡ Some (record { sector = 7; number = 5 }) }
-    ensures other { stamp_of 2 7 5 ≡ Some (record { sector = 7; number = 5 }) }
+    ensures no_stamp { stamp_of 0 (sole 7) 5 ≡ None }
+    ensures stamp { stamp_of 1 (record { first = 7; count = 2 }) 5 ≡ Some (record { extent = record { first = 7; count = 2 }; number = 5 }) }
+    ensures other { stamp_of 2 (sole 7) 5 ≡ Some (record { extent = sole 7; number = 5 }) }
     ensures no_page { (at : PlaceReport) → found_page 0 at ≡ None }
     ensures page { found_page 1 (record { block = 1; page = 2 }) ≡ Some (record { block = 1; page = 2 }) }
     ensures same_place { page_at (place_of (record { block = 1; page = 2 })) ≡ record { block = 1; page = 2 } }
@@ -105,11 +109,11 @@ pub fn calls()
     ensures tells { (m : Mount) (l : Layer) → IsMounted m l → TellsLosses m l.core }
     ensures quiet { (m : Mount) (l : Layer) → IsMounted m l → TellsNoFalseLoss m l.core }
     ensures whole { (m : Mount) (l : Layer) → IsMounted m l → MountsWhole m l.core }
-    ensures unharmed { (out : CommandReport) (l : Layer) → IsCommandFor 7 out l → (c : Next) × (out ≡ report_of 7 c) × CutsUnharmed l.core 7 c }
-    ensures idle_unharmed { (out : CommandReport) (l : Layer) → IsCommandFor 7 out l → CutsIdleUnharmed l.core }
-    ensures stays { (did : CommandReport) (l k : Layer) → IsDone 7 did l k → (c : Next) × (did ≡ report_of 7 c) × StaysWhole l.core 7 c k.core }
-    ensures keeps { (did : CommandReport) (l k : Layer) → IsDone 7 did l k → layer_losses k ≡ layer_losses l }
+    ensures unharmed { (out : CommandReport) (l : Layer) → IsCommandFor (sole 7) out l → (c : Next) × (out ≡ report_of 7 c) × CutsUnharmed l.core (sole 7) c }
+    ensures idle_unharmed { (out : CommandReport) (l : Layer) → IsCommandFor (sole 7) out l → CutsIdleUnharmed l.core }
+    ensures stays { (did : CommandReport) (l k : Layer) → IsDone (sole 7) did l k → (c : Next) × (did ≡ report_of 7 c) × StaysWhole l.core (sole 7) c k.core }
+    ensures keeps { (did : CommandReport) (l k : Layer) → IsDone (sole 7) did l k → layer_losses k ≡ layer_losses l }
     ensures beyond { (l : Layer) → (layer_device l).sectors ≡ 8 → IsNewestPageOf 8 None l }
-    ensures told { (out : CommandReport) (l : Layer) → IsCommandFor 7 out l → (c : Next) × (out ≡ report_of 7 c) }
-    ensures done { (did : CommandReport) (l k : Layer) → IsDone 7 did l k → (c : Next) × (did ≡ report_of 7 c) × (k.totals ≡ totals_with c l.totals) }
+    ensures reported { (out : CommandReport) (l : Layer) → IsCommandFor (sole 7) out l → (c : Next) × (out ≡ report_of 7 c) }
+    ensures done { (did : CommandReport) (l k : Layer) → IsDone (sole 7) did l k → (c : Next) × (did ≡ report_of 7 c) × (k.totals ≡ totals_with c l.totals) }
 {}

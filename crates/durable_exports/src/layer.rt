@@ -3,7 +3,7 @@ ghost use Rattle.std.specs.Prelude.{◌≡◌};
 
 use crate::codes::{DONE, NO_NUMBER, NO_SECTOR, OUT_OF_ORDER, WRITTEN};
 use crate::reports::{self, CommandReport, PlaceReport, Totals};
-use durable::{Command, Core};
+use durable::{Command, Core, Extent};
 
 /// The core, and what has succeeded since the mount.
 #[derive(Drop)]
@@ -16,7 +16,7 @@ impl Layer {
     ghost use Rattle.std.specs.Prelude.{◌≢◌, ◌<◌, ◌+◌, ◌^◌, ◌==◌, if◌then◌else◌};
     ghost use Rattle.durable.specs.Device.{next_number_of};
     ghost use Rattle.durable_exports.specs.Reports.{no_totals, found_page};
-    ghost use Rattle.durable_exports.specs.Calls.{sector_code, IsNewestPageOf, IsCommandFor, IsDone};
+    ghost use Rattle.durable_exports.specs.Calls.{sector_code, extent_code, IsNewestPageOf, IsCommandFor, IsDone};
 
     /// A layer that was just mounted.
     pub(crate) fn new(core: Core) -> Layer
@@ -49,38 +49,38 @@ impl Layer {
         WRITTEN
     }
 
-    // The command that comes next for a sector.
-    pub(crate) fn next(&self, sector: u32, out: &mut CommandReport) -> u32
-        ensures code { result ≡ sector_code sector (if result == 31 then 31 else 0) self.now }
+    // The command that comes next for an extent.
+    pub(crate) fn next(&self, extent: Extent, out: &mut CommandReport) -> u32
+        ensures code { result ≡ extent_code extent (if result == 31 then 31 else 0) self.now }
         ensures progress { next_number_of self.now.core + 1 < 2 ^ 64 → result ≢ 31 }
-        ensures command { result ≡ 0 → IsCommandFor sector out.new self.now }
+        ensures command { result ≡ 0 → IsCommandFor extent out.new self.now }
         ensures same { result ≢ 0 → out.new ≡ out.old }
     {
-        if sector >= self.core.sectors() {
+        if !extent.lies_within(self.core.sectors() as usize) {
             return NO_SECTOR;
         }
-        let command = self.core.next(sector);
+        let command = self.core.next(extent);
         if command == Command::Refused {
             return NO_NUMBER;
         }
-        *out = reports::report(sector, command);
+        *out = reports::report(extent.first, command);
         DONE
     }
 
-    // Takes the success of the command that comes next for a sector.
-    pub(crate) fn done(&mut self, sector: u32, did: CommandReport) -> u32
-        ensures code { result ≡ sector_code sector (if result == 32 then 32 else 0) self.old }
-        ensures done { result ≡ 0 → IsDone sector did self.old self.new }
+    // Takes the success of the command that comes next for an extent.
+    pub(crate) fn done(&mut self, extent: Extent, did: CommandReport) -> u32
+        ensures code { result ≡ extent_code extent (if result == 32 then 32 else 0) self.old }
+        ensures done { result ≡ 0 → IsDone extent did self.old self.new }
         ensures same { result ≢ 0 → self.new ≡ self.old }
     {
-        if sector >= self.core.sectors() {
+        if !extent.lies_within(self.core.sectors() as usize) {
             return NO_SECTOR;
         }
-        let command = self.core.next(sector);
-        if did != reports::report(sector, command) {
+        let command = self.core.next(extent);
+        if did != reports::report(extent.first, command) {
             return OUT_OF_ORDER;
         }
-        self.core.done(sector, command);
+        self.core.done(extent, command);
         self.totals = self.totals.with(command);
         DONE
     }

@@ -1,23 +1,23 @@
-use durable::{Command, PageAddr, Stamp};
+use durable::{Command, Extent, PageAddr, Stamp};
 use std::alloc::{AllocError, Global};
 
-/// A version of a sector: its number, and its value, which is 0 for a trim.
+/// A version of an extent's sectors: its number, and its value, which is 0 for a trim.
 #[derive(Clone, Copy)]
 pub struct Version {
-    pub sector: u32,
+    pub extent: Extent,
     pub number: u64,
     pub value: u32,
 }
 
 impl Version {
     /// What a program for this call leaves.
-    pub fn of(sector: u32, command: Command, value: u32) -> Version {
+    pub fn of(extent: Extent, command: Command, value: u32) -> Version {
         let number = match command {
             Command::Program(_, number) => number,
             _ => 0,
         };
         Version {
-            sector,
+            extent,
             number,
             value,
         }
@@ -68,7 +68,7 @@ impl Flash {
     pub fn stamp(&self, at: PageAddr) -> Option<Stamp> {
         let version = self.at(at)?;
         Some(Stamp {
-            sector: version.sector,
+            extent: version.extent,
             number: version.number,
         })
     }

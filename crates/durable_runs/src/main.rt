@@ -5,13 +5,16 @@
 mod flash;
 mod random;
 
-use durable::{Command, Core, Mount};
+use durable::{Command, Core, Extent, Mount};
 use flash::{Flash, Version};
 use random::Random;
 
 const RUNS: u64 = 36;
 
 const CALLS: u64 = 60;
+
+// The most sectors of a trim.
+const LONGEST: u32 = 3;
 
 // Blocks, pages of a block, and sectors.
 const DEVICES: [(u32, u32, u32); 6] = [
@@ -42,18 +45,33 @@ fn play(
     println!(rt; "device {} {} {sectors}", flash.blocks, flash.pages)?;
     let mut core = mount(rt, &flash, sectors)?;
     for _ in 0..CALLS {
-        let sector = random.below(sectors);
-        let value = random.below(3);
-        println!(rt; "call {sector} {value}")?;
-        if value == 0 && !is_written(&core, &flash, sector) {
+        let (extent, value) = any_call(&mut random, sectors);
+        println!(rt; "call {} {} {value}", extent.first, extent.count)?;
+        if value == 0 && !is_any_written(&core, &flash, extent) {
             println!(rt; "nothing")?;
             continue;
         }
-        if !call(rt, &mut core, &mut flash, &mut random, sector, value)? {
+        if !call(rt, &mut core, &mut flash, &mut random, extent, value)? {
             core = mount(rt, &flash, sectors)?;
         }
     }
     Ok(())
+}
+
+// The sectors of a call, and their new value: none for a trim, which may be of several.
+fn any_call(random: &mut Random, sectors: u32) -> (Extent, u32) {
+    let first = random.below(sectors);
+    let value = random.below(3);
+    let more = if value == 0 {
+        random.below(LONGEST.min(sectors.saturating_sub(first)))
+    } else {
+        0
+    };
+    let extent = Extent {
+        first,
+        count: more.saturating_add(1),
+    };
+    (extent, value)
 }
 
 // Gives the commands of a call, and tells whether it came to its end without a cut.
@@ -62,29 +80,29 @@ fn call(
     core: &mut Core,
     flash: &mut Flash,
     random: &mut Random,
-    sector: u32,
+    extent: Extent,
     value: u32,
 ) -> anyhow::Result<bool> {
     for _ in 0..=flash.pages {
-        if sector >= core.sectors() {
+        if !extent.lies_within(core.sectors() as usize) {
             return Ok(false);
         }
-        let command = core.next(sector);
+        let command = core.next(extent);
         match command {
             Command::Program(at, number) => print!(rt;
                 "program {} {} {number} ",
                 at.block, at.page
             )?,
-            Command::Copy(_, from, to) => {
+            Command::Copy(sector, from, to) => {
                 print!(rt;
-                    "copy {} {} {} {} ",
+                    "copy {sector} {} {} {} {} ",
                     from.block, from.page, to.block, to.page
                 )?
             }
             Command::Erase(block) => print!(rt; "erase {block} ")?,
             Command::Refused => print!(rt; "refused ")?,
         }
-        let version = Version::of(sector, command, value);
+        let version = Version::of(extent, command, value);
         if random.below(12) == 0 {
             let part = random.below(729);
             println!(rt; "cut {part}")?;
@@ -93,12 +111,22 @@ fn call(
         }
         println!(rt; "done")?;
         flash.perform(command, version);
-        core.done(sector, command);
+        core.done(extent, command);
         if command.is_last() {
             return Ok(true);
         }
     }
     Ok(false)
+}
+
+// Whether a sector of the extent is written.
+fn is_any_written(core: &Core, flash: &Flash, extent: Extent) -> bool {
+    for sector in extent.first..extent.first.saturating_add(extent.count) {
+        if is_written(core, flash, sector) {
+            return true;
+        }
+    }
+    false
 }
 
 fn is_written(core: &Core, flash: &Flash, sector: u32) -> bool {

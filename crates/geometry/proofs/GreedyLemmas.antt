@@ -1,12 +1,9 @@
 -- The greedy choice: the relation of a chosen place to the others fixes what the search of the definition finds.
-use Rattle.std.proofs.Common.{◌≡◌, inl, inr, ℕ, zero, suc, ◌+◌, ◌<◌, ◌≤◌, Bool, true, false, not, ◌&&◌, ◌||◌, List, [], ◌∷◌}
-use Rattle.std.proofs.Common.{length, get_or, Option, None, Some, sym, ap, ◌∙◌, refl, arith, leb, subst}
-use Rattle.std.specs.List.{zip, position_or_len, list_all}
-use Rattle.std.proofs.lemmas.Bool.{false≢true, le-leb, leb-true, lt-ltb, le-ltb, and_from, and_parts, or_cases, cases_Bool}
-use Rattle.std.proofs.lemmas.Bool.{not-true, and_left, and_right, or_left, or_right, cases_lt, cases_eq, ltb-true}
-use Rattle.std.proofs.lemmas.List.Quantifiers.{position-Some}
-use Rattle.std.proofs.lemmas.List.Sums.{position_or_len_is}
-use Rattle.std.proofs.lemmas.List.{get_or_past}
+use Rattle.std.proofs.Common.{◌≡◌, inl, inr, ℕ, zero, suc, ◌+◌, ◌<◌, ◌≤◌, Bool, true, false, not, ◌&&◌, ◌||◌, List, [], ◌∷◌, length, get_or, Option, None, Some}
+use Rattle.std.proofs.Common.{sym, ap, ◌∙◌, refl, arith, leb, subst}
+use Rattle.std.{specs.List.zip, specs.List.position_or_len, specs.List.list_all, proofs.lemmas.List.Sums.position_or_len_is}
+use Rattle.std.proofs.lemmas.Bool.{false≢true, le-leb, leb-true, lt-ltb, le-ltb, and_from, and_parts, or_cases, cases_Bool, not-true, and_left, and_right}
+use Rattle.std.proofs.lemmas.{Bool.or_left, Bool.or_right, Bool.cases_lt, Bool.cases_eq, Bool.ltb-true, List.Quantifiers.position-Some, List.get_or_past}
 use Rattle.geometry.specs.Greedy.{greedy_of, IsClosed, IsGreedy, is_better_than}
 
 -- the pair at a place
@@ -178,11 +175,7 @@ BestBelow-takes counts closed i (Some b) h shut better =
 pub BestBelow-all : (counts : List ℕ) (closed : List Bool) (b : ℕ) → length counts ≡ length closed → IsBestBelow counts closed (length counts) b
     → IsGreedy counts closed b
 BestBelow-all counts closed b e h =
-    record {
-      is_closed = h.is_closed;
-      least = λ k is. h.least k (omega (arith, closed_below closed k is)) is;
-      lowest = h.lowest;
-    }
+    record { is_closed = h.is_closed; least = λ k is. h.least k (omega (arith, closed_below closed k is)) is; lowest = h.lowest }
 
 pub greedy_of-all : (counts : List ℕ) (closed : List Bool) (best : Option ℕ) → length counts ≡ length closed
     → BestBelow counts closed (length counts) best → best ≡ greedy_of counts closed

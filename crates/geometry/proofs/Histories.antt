@@ -1,10 +1,7 @@
 -- Laws of histories: one more call, and what the last call of a sector leaves there.
-use Rattle.std.proofs.Common.{◌≡◌, ℕ, ◌<◌, ◌≢◌, List, [], ◌∷◌, ◌++◌, None, Some, zero, suc, length, replicate}
-use Rattle.std.proofs.Common.{refl, sym, ◌∙◌, ap, arith, append_assoc, append-nil}
-use Rattle.std.proofs.Math.ListN.{get_or, length-set}
-use Rattle.std.specs.List.{fold}
-use Rattle.std.proofs.lemmas.List.{get_or-set_same, get_or-set_other, length-replicate}
-use Rattle.std.proofs.lemmas.List.Sums.{fold_push}
+use Rattle.std.proofs.Common.{◌≡◌, ℕ, ◌<◌, ◌≢◌, List, [], ◌∷◌, ◌++◌, None, Some, zero, suc, length, replicate, refl, sym, ◌∙◌, ap, arith, append_assoc}
+use Rattle.std.{proofs.Common.append-nil, proofs.Math.ListN.get_or, proofs.Math.ListN.length-set, specs.List.fold}
+use Rattle.std.proofs.lemmas.List.{get_or-set_same, get_or-set_other, length-replicate, Sums.fold_push}
 use Rattle.geometry.specs.Sectors.{Sector, sector_at}
 use Rattle.geometry.specs.History.{Call, Write, WriteNew, Trim, put_new, step, after, held, Begins}
 

@@ -1,12 +1,8 @@
 -- What the owners' additions, the readers' additions and the taking bit make of a pin word.
 use Rattle.std.proofs.Common.{◌≡◌, ℕ, ◌+◌, ◌-◌, ◌*◌, ◌%◌, ◌^◌, ◌<◌, ◌≤◌, ◌==◌, sym, refl, ap, ◌∙◌, arith}
-use Rattle.std.specs.Prelude.{if◌then◌else◌}
-use Rattle.std.specs.Int.Bits.{bit_or, or_block, or_zero_r}
-use Rattle.geometry.specs.MapWords.{FitsMap, map_word}
-use Rattle.geometry.specs.declared.map_word.MapWord.{MapWord}
-use Rattle.geometry.specs.PinWords.{FitsPin, phase_bits, pin_word, freed_added, kept_added}
-use Rattle.geometry.specs.declared.pin_word.PinWord.{PinWord}
-use Rattle.geometry.specs.declared.pin_word.Phase.{Phase}
+use Rattle.std.specs.{Prelude.if◌then◌else◌, Int.Bits.bit_or, Int.Bits.or_block, Int.Bits.or_zero_r}
+use Rattle.geometry.specs.{MapWords.FitsMap, MapWords.map_word, declared.map_word.MapWord.MapWord, declared.pin_word.PinWord.PinWord}
+use Rattle.geometry.specs.{PinWords.FitsPin, PinWords.phase_bits, PinWords.pin_word, PinWords.freed_added, PinWords.kept_added, declared.pin_word.Phase.Phase}
 use Rattle.geometry.specs.declared.pin_word.Phase.TheVariants.{Free, Open, Closed, Victim, Drained, Erasing, Retired}
 use Rattle.geometry.specs.declared.pin_word.TheConstants.{TAKEN, NEXT_PHASE, PAGE_WRITTEN, PHASES, PAGES_WRITTEN}
 

@@ -1,8 +1,6 @@
 -- The numbers of a `Geometry`, which other crates' clauses name by these functions.
 use Rattle.std.specs.Prelude.{ℕ, ◌*◌, ◌/◌}
-use Rattle.geometry.specs.declared.geometry.DeviceNumbers.{DeviceNumbers}
-use Rattle.geometry.specs.declared.geometry.Geometry.{Geometry}
-use Rattle.geometry.specs.Limits.{numbers, Numbers}
+use Rattle.geometry.specs.{declared.geometry.DeviceNumbers.DeviceNumbers, declared.geometry.Geometry.Geometry, Limits.numbers, Limits.Numbers}
 
 -- how many LUNs a device has
 abbrev pub luns_of : Geometry → ℕ

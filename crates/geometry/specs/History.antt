@@ -1,8 +1,6 @@
 -- The history of an array of sectors: the calls that change it, in order.
-use Rattle.std.specs.Prelude.{◌≡◌, ℕ, List, None, Some, ◌++◌, slice_set, replicate}
-use Rattle.std.specs.List.{fold}
-use Rattle.geometry.specs.declared.answer.Was.{Was}
-use Rattle.geometry.specs.Sectors.{Sector, sector_at, was_of}
+use Rattle.std.specs.{Prelude.◌≡◌, Prelude.ℕ, Prelude.List, Prelude.None, Prelude.Some, Prelude.◌++◌, Prelude.slice_set, Prelude.replicate, List.fold}
+use Rattle.geometry.specs.{declared.answer.Was.Was, Sectors.Sector, Sectors.sector_at, Sectors.was_of}
 
 -- a call that may change the array: the number of the pass that makes it, the sector, and for a write the value. A write of an empty sector
 -- takes effect only if the sector is empty

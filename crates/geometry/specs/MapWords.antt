@@ -1,8 +1,7 @@
 -- The word of a sector. The fields are numerals here, so that the constants of the code have to equal them: the page has bits 0 to 15, the
 -- block bits 16 to 31, the generation bits 32 to 62, and bit 63 is set.
 use Rattle.std.specs.Prelude.{ℕ, ◌+◌, ◌*◌, ◌<◌}
-use Rattle.geometry.specs.Limits.{Numbers}
-use Rattle.geometry.specs.declared.map_word.MapWord.{MapWord}
+use Rattle.geometry.specs.{Limits.Numbers, declared.map_word.MapWord.MapWord}
 
 -- the fields fit in a word
 pub record FitsMap (m : MapWord) : Type 0 where

@@ -1,6 +1,5 @@
 -- A page's bytes as 64-bit words: byte 8i + j of a page is bits 8j to 8j + 7 of its word i.
-use Rattle.std.specs.Prelude.{ℕ, ◌+◌, ◌*◌, List, ◌++◌, take, drop}
-use Rattle.std.specs.Int.{from_le_bytes, to_le_bytes, w64}
+use Rattle.std.specs.{Prelude.ℕ, Prelude.◌+◌, Prelude.◌*◌, Prelude.List, Prelude.◌++◌, Prelude.take, Prelude.drop, Int.from_le_bytes, Int.to_le_bytes, Int.w64}
 
 -- word i of a page
 abbrev pub word_of : List ℕ → ℕ → ℕ

@@ -1,10 +1,8 @@
 -- The word of a block. The fields are numerals here, so that the constants of the code have to equal them: the readers have bits 0 to 11,
 -- the phase bits 12 to 15, the pages written bits 16 to 31, and the generation bits 32 to 63.
 use Rattle.std.specs.Prelude.{◌≡◌, ℕ, ◌+◌, ◌-◌, ◌*◌, ◌<◌, ◌≤◌}
-use Rattle.geometry.specs.Limits.{Numbers}
-use Rattle.geometry.specs.declared.pin_word.Phase.{Phase}
+use Rattle.geometry.specs.{Limits.Numbers, declared.pin_word.Phase.Phase, declared.pin_word.PinWord.PinWord}
 use Rattle.geometry.specs.declared.pin_word.Phase.TheVariants.{Free, Open, Closed, Victim, Drained, Erasing, Retired}
-use Rattle.geometry.specs.declared.pin_word.PinWord.{PinWord}
 
 -- the phase as a number that is added to the word: a free block's bits are clear, and a taken block's phase counts up by 8192 from bit 12
 abbrev pub phase_bits : Phase → ℕ

@@ -1,8 +1,7 @@
 -- The array of sectors, as a host sees it. It knows no page, block or word.
 use Rattle.std.specs.Prelude.{◌≡◌, ℕ, List, Option, None, Some, slice_index_or}
-use Rattle.geometry.specs.declared.answer.Got.{Got}
+use Rattle.geometry.specs.declared.answer.{Got.Got, Was.Was}
 use Rattle.geometry.specs.declared.answer.Got.TheVariants as got
-use Rattle.geometry.specs.declared.answer.Was.{Was}
 use Rattle.geometry.specs.declared.answer.Was.TheVariants as was
 
 -- a sector is empty, or holds a value: the bytes of one page

@@ -1,4 +1,4 @@
-ghost use Rattle.std.specs.Prelude.{◌≡◌, ◌↔◌, ◌/◌, ◌≤◌, ◌<◌, ◌*◌, IsOk, IfOk, IfErr, None, Some};
+ghost use Rattle.std.specs.Prelude.{◌≡◌, ◌/◌, ◌≤◌, ◌<◌, ◌*◌, IfOk, IfErr, None, Some};
 
 use crate::fault::GeometryFault;
 use crate::limits::{

@@ -1,8 +1,6 @@
 //! The word of a sector in the shared table: which page holds the sector's data.
 ghost use Rattle.std.specs.Prelude.{◌≡◌, ◌<◌, IfSome, IfNone, Some};
-ghost use Rattle.geometry.specs.Geometry.{numbers_of};
-ghost use Rattle.geometry.specs.MapWords.{FitsMap, IsPageOf, map_word};
-ghost use Rattle.geometry.specs.declared.map_word.MapWord.{MapWord};
+ghost use Rattle.geometry.specs.{Geometry.numbers_of, MapWords.FitsMap, MapWords.IsPageOf, MapWords.map_word, declared.map_word.MapWord.MapWord};
 
 use crate::geometry::Geometry;
 use std::fmt;

@@ -1,7 +1,6 @@
 //! The word of a block in the shared table: who reads it, and in which state it is.
 ghost use Rattle.std.specs.Prelude.{◌≡◌, ◌≢◌, ◌<◌, IfSome, IfNone, Some};
-ghost use Rattle.geometry.specs.declared.pin_word.PinWord.{PinWord};
-ghost use Rattle.geometry.specs.Geometry.{numbers_of};
+ghost use Rattle.geometry.specs.{declared.pin_word.PinWord.PinWord, Geometry.numbers_of};
 ghost use Rattle.geometry.specs.PinWords.{FitsPin, IsStateOf, phase_bits, pin_word, freed_added, kept_added};
 
 use crate::geometry::Geometry;

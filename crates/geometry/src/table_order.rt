@@ -1,8 +1,7 @@
 //! Where the words of a shared device are in its table. The map word of sector s is word s.
 ghost use Rattle.std.specs.Prelude.{◌≡◌, ◌+◌, ◌≤◌, ◌<◌};
 ghost use Rattle.geometry.specs.Geometry.{numbers_of, blocks_of, pages_of, words_of, sectors_of};
-ghost use Rattle.geometry.specs.Limits.{table_words_of};
-ghost use Rattle.geometry.specs.TableOrder.{pin_index, page_index};
+ghost use Rattle.geometry.specs.{Limits.table_words_of, TableOrder.pin_index, TableOrder.page_index};
 
 use crate::geometry::Geometry;
 use crate::page_addr::PageAddr;

@@ -6,3 +6,4 @@ pub mod Mounted
 pub mod Readings
 pub mod Pages
 pub mod Chips
+pub mod Programs

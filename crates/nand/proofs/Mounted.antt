@@ -1,14 +1,17 @@
 -- What a mount reads, and that it comes to its end.
-use Rattle.std.proofs.Common.{◌≡◌, ◌≢◌, ◌⊎◌, inl, inr, ⊎_elim, ◌+◌, ◌-◌, ◌*◌, ◌<◌, ◌≤◌, ◌∙◌, ℕ, zero, suc, Option, Some, None, refl, sym, ap, subst, arith}
+use Rattle.std.proofs.Common.{◌≡◌, ◌≢◌, ◌⊎◌, inl, inr, ⊎_elim, ◌+◌, ◌-◌, ◌*◌, ◌<◌, ◌≤◌, ◌∙◌, ℕ, zero, suc, Option}
+use Rattle.std.proofs.Common.{Some, None, IfSome, refl, sym, ap, subst, arith}
 use Rattle.std.proofs.lemmas.Bool.{cases_lt}
 use Rattle.std.proofs.lemmas.Bool.Decides.{nat_tests}
 use Rattle.geometry.specs.Sectors.{Sector}
 use Rattle.geometry.specs.declared.page_addr.PageAddr.{PageAddr}
+use Rattle.durable.specs.declared.extent.Extent.{Extent}
 use Rattle.durable.specs.Flash.{Flash, PageContents, Erased, Torn, Version}
 use Rattle.durable.specs.Device.{Device, device_in}
 use Rattle.durable.specs.Mounting.{IsStampOf, page_on, next_in, after_in}
 use Rattle.durable.specs.Collecting.{HasCapacity}
 use Rattle.durable.specs.declared.fault.MountFault.TheVariants as mount_fault
+use Rattle.durable.specs.declared.found.Stamp.{Stamp as Noted}
 use Rattle.durable.specs.declared.mount.Mount.{Mount}
 use Rattle.durable.proofs.Cells.{erased_holds_none, torn_holds_none}
 use Rattle.nand.specs.declared.failure.OpenFailure.{OpenFailure}
@@ -18,7 +21,7 @@ use Rattle.nand.specs.declared.flash.Reading.TheVariants as outcome
 use Rattle.nand.specs.Nand.{ReadsStamp, IsNoVersion, noted_of}
 
 -- a page that is read as no version is none
-none_noted : (f : Flash) (b p : ℕ) (reading : Reading) → IsNoVersion reading → ((s m : ℕ) (v : Sector) → f b p ≡ Version s m v → ⊥)
+none_noted : (f : Flash) (b p : ℕ) (reading : Reading) → IsNoVersion reading → ((s : Extent) (m : ℕ) (v : Sector) → f b p ≡ Version s m v → ⊥)
     → IsStampOf f b p (noted_of reading)
 none_noted f b p (outcome.Version stamp) none holds = absurd none
 none_noted f b p outcome.Erased none holds = holds
@@ -32,6 +35,11 @@ noted_at f b p Torn is reading reads = none_noted f b p reading reads (λ s m v 
 -- the stamp that is noted is the page's
 pub noted : (f : Flash) (b p : ℕ) (reading : Reading) → ReadsStamp (f b p) reading → IsStampOf f b p (noted_of reading)
 noted f b p reading reads = noted_at f b p (f b p) refl reading reads
+
+-- the stamp of the page that comes next, as it is noted
+pub next_noted : (f : Flash) (next : Option PageAddr) (at : PageAddr) (reading : Reading) (told : Option Noted) → next ≡ Some at
+    → told ≡ noted_of reading → ReadsStamp (f at.block at.page) reading → IfSome next (λ a. IsStampOf f a.block a.page told)
+next_noted f next at reading told is noting reads = rw (is, noting) (noted f at.block at.page reading reads)
 
 -- how many pages are still to be read, from this one on
 abbrev pub unread : ℕ → ℕ → Option PageAddr → ℕ

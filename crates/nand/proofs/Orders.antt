@@ -17,15 +17,16 @@ use Rattle.durable.specs.Collecting.{HasCapacity}
 use Rattle.durable.specs.Failures.{IsRenumbered, swapped}
 use Rattle.durable.specs.Promise.{IsRecoverable}
 use Rattle.durable.specs.Spare.{IsDuplicated}
-use Rattle.durable.specs.Updates.{Update}
-use Rattle.durable.proofs.Cells.{erased_holds_none}
-use Rattle.durable.proofs.Promises.{erased_recoverable, held_before, readable, readable_renumbered, written_renumbered}
+use Rattle.durable.specs.declared.extent.Extent.{Extent}
+use Rattle.durable.specs.Updates.{Update, sole}
+use Rattle.durable.proofs.Cells.{erased_holds_none, erased_has_none}
+use Rattle.durable.proofs.Promises.{erased_recoverable, version_before, readable, readable_renumbered, written_renumbered}
 use Rattle.durable.proofs.Reserves.{swapped_first, swapped_other, swapped_second, swapped_twice, swapped_within}
 use Rattle.nand.specs.declared.flash.Fault.{Fault}
 use Rattle.nand.specs.declared.flash.Shape.{Shape}
 use Rattle.nand.specs.Nand.{Performs}
 use Rattle.nand.specs.Numbers.{IsOrder, IsOrderTo, chip_block, chip_page, good_before, is_marked, most_in_use, numbered}
-use Rattle.nand.specs.Opened.{IsOpenable, IsReserveBlank, device_on, most_used, used_blocks}
+use Rattle.nand.specs.Opened.{IsOpenable, IsReserveBlank, device_on, most_used}
 
 -- the order as it is made
 pub first_order : (numbers : List ℕ) (bad : List Bool) (blocks : ℕ) → ((c : ℕ) → chip_block numbers c ≡ c) → IsOrderTo numbers bad blocks 0
@@ -91,13 +92,6 @@ has_pages : (sectors blocks pages : ℕ) → sectors < blocks * pages → 0 < pa
 has_pages sectors blocks zero lt = absurd (omega (arith, lt))
 has_pages sectors blocks (suc pages) lt = omega arith
 
--- how many blocks are in use
-pub used_is : (used good sectors : ℕ) (a b c : Shape) (bad : List Bool) → used ≡ min good (most_in_use a.blocks a.pages sectors) → a ≡ b → b ≡ c
-    → good ≡ good_before bad c.blocks → used ≡ used_blocks c bad sectors
-used_is used good sectors a b c bad is first second all =
-    is ∙ (ap (λ (s : Shape). min good (most_in_use s.blocks s.pages sectors)) (first ∙ second)
-    ∙ ap (λ (n : ℕ). min n (most_in_use c.blocks c.pages sectors)) all)
-
 -- the sectors fit in the blocks in use if they fit in all good ones
 pub capacity_of_used : (sectors good blocks pages : ℕ) → HasCapacity sectors good pages
     → HasCapacity sectors (min good (most_in_use blocks pages sectors)) pages
@@ -138,7 +132,7 @@ erased_opens f shape bad sectors erased some =
         good.0,
         good.1,
         (good.2, omega (arith, good.3, at_least_two shape sectors)),
-        λ s p v lt newest. absurd (erased_holds_none s newest.number v (sym (erased good.0 p) ∙ newest.held)),
+        λ s p v lt newest. absurd (erased_has_none f good.0 p s newest.number v (erased good.0 p) newest.held),
       );
       blank = λ b lt is p s n v held. erased_holds_none s n v (sym (erased b p) ∙ held);
     }
@@ -255,15 +249,15 @@ module _ (f t : Flash) (blocks sectors : ℕ) (r : IsRenumbered f t blocks) (who
   newest_there : (s b p : ℕ) (v : Sector) → HoldsNewest f s v b p → HoldsNewest t s v (r.to b) p
   newest_there s b p v is = record {
     number = is.number;
-    held = r.moved b p ∙ is.held;
-    newest = λ c q m w e. is.newest (r.from c) q m w (held_before f t blocks r c q s m w e);
+    held = (is.held.0, r.moved b p ∙ is.held.1, is.held.2);
+    newest = λ c q m w e. is.newest (r.from c) q m w (version_before f t blocks r c q s m w e);
   }
 
   newest_before : (s b p : ℕ) (v : Sector) → HoldsNewest t s v (r.to b) p → HoldsNewest f s v b p
   newest_before s b p v is = record {
     number = is.number;
-    held = sym (r.moved b p) ∙ is.held;
-    newest = λ c q m w e. is.newest (r.to c) q m w (r.moved c q ∙ e);
+    held = (is.held.0, sym (r.moved b p) ∙ is.held.1, is.held.2);
+    newest = λ c q m w e. is.newest (r.to c) q m w (e.0, r.moved c q ∙ e.1, e.2);
   }
 
   pub duplicated_there : (b : ℕ) → IsDuplicated f sectors b → IsDuplicated t sectors (r.to b)
@@ -339,7 +333,7 @@ module _ (f t : Flash) (numbers : List ℕ) (bad : List Bool) (blocks : ℕ) (is
   on_err (Ok v) to h = tt
   on_err (Err e) to h = to h
 
-  pub programs_there : (at : PageAddr) (n s : ℕ) (v : Sector) (r : Result (Unit {0}) Fault)
+  pub programs_there : (at : PageAddr) (n : ℕ) (s : Extent) (v : Sector) (r : Result (Unit {0}) Fault)
       → Performs (Program (chip_page numbers at) n) s v r f t → Performs (Program at n) s v r (numbered numbers f) (numbered numbers t)
   programs_there at n s v r does allowed =
       let done = does allowed in (
@@ -349,8 +343,8 @@ module _ (f t : Flash) (numbers : List ℕ) (bad : List Bool) (blocks : ℕ) (is
             (λ put. inr (sets_there at.block at.page (Version s n v) put)) more)) cut) done.1,
       )
 
-  pub copies_there : (k : ℕ) (from to : PageAddr) (s : ℕ) (v : Sector) (r : Result (Unit {0}) Fault)
-      → Performs (Copy 0 (chip_page numbers from) (chip_page numbers to)) 0 None r f t
+  pub copies_there : (k : ℕ) (from to : PageAddr) (s : Extent) (v : Sector) (r : Result (Unit {0}) Fault)
+      → Performs (Copy 0 (chip_page numbers from) (chip_page numbers to)) (sole 0) None r f t
       → Performs (Copy k from to) s v r (numbered numbers f) (numbered numbers t)
   copies_there k from to s v r does allowed =
       let done = does allowed in
@@ -361,7 +355,7 @@ module _ (f t : Flash) (numbers : List ℕ) (bad : List Bool) (blocks : ℕ) (is
             (λ put. inr (sets_there to.block to.page x put)) more)) cut) done.1,
       )
 
-  pub erases_there : (b s : ℕ) (v : Sector) (r : Result (Unit {0}) Fault) → Performs (Erase (chip_block numbers b)) 0 None r f t
+  pub erases_there : (b : ℕ) (s : Extent) (v : Sector) (r : Result (Unit {0}) Fault) → Performs (Erase (chip_block numbers b)) (sole 0) None r f t
       → Performs (Erase b) s v r (numbered numbers f) (numbered numbers t)
   erases_there b s v r does allowed =
       let done = does allowed in (

@@ -6,6 +6,7 @@ use Rattle.std.proofs.lemmas.List.{get_or-set_same, get_or-set_other, get_or_pas
 use Rattle.std.specs.Vec.{with_item, with_items}
 use Rattle.std.specs.declared.alloc.Global.{Global}
 use Rattle.geometry.specs.Sectors.{Sector}
+use Rattle.durable.specs.declared.extent.Extent.{Extent}
 use Rattle.durable.specs.Flash.{Version, SetsPage, LosesPages}
 use Rattle.nand.specs.declared.cells.Page.{Page}
 use Rattle.nand.specs.declared.cells.Page.TheVariants as page
@@ -68,7 +69,7 @@ wipes_items bs b n old pages lt size end empty = wipes_block bs b (with_items ol
 
 -- each version in the pages was there before
 abbrev pub KeepsVersions : List Page → List Page → Type 0
-KeepsVersions old new = (p s n : ℕ) (v : Sector) → contents_of (get_or new p page.Erased) ≡ Version s n v
+KeepsVersions old new = (p : ℕ) (s : Extent) (n : ℕ) (v : Sector) → contents_of (get_or new p page.Erased) ≡ Version s n v
     → contents_of (get_or old p page.Erased) ≡ Version s n v
 
 pub loses_items : (bs : List Pages) (b : ℕ) (old : Pages) (pages : List Page) → b < length bs → old ≡ get_or bs b old → length pages ≡ old.len

@@ -2,8 +2,8 @@
 use Rattle.std.proofs.Common.{◌≡◌, ◌≢◌, ◌⊎◌, ◌∙◌, inl, inr, ⊎_elim, Result, Err, ◌+◌, ◌<◌, ◌≤◌, ℕ, zero, suc, Bool, true, false, List, ◌∷◌, min, if◌then◌else◌}
 use Rattle.std.proofs.Common.{refl, sym, ap, subst, arith}
 use Rattle.std.proofs.lemmas.Bool.{cases_eq, cases_lt, false≢true}
-use Rattle.std.proofs.lemmas.Bool.Decides.{nat_tests}
 use Rattle.geometry.specs.Sectors.{Sector}
+use Rattle.durable.specs.declared.extent.Extent.{Extent}
 use Rattle.durable.specs.declared.command.Command.{Command}
 use Rattle.durable.specs.declared.command.Command.TheVariants.{Program, Copy, Erase, Refused}
 use Rattle.durable.specs.declared.memory.Core.{Core}
@@ -15,6 +15,7 @@ use Rattle.durable.specs.Memory.{Represents}
 use Rattle.durable.specs.Promise.{IsConsistent, IsReadable, IsRecoverable}
 use Rattle.durable.specs.Updates.{Makes, Update, array_after, changed}
 use Rattle.durable.proofs.Exact.{before_or_after}
+use Rattle.durable.proofs.Extents.{cases_covered, changed_elsewhere, changed_here}
 use Rattle.durable.proofs.Reserves.{untouched}
 use Rattle.durable.proofs.Subsequences.{all_of, between_same}
 use Rattle.nand.specs.declared.failure.Failure.{Failure}
@@ -92,7 +93,7 @@ module _ (f : Flash) (shape : Shape) (bad marks : List Bool) (numbers : List ℕ
           b,
           within,
           (is.1 b other ∙ good, omega (arith, fewer_good bad marks d is failed b after, first)),
-          λ s p v few newest. absurd (blank b within (good, omega (arith, first)) p s newest.number v newest.held),
+          λ s p v few newest. absurd (blank b within (good, omega (arith, first)) p newest.held.0 newest.number v newest.held.1),
         );
         blank = λ c few reserved. blank c few (still_good bad marks d is c reserved.0, omega (arith, reserved.1, no_more_good bad marks d is c));
       }
@@ -104,7 +105,7 @@ in_use device (Copy k from to) b names is = omega (arith, names.1.0, is)
 in_use device (Erase c) b names is = omega (arith, names, is)
 in_use device Refused b names is = absurd is
 
-pub blank_after : (f t : Flash) (shape : Shape) (bad : List Bool) (numbers : List ℕ) (sectors : ℕ) (m : Command) (s : ℕ) (value : Sector)
+pub blank_after : (f t : Flash) (shape : Shape) (bad : List Bool) (numbers : List ℕ) (sectors : ℕ) (m : Command) (s : Extent) (value : Sector)
     → IsOrder numbers bad shape.blocks → NamesOn (device_on shape bad sectors) m → CutLeaves m s value (numbered numbers f) (numbered numbers t)
     → IsReserveBlank f shape bad sectors → IsReserveBlank t shape bad sectors
 blank_after f t shape bad numbers sectors m s value order names cut blank b lt reserved p k n v held =
@@ -137,11 +138,14 @@ reserve_there old new r t a b x y same device chip marks is = omega (
 )
 
 -- an update that is made twice is made once
-twice_at : (array : ℕ → Sector) (s : ℕ) (value : Sector) (k : ℕ) → changed (changed array s value) s value k ≡ changed array s value k
-twice_at array s value k = ⊎_elim (λ here. grind (arith, nat_tests, here)) (λ differs. grind (arith, nat_tests)) (cases_eq k s)
+twice_at : (array : ℕ → Sector) (s : Extent) (value : Sector) (k : ℕ) → changed (changed array s value) s value k ≡ changed array s value k
+twice_at array s value k = ⊎_elim
+    (λ has. changed_here (changed array s value) s value k has ∙ sym (changed_here array s value k has))
+    (λ out. changed_elsewhere (changed array s value) s value k out)
+    (cases_covered s k)
 
 twice : (update : Update) (updates : List Update) → array_after (update ∷ update ∷ updates) ≡ array_after (update ∷ updates)
-twice update updates = λ i k. twice_at (array_after updates) update.sector update.value k i
+twice update updates = λ i k. twice_at (array_after updates) update.extent update.value k i
 
 pub readable_once : (f : Flash) (device : Device) (update : Update) (updates : List Update)
     → IsReadable f device (update ∷ update ∷ updates) (update ∷ update ∷ updates) → IsReadable f device (update ∷ updates) (update ∷ updates)

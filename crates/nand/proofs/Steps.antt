@@ -2,9 +2,9 @@
 use Rattle.std.proofs.Common.{◌≡◌, ◌≢◌, ◌⊎◌, ◌∙◌, inl, ⊎_elim, ◌+◌, ◌-◌, ◌%◌, ◌^◌, ◌<◌, ℕ, Bool, true, false}
 use Rattle.std.proofs.Common.{List, ◌∷◌, None, Some, Result, Ok, Err, OnOk, IfErr, sym, refl}
 use Rattle.std.proofs.Common.{ap, subst, arith}
-use Rattle.std.proofs.lemmas.Bool.{cases_eq, false≢true}
-use Rattle.std.proofs.lemmas.Bool.Decides.{nat_tests}
+use Rattle.std.proofs.lemmas.Bool.{false≢true}
 use Rattle.geometry.specs.Sectors.{Sector, was_of}
+use Rattle.geometry.specs.declared.answer.Was.{Was}
 use Rattle.geometry.specs.declared.answer.Was.TheVariants as was
 use Rattle.durable.specs.declared.command.Command.{Command}
 use Rattle.durable.specs.declared.command.Command.TheVariants.{Program, Copy, Erase, Refused}
@@ -15,7 +15,9 @@ use Rattle.durable.specs.Device.{Device, device_of}
 use Rattle.durable.specs.Flash.{Flash}
 use Rattle.durable.specs.Promise.{IsConsistent, IsRecoverable}
 use Rattle.durable.specs.Memory.{Represents}
-use Rattle.durable.specs.Updates.{Update, array_after, changed}
+use Rattle.durable.specs.declared.extent.Extent.{Extent}
+use Rattle.durable.specs.Updates.{Covers, Update, array_after, changed}
+use Rattle.durable.proofs.Extents.{cases_covered, changed_here, changed_elsewhere}
 use Rattle.durable.proofs.Promises.{survives_idle_cut}
 use Rattle.nand.specs.declared.failure.Failure.{Failure}
 use Rattle.nand.specs.declared.failure.Failure.TheVariants as failure
@@ -26,7 +28,10 @@ use Rattle.nand.specs.declared.layer.Durable.{Durable}
 use Rattle.nand.specs.Numbers.{IsOrder, good_before, is_marked, numbered}
 use Rattle.nand.specs.Opened.{CanOpen, Fails, HasMarkedFailed, IsOpenLayer, IsSameDevice, IsSpent, IsTrueCause, KeepsDevice, device_on}
 use Rattle.nand.specs.Opened.{layer_sectors, number_of, update_of}
+use Rattle.nand.specs.Looks.{Looks}
+use Rattle.nand.specs.Programs.{ProgramsOnce}
 use Rattle.nand.proofs.Orders.{openable}
+use Rattle.nand.proofs.Programs.{adds_there}
 use Rattle.durable.proofs.Subsequences.{all_of, between_same}
 
 -- the program adds its update, and no other command does
@@ -71,12 +76,6 @@ pub device_there : (core : Core) (a b : Shape) (x y : List Bool) (sectors : ℕ)
 device_there core a b x y sectors is chip marks = is ∙ (ap (λ (s : Shape). device_on s x sectors) (sym chip)
     ∙ (ap (λ (m : List Bool). device_on b m sectors) (sym marks) ∙ ap (λ (d : Device). device_on b y d.sectors) (sym is)))
 
--- what a mount needs, of a chip after something that changed nothing
-pub recoverable_after : (f g : Flash) {d e : Device} (numbers : List ℕ) (updates : List Update) → g ≡ f → e ≡ d
-    → IsRecoverable (numbered numbers f) d updates updates → IsRecoverable (numbered numbers g) e updates updates
-recoverable_after f g {d} {e} numbers updates same device is = subst (λ (x : Flash). IsRecoverable (numbered numbers x) e updates updates) (sym same)
-    (subst (λ (x : Device). IsRecoverable (numbered numbers f) x updates updates) (sym device) is)
-
 -- the order is that of the chip as before
 pub same_order : (numbers : List ℕ) (a b : Shape) (x y : List Bool) → b ≡ a → y ≡ x → IsOrder numbers x a.blocks → IsOrder numbers y b.blocks
 same_order numbers a b x y chip marks is = subst (λ (m : List Bool). IsOrder numbers m b.blocks) (sym marks)
@@ -103,93 +102,114 @@ fails_open {N} flash shape bad old new update updates cause is sectors readable 
   spent = λ failed. absurd (other failed);
 }
 
--- an update that failed after something that changed nothing
-pub fails_after : {N : Type 0} (flash : N → Flash) (shape : N → Shape) (bad : N → List Bool) (old mid new : Durable N) (update : Update) (updates : List Update)
-    (cause : Failure) → layer_sectors mid ≡ layer_sectors old → Fails flash shape bad mid new update updates cause
-    → Fails flash shape bad old new update updates cause
-fails_after {N} flash shape bad old mid new update updates cause sectors fails = record {
-  reopens = subst (λ (n : ℕ). CanOpen flash shape bad new.nand n updates ⊎ CanOpen flash shape bad new.nand n (update ∷ updates)) sectors fails.reopens;
-  refused = fails.refused;
-  stays = fails.stays;
-  readable = fails.readable;
-  spent = λ failed. subst (λ (n : ℕ). IsSpent (shape new.nand) (bad new.nand) n (number_of new)) sectors (fails.spent failed);
-}
+pub if_err : {T : Type 0} {P Q : Failure → Type 0} (result : Result T Failure) → ((cause : Failure) → P cause → Q cause) → IfErr result P → IfErr result Q
+if_err {T} {P} {Q} (Ok v) to is = tt
+if_err {T} {P} {Q} (Err cause) to is = to cause is
 
-pub if_fails_after : {N : Type 0} (flash : N → Flash) (shape : N → Shape) (bad : N → List Bool) (old mid new : Durable N) (update : Update)
-    (updates : List Update) (result : Result (Unit {0}) Failure) → layer_sectors mid ≡ layer_sectors old
-    → IfErr result (Fails flash shape bad mid new update updates) → IfErr result (Fails flash shape bad old new update updates)
-if_fails_after {N} flash shape bad old mid new update updates (Ok v) sectors fails = tt
-if_fails_after {N} flash shape bad old mid new update updates (Err cause) sectors fails =
-    fails_after flash shape bad old mid new update updates cause sectors fails
+pub if_ok : {T P Q : Type 0} (result : Result T Failure) → (P → Q) → OnOk result P → OnOk result Q
+if_ok {T} {P} {Q} (Ok v) to is = to is
+if_ok {T} {P} {Q} (Err cause) to is = tt
 
--- a cause that is true of a layer, after something that changed nothing
-pub true_after : {N : Type 0} (faults : N → Fault → ℕ) (old mid new : Durable N) (cause : Failure) → mid.mounted ≡ old.mounted
-    → number_of mid ≡ number_of old → ((c : Fault) → faults mid.nand c ≡ faults old.nand c) → IsTrueCause faults mid new cause
-    → IsTrueCause faults old new cause
-true_after {N} faults old mid new failure.PowerGone mounted number same is = λ e. is (e ∙ sym (same fault.PowerGone))
-true_after {N} faults old mid new failure.Failed mounted number same is = λ e. is (e ∙ sym (same fault.Failed))
-true_after {N} faults old mid new failure.OutOfMemory mounted number same is = λ e. is (e ∙ sym (same fault.Failed))
-true_after {N} faults old mid new failure.Closed mounted number same is = sym mounted ∙ is
-true_after {N} faults old mid new failure.NoNumber mounted number same is = omega (arith, number, is)
-true_after {N} faults old mid new failure.Written mounted number same is = tt
-true_after {N} faults old mid new failure.Lost mounted number same is = tt
+-- after a look that found something
+module _ {N : Type 0} {flash : N → Flash} {shape : N → Shape} {bad : N → List Bool} {faults : N → Fault → ℕ} {old mid : Durable N} {had : Was}
+    (looks : Looks flash shape bad faults old mid (Ok had)) where
+  -- an update that failed
+  pub fails_after : {new : Durable N} {update : Update} {updates : List Update} {cause : Failure} → Fails flash shape bad mid new update updates cause
+      → Fails flash shape bad old new update updates cause
+  fails_after {new} {update} {updates} {cause} fails =
+      let sectors = looks.device.sectors in
+      record {
+        reopens = subst (λ (n : ℕ). CanOpen flash shape bad new.nand n updates ⊎ CanOpen flash shape bad new.nand n (update ∷ updates)) sectors
+            fails.reopens;
+        refused = fails.refused;
+        stays = fails.stays;
+        readable = fails.readable;
+        spent = λ failed. subst (λ (n : ℕ). IsSpent (shape new.nand) (bad new.nand) n (number_of new)) sectors (fails.spent failed);
+      }
 
-pub if_true_after : {N : Type 0} (faults : N → Fault → ℕ) (old mid new : Durable N) (result : Result (Unit {0}) Failure) → mid.mounted ≡ old.mounted
-    → number_of mid ≡ number_of old → ((c : Fault) → faults mid.nand c ≡ faults old.nand c) → IfErr result (IsTrueCause faults mid new)
-    → IfErr result (IsTrueCause faults old new)
-if_true_after {N} faults old mid new (Ok v) mounted number same is = tt
-if_true_after {N} faults old mid new (Err cause) mounted number same is = true_after faults old mid new cause mounted number same is
+  -- a cause that is true of the layer
+  pub true_after : (new : Durable N) (cause : Failure) → IsTrueCause faults mid new cause → IsTrueCause faults old new cause
+  true_after new failure.PowerGone is = λ e. is (e ∙ sym (looks.counts fault.PowerGone))
+  true_after new failure.Failed is = λ e. is (e ∙ sym (looks.counts fault.Failed))
+  true_after new failure.OutOfMemory is = λ e. is (e ∙ sym (looks.counts fault.Failed))
+  true_after new failure.Closed is = sym looks.mounted ∙ is
+  true_after new failure.NoNumber is = omega (arith, looks.number, is)
+  true_after new failure.Written is = tt
+  true_after new failure.Lost is = tt
 
--- a device that was left as it was, before a call
-pub keeps_same : {N : Type 0} (shape : N → Shape) (bad : N → List Bool) (faults : N → Fault → ℕ) (old new : Durable N)
+  -- a device that was kept
+  pub keeps_after : {new : Durable N} → KeepsDevice shape bad faults mid new → KeepsDevice shape bad faults old new
+  keeps_after {new} keeps =
+      let same = looks.device in
+      record {
+        sectors = keeps.sectors ∙ same.sectors;
+        chip = keeps.chip ∙ same.chip;
+        marks = λ b is. keeps.marks b (ap (λ (m : List Bool). is_marked m b) same.marks ∙ is);
+        same = λ none. keeps.same (none ∙ sym (looks.counts fault.Failed)) ∙ same.marks;
+      }
+
+  -- what was marked
+  pub marked_after : (new : Durable N) → HasMarkedFailed shape bad faults mid new → HasMarkedFailed shape bad faults old new
+  marked_after new is =
+      let marked = λ (s : Shape) (m : List Bool) (n : ℕ). faults new.nand fault.Failed % 2 ^ 64
+      ≡ (n + (good_before m s.blocks - good_before (bad new.nand) s.blocks)) % 2 ^ 64 in
+      subst (λ (s : Shape). marked s (bad old.nand) (faults old.nand fault.Failed)) looks.device.chip
+      (subst (λ (m : List Bool). marked (shape mid.nand) m (faults old.nand fault.Failed)) looks.device.marks
+      (subst (λ (n : ℕ). marked (shape mid.nand) (bad mid.nand) n) (looks.counts fault.Failed) is))
+
+  pub none_marked : HasMarkedFailed shape bad faults old mid
+  none_marked =
+      let was = good_before (bad old.nand) (shape old.nand).blocks in
+      let now = good_before (bad mid.nand) (shape old.nand).blocks in
+      let none : was - now ≡ 0 = omega (arith, ap (λ (m : List Bool). good_before m (shape old.nand).blocks) looks.device.marks) in
+      ap (λ (n : ℕ). n % 2 ^ 64) (looks.counts fault.Failed ∙ omega (arith, none))
+
+  -- what the call programs
+  pub once_after : (new : Durable N) (update : Update) → ProgramsOnce flash bad mid new update → ProgramsOnce flash bad old new update
+  once_after new update once none =
+      adds_there (flash old.nand) (flash mid.nand) (flash new.nand) (number_of old) (number_of mid) update looks.same looks.number
+      (once (none ∙ sym looks.device.marks))
+
+  -- another look
+  pub looks_after : {new : Durable N} (result : Result Was Failure) → Looks flash shape bad faults mid new result
+      → Looks flash shape bad faults old new result
+  looks_after {new} result more = record {
+    opens = λ updates is. more.opens updates (looks.opens updates is);
+    cause = if_err result (λ cause. true_after new cause) more.cause;
+    overwrites = more.overwrites;
+    mounted = more.mounted ∙ looks.mounted;
+    counts = if_ok result (λ same cause. same cause ∙ looks.counts cause) more.counts;
+    number = more.number ∙ looks.number;
+    same = more.same ∙ looks.same;
+    device = record {
+      sectors = more.device.sectors ∙ looks.device.sectors;
+      chip = more.device.chip ∙ looks.device.chip;
+      marks = more.device.marks ∙ looks.device.marks;
+    };
+  }
+
+-- a device that was left as it was
+pub keeps_same : {N : Type 0} {shape : N → Shape} {bad : N → List Bool} {faults : N → Fault → ℕ} {old new : Durable N}
     → IsSameDevice shape bad old new → KeepsDevice shape bad faults old new
-keeps_same {N} shape bad faults old new same = record {
+keeps_same {N} {shape} {bad} {faults} {old} {new} same = record {
   sectors = same.sectors;
   chip = same.chip;
   marks = λ b is. ap (λ (m : List Bool). is_marked m b) same.marks ∙ is;
   same = λ _. same.marks;
 }
 
-pub keeps_after : {N : Type 0} (shape : N → Shape) (bad : N → List Bool) (faults : N → Fault → ℕ) (old mid new : Durable N)
-    → IsSameDevice shape bad old mid → ((c : Fault) → faults mid.nand c ≡ faults old.nand c) → KeepsDevice shape bad faults mid new
-    → KeepsDevice shape bad faults old new
-keeps_after {N} shape bad faults old mid new same count keeps = record {
-  sectors = keeps.sectors ∙ same.sectors;
-  chip = keeps.chip ∙ same.chip;
-  marks = λ b is. keeps.marks b (ap (λ (m : List Bool). is_marked m b) same.marks ∙ is);
-  same = λ none. keeps.same (none ∙ sym (count fault.Failed)) ∙ same.marks;
-}
-
--- what was marked, after something that changed nothing
-pub marked_after : {N : Type 0} (shape : N → Shape) (bad : N → List Bool) (faults : N → Fault → ℕ) (old mid new : Durable N)
-    → IsSameDevice shape bad old mid → ((c : Fault) → faults mid.nand c ≡ faults old.nand c) → HasMarkedFailed shape bad faults mid new
-    → HasMarkedFailed shape bad faults old new
-marked_after {N} shape bad faults old mid new same count is =
-    let marked = λ (s : Shape) (m : List Bool) (n : ℕ). faults new.nand fault.Failed % 2 ^ 64
-    ≡ (n + (good_before m s.blocks - good_before (bad new.nand) s.blocks)) % 2 ^ 64 in
-    subst (λ (s : Shape). marked s (bad old.nand) (faults old.nand fault.Failed)) same.chip
-    (subst (λ (m : List Bool). marked (shape mid.nand) m (faults old.nand fault.Failed)) same.marks
-    (subst (λ (n : ℕ). marked (shape mid.nand) (bad mid.nand) n) (count fault.Failed) is))
-
-pub if_marked_after : {N : Type 0} (shape : N → Shape) (bad : N → List Bool) (faults : N → Fault → ℕ) (old mid new : Durable N)
-    (result : Result (Unit {0}) Failure) → IsSameDevice shape bad old mid → ((c : Fault) → faults mid.nand c ≡ faults old.nand c)
-    → OnOk result (HasMarkedFailed shape bad faults mid new) → OnOk result (HasMarkedFailed shape bad faults old new)
-if_marked_after {N} shape bad faults old mid new (Ok v) same count is = marked_after shape bad faults old mid new same count is
-if_marked_after {N} shape bad faults old mid new (Err e) same count is = tt
-
-pub none_marked : {N : Type 0} (shape : N → Shape) (bad : N → List Bool) (faults : N → Fault → ℕ) (old new : Durable N) → IsSameDevice shape bad old new
-    → ((c : Fault) → faults new.nand c ≡ faults old.nand c) → HasMarkedFailed shape bad faults old new
-none_marked {N} shape bad faults old new same count =
-    let was = good_before (bad old.nand) (shape old.nand).blocks in
-    let now = good_before (bad new.nand) (shape old.nand).blocks in
-    let none : was - now ≡ 0 = omega (arith, ap (λ (m : List Bool). good_before m (shape old.nand).blocks) same.marks) in
-    ap (λ (n : ℕ). n % 2 ^ 64) (count fault.Failed ∙ omega (arith, none))
-
 pub not_failed : {T : Type 0} (cause : Failure) → ◌≡◌ {A = Result T Failure} (Err cause) (Err failure.PowerGone) → cause ≢ failure.Failed
 not_failed {T} cause is failed = cc (is, failed)
 
 pub not_lost : {T : Type 0} (cause : Failure) → ◌≡◌ {A = Result T Failure} (Err cause) (Err failure.PowerGone) → cause ≢ failure.Lost
 not_lost {T} cause is lost = cc (is, lost)
+
+pub not_memory : {T U : Type 0} (cause : Failure) → ◌≡◌ {A = Result T Failure} (Err cause) (Err failure.PowerGone)
+    → ◌≡◌ {A = Result U Failure} (Err cause) (Err failure.OutOfMemory) → ⊥
+not_memory {T} {U} cause is memory = cc (is, memory)
+
+pub power_gone : (failure.PowerGone ≢ failure.Lost) × (failure.PowerGone ≢ failure.Failed)
+power_gone = (λ e. cc e, λ e. cc e)
 
 pub on_ok : {T E P : Type 0} (r : Result T E) → P → OnOk r P
 on_ok (Ok v) h = h
@@ -200,20 +220,21 @@ no_value : (value : Sector) → was_of value ≡ was.Empty → value ≡ None
 no_value None is = refl
 no_value (Some bytes) is = absurd (cc is)
 
-trimmed_at : (array : ℕ → Sector) (s : ℕ) → array s ≡ None → (k : ℕ) → changed array s None k ≡ array k
-trimmed_at array s empty k = ⊎_elim
-    (λ here. grind (arith, nat_tests, here, empty))
-    (λ differs. grind (arith, nat_tests))
-    (cases_eq k s)
+trimmed_at : (array : ℕ → Sector) (e : Extent) → ((k : ℕ) → Covers e k → array k ≡ None) → (k : ℕ) → changed array e None k ≡ array k
+trimmed_at array e empty k = ⊎_elim
+    (λ has. changed_here array e None k has ∙ sym (empty k has))
+    (λ out. changed_elsewhere array e None k out)
+    (cases_covered e k)
 
-pub trims_nothing : {N : Type 0} (flash : N → Flash) (shape : N → Shape) (bad : N → List Bool) (layer : Durable N) (s : ℕ) (updates : List Update)
-    → IsOpenLayer flash shape bad layer updates → was_of (array_after updates s) ≡ was.Empty → IsOpenLayer flash shape bad layer (update_of s None ∷ updates)
-trims_nothing {N} flash shape bad layer s updates is empty =
-    let more = update_of s None ∷ updates in
+pub trims_nothing : {N : Type 0} (flash : N → Flash) (shape : N → Shape) (bad : N → List Bool) (layer : Durable N) (e : Extent) (updates : List Update)
+    → IsOpenLayer flash shape bad layer updates → ((k : ℕ) → Covers e k → was_of (array_after updates k) ≡ was.Empty)
+    → IsOpenLayer flash shape bad layer (update_of e None ∷ updates)
+trims_nothing {N} flash shape bad layer e updates is empty =
+    let more = update_of e None ∷ updates in
     let f = numbered layer.numbers.items (flash layer.nand) in
     let same : array_after is.consistent.updates ≡ array_after more = λ i k.
     (array_is f layer.core updates is.consistent k
-    ∙ sym (trimmed_at (array_after updates) s (no_value (array_after updates s) empty) k)) i in
+    ∙ sym (trimmed_at (array_after updates) e (λ j has. no_value (array_after updates j) (empty j has)) k)) i in
     record {
       mounted = is.mounted;
       order = is.order;

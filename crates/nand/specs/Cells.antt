@@ -10,7 +10,7 @@ use Rattle.nand.specs.Nand.{value_with}
 abbrev pub contents_of : Page → PageContents
 contents_of page.Erased = Erased
 contents_of page.Torn = Torn
-contents_of (page.Version stamp main) = Version stamp.sector stamp.number (value_with stamp.trimmed main.items)
+contents_of (page.Version stamp main) = Version stamp.extent stamp.number (value_with stamp.trimmed main.items)
 
 -- the pages of a block
 abbrev pub pages_in : List (Vec Page Global) → ℕ → List Page

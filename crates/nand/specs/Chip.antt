@@ -1,5 +1,7 @@
 -- A modelled chip.
-use Rattle.std.specs.Prelude.{◌≡◌, ◌≢◌, ◌⊎◌, ◌==◌, ◌+◌, ◌%◌, ◌^◌, ℕ, Bool, true, false, List, Option, None, Some, Result, Ok, Err, OnOk, OnErr, if◌then◌else◌}
+use Rattle.std.specs.Prelude.{◌≡◌, ◌≢◌, ◌⊎◌, ◌==◌, ◌&&◌, ◌+◌, ◌-◌, ◌%◌, ◌^◌, nat_le, if◌then◌else◌}
+use Rattle.std.specs.Prelude.{ℕ, Bool, true, false, List, Option, None, Some, Result, Ok, Err, OnOk, OnErr}
+use Rattle.std.specs.Int.{bit_at}
 use Rattle.geometry.specs.declared.page_addr.PageAddr.{PageAddr}
 use Rattle.durable.specs.Flash.{PageContents, Torn, Flash, SetsPage}
 use Rattle.durable.specs.Commands.{IsSameFlash}
@@ -49,12 +51,12 @@ Sets {T} result f t at contents =
     OnOk result (SetsPage f t at.block at.page contents)
     × OnErr result (IsSameFlash f t ⊎ SetsPage f t at.block at.page Torn ⊎ SetsPage f t at.block at.page contents)
 
--- whether the chip has power, how many commands it was given, and in which the power goes and which one fails
+-- whether the chip has power, how many commands it was given, in which the power goes, and which fail: from which one on, and a mask of them
 pub record Schedule : Type 0 where
   pub powered : Bool
   pub commands : ℕ
   pub cut : Option (ℕ × Cut)
-  pub failing : Option ℕ
+  pub failing : Option (ℕ × ℕ)
 
 -- the schedule of a chip
 abbrev pub schedule_of : Chip → Schedule
@@ -65,10 +67,10 @@ abbrev pub cut_in : Option (ℕ × Cut) → ℕ → Option Cut
 cut_in None n = None
 cut_in (Some at) n = if at.0 == n then Some at.1 else None
 
--- whether this command is the one that fails
-abbrev pub fails_in : Option ℕ → ℕ → Bool
+-- whether this command is one of those that fail: bit i of the mask says it of the i-th after the first
+abbrev pub fails_in : Option (ℕ × ℕ) → ℕ → Bool
 fails_in None n = false
-fails_in (Some at) n = at == n
+fails_in (Some at) n = nat_le at.0 n && bit_at at.1 (n - at.0) == 1
 
 -- what comes of a command in which this cut falls, or none, and which fails or doesn't
 abbrev pub fate_with : Option Cut → Bool → Fate

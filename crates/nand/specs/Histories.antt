@@ -1,18 +1,18 @@
 -- Calls in order, each acknowledged or not, and the array that they leave. It knows no page, block or number.
 use Rattle.std.specs.Prelude.{◌≡◌, ◌<◌, ℕ, Bool, List, [], ◌∷◌, length, None, Some}
-use Rattle.durable.specs.Updates.{Makes, Update}
+use Rattle.durable.specs.Updates.{LiesWithin, Makes, Update, sole}
 use Rattle.nand.specs.declared.history.Change.{Change}
 use Rattle.nand.specs.declared.history.Change.TheVariants.{Trim, Write}
 
--- what a call changes: a write gives the sector its bytes, and a trim empties it
+-- what a call changes: a write gives the sector its bytes, and a trim empties its extent
 abbrev pub update_by : Change → Update
-update_by (Write sector bytes) = record { sector = sector; value = Some bytes.items }
-update_by (Trim sector) = record { sector = sector; value = None }
+update_by (Write sector bytes) = record { extent = sole sector; value = Some bytes.items }
+update_by (Trim extent) = record { extent = extent; value = None }
 
 -- the call is one for a device with so many sectors of so many bytes
 abbrev pub IsFor : ℕ → ℕ → Change → Type 0
 IsFor sectors page_bytes (Write sector bytes) = (sector < sectors) × (length bytes.items ≡ page_bytes)
-IsFor sectors page_bytes (Trim sector) = sector < sectors
+IsFor sectors page_bytes (Trim extent) = LiesWithin sectors extent
 
 -- the calls were made in order, each on what the one before it had left; as many as there are outcomes
 abbrev pub Leads : List Change → List Bool → List Update → List Update → Type 0

@@ -1,6 +1,8 @@
 pub mod Nand
 pub mod Numbers
 pub mod Opened
+pub mod Programs
+pub mod Looks
 pub mod Attempts
 pub mod Cells
 pub mod Chip

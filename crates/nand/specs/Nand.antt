@@ -1,6 +1,7 @@
 -- What a read may say of a page, and what a command leaves.
 use Rattle.std.specs.Prelude.{◌≡◌, ◌+◌, ◌%◌, ◌^◌, ℕ, Bool, true, false, List, Option, None, Some, Result, Err, OnOk, OnErr, if◌then◌else◌}
 use Rattle.geometry.specs.Sectors.{Sector}
+use Rattle.durable.specs.declared.extent.Extent.{Extent}
 use Rattle.durable.specs.declared.command.Command.{Command}
 use Rattle.durable.specs.declared.found.Stamp.{Stamp as Noted}
 use Rattle.durable.specs.Flash.{Flash, PageContents, Erased, Torn, Version}
@@ -22,7 +23,7 @@ is_trim (Some bytes) = false
 
 -- the stamp that a mount notes of a page that was read so
 abbrev pub noted_of : Reading → Option Noted
-noted_of (outcome.Version stamp) = Some (record { sector = stamp.sector; number = stamp.number })
+noted_of (outcome.Version stamp) = Some (record { extent = stamp.extent; number = stamp.number })
 noted_of outcome.Erased = None
 noted_of outcome.Unreadable = None
 
@@ -34,20 +35,21 @@ IsNoVersion outcome.Unreadable = Unit {0}
 
 -- a version is read with its stamp, and an erased or torn page isn't read as a version
 abbrev pub ReadsStamp : PageContents → Reading → Type 0
-ReadsStamp (Version s n value) reading = reading ≡ outcome.Version (record { sector = s; number = n; trimmed = is_trim value })
+ReadsStamp (Version e n value) reading = reading ≡ outcome.Version (record { extent = e; number = n; trimmed = is_trim value })
 ReadsStamp Erased reading = IsNoVersion reading
 ReadsStamp Torn reading = IsNoVersion reading
 
 -- a version with a value is read with its main bytes
 abbrev pub ReadsMain : PageContents → List ℕ → Type 0
-ReadsMain (Version s n (Some bytes)) main = main ≡ bytes
-ReadsMain (Version s n None) main = Unit {0}
+ReadsMain (Version e n (Some bytes)) main = main ≡ bytes
+ReadsMain (Version e n None) main = Unit {0}
 ReadsMain Erased main = Unit {0}
 ReadsMain Torn main = Unit {0}
 
 -- a command that is allowed is done if it succeeds, and otherwise it leaves what a power cut inside it may leave
-abbrev pub Performs : {T : Type 0} → Command → ℕ → Sector → Result T Fault → Flash → Flash → Type 0
-Performs {T} m s value result f t = IsAllowed f m → OnOk result (Completes m s value f t) × OnErr result (CutLeaves m s value f t)
+abbrev pub Performs : {T : Type 0} → Command → Extent → Sector → Result T Fault → Flash → Flash → Type 0
+Performs {T} m extent value result f t =
+    IsAllowed f m → OnOk result (Completes m extent value f t) × OnErr result (CutLeaves m extent value f t)
 
 -- the other one of the two faults
 abbrev pub other_fault : Fault → Fault

@@ -1,14 +1,17 @@
 -- What an open layer holds, and what a call that was cut short leaves.
 use Rattle.std.specs.Prelude.{◌≡◌, ◌≢◌, ◌⊎◌, ◌<◌, ◌≤◌, ◌+◌, ◌-◌, ◌%◌, ◌^◌, ℕ, Bool, true, false, List, ◌∷◌, None, Some, min}
-use Rattle.geometry.specs.Sectors.{Sector}
+use Rattle.geometry.specs.Sectors.{Sector, was_of}
 use Rattle.geometry.specs.declared.answer.Got.{Got}
 use Rattle.geometry.specs.declared.answer.Got.TheVariants as got
+use Rattle.geometry.specs.declared.answer.Was.{Was}
+use Rattle.geometry.specs.declared.answer.Was.TheVariants as was
 use Rattle.durable.specs.Failures.{HoldsNoVersion}
 use Rattle.durable.specs.Flash.{Flash}
 use Rattle.durable.specs.Device.{Device, device_of, next_number_of}
 use Rattle.durable.specs.Promise.{IsConsistent, IsReadable}
 use Rattle.durable.specs.Spare.{IsDuplicated}
-use Rattle.durable.specs.Updates.{Update}
+use Rattle.durable.specs.Updates.{Covers, Update}
+use Rattle.durable.specs.declared.extent.Extent.{Extent}
 use Rattle.nand.specs.declared.flash.Fault.{Fault}
 use Rattle.nand.specs.declared.flash.Fault.TheVariants as fault
 use Rattle.nand.specs.declared.flash.Shape.{Shape}
@@ -41,9 +44,9 @@ layer_sectors {N} layer = (device_of layer.core).sectors
 abbrev pub number_of : {N : Type 0} → Durable N → ℕ
 number_of {N} layer = next_number_of layer.core
 
--- an update of one sector
-abbrev pub update_of : ℕ → Sector → Update
-update_of s value = record { sector = s; value = value }
+-- an update of an extent's sectors
+abbrev pub update_of : Extent → Sector → Update
+update_of extent value = record { extent = extent; value = value }
 
 -- a block in use can be freed, since all of its newest versions are elsewhere too
 abbrev pub CanFreeInUse : Flash → Shape → List Bool → ℕ → Type 0
@@ -139,3 +142,8 @@ IsTrueCause {N} faults old new failure.Lost = Unit {0}
 abbrev pub ReadsSector : Sector → Got → List ℕ → Type 0
 ReadsSector None found out = found ≡ got.Empty
 ReadsSector (Some bytes) found out = (found ≡ got.Data) × (out ≡ bytes)
+
+-- what the sectors of an extent were: written if one of them was, and otherwise empty
+abbrev pub Were : (ℕ → Sector) → Extent → Was → Type 0
+Were array extent was.Empty = (k : ℕ) → Covers extent k → was_of (array k) ≡ was.Empty
+Were array extent was.Written = (k : ℕ) × Covers extent k × (was_of (array k) ≡ was.Written)

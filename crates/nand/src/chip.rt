@@ -1,4 +1,5 @@
-ghost use Rattle.std.specs.Prelude.{◌≡◌, length};
+ghost use Rattle.std.specs.Prelude.{◌≡◌, ◌==◌, length};
+ghost use Rattle.std.specs.Int.{bit_at};
 
 use crate::cells::{Page, copied, copy_main, erase, lose, peek, put};
 use crate::flash::{Fault, Nand, PowerGone, Reading, Shape, Stamp};
@@ -35,7 +36,8 @@ pub struct Chip {
     // How many programs, copies and erases it was given, modulo 2^64.
     commands: u64,
     cut: Option<(u64, Cut)>,
-    failing: Option<u64>,
+    // From which command on some fail: bit i of the mask says that the i-th after it does.
+    failing: Option<(u64, u64)>,
     // How many calls have ended so, modulo 2^64.
     cuts: u64,
     failures: u64,
@@ -45,12 +47,23 @@ pub struct Chip {
     pub ghost erases_sized: { length erases.items ≡ shape.blocks },
 }
 
+// Whether a mask has this bit.
+fn has_bit(mask: u64, bit: u64) -> bool
+    ensures { result ≡ (bit_at mask bit == 1) }
+{
+    if bit >= 64 {
+        return false;
+    }
+    (mask >> bit) & 1 == 1
+}
+
 impl Chip {
     ghost use Rattle.std.specs.Prelude.{◌⊎◌, ◌-◌, ◌^◌, ℕ, true, false, None, Some, slice_index_or, IfOk, Err};
     ghost use Rattle.durable.specs.Commands.{IsSameFlash};
     ghost use Rattle.durable.specs.Flash.{IsErased, SetsPage, Torn};
     ghost use Rattle.nand.specs.Cells.{contents_of};
-    ghost use Rattle.nand.specs.Chip.{after_command, chip_bad, chip_erases, chip_faults, chip_flash, chip_shape, coming, schedule_of, Ends, HasSame, Sets};
+    ghost use Rattle.nand.specs.Chip.{after_command, chip_bad, chip_erases, chip_faults, chip_flash, chip_shape};
+    ghost use Rattle.nand.specs.Chip.{coming, fails_in, schedule_of, Ends, HasSame, Sets};
     ghost use Rattle.nand.specs.Nand.{CountsFault, CountsCut};
     ghost use Rattle.nand.specs.declared.flash.Fault.TheVariants as fault;
 
@@ -102,13 +115,22 @@ impl Chip {
         self.cut = Some((command, cut));
     }
 
-    /// Lets the command with this number fail.
+    /// Lets the command with this number fail, and no other.
     pub fn fail_at(&mut self, command: u64)
         ensures schedule { schedule_of self.new
-            ≡ record { powered = self.old.powered; commands = self.old.commands; cut = self.old.cut; failing = Some command } }
+            ≡ record { powered = self.old.powered; commands = self.old.commands; cut = self.old.cut; failing = Some (command, 1) } }
         ensures same { HasSame self.old self.new }
     {
-        self.failing = Some(command);
+        self.failing = Some((command, 1));
+    }
+
+    /// Lets several of the 64 commands from this number on fail, and no others: bit i of the mask says that the i-th after it does.
+    pub fn fail_from(&mut self, command: u64, mask: u64)
+        ensures schedule { schedule_of self.new
+            ≡ record { powered = self.old.powered; commands = self.old.commands; cut = self.old.cut; failing = Some (command, mask) } }
+        ensures same { HasSame self.old self.new }
+    {
+        self.failing = Some((command, mask));
     }
 
     /// Makes a page unreadable, as a charge that has leaked away does.
@@ -140,6 +162,16 @@ impl Chip {
         self.violations
     }
 
+    // Whether this command is one of those that fail.
+    fn fails(&self, command: u64) -> bool
+        ensures { result ≡ fails_in (schedule_of self.now).failing command }
+    {
+        match self.failing {
+            Some((first, mask)) => command >= first && has_bit(mask, command - first),
+            None => false,
+        }
+    }
+
     // What comes of the next command.
     fn fate(&mut self) -> Fate
         ensures fate { result ≡ coming (schedule_of self.old) }
@@ -158,7 +190,7 @@ impl Chip {
                 return Fate::Cut(cut);
             }
         }
-        if self.failing == Some(command) {
+        if self.fails(command) {
             return Fate::Fails;
         }
         Fate::Done
@@ -254,6 +286,7 @@ impl Chip {
 
 impl Nand for Chip {
     ghost use Rattle.std.specs.Prelude.{◌+◌, ◌%◌, ◌^◌, None, OnOk, slice_index_or, slice_set};
+    ghost use Rattle.durable.specs.Updates.{sole};
     ghost use Rattle.durable.specs.declared.command.Command.TheVariants as command;
     ghost use Rattle.nand.specs.Chip.{chip_bad, chip_erases, chip_faults, chip_flash, chip_shape, coming, schedule_of, Ends};
     ghost use Rattle.nand.specs.Nand.{CountsFault, Performs, value_with};
@@ -310,7 +343,7 @@ impl Nand for Chip {
     }
 
     fn program(&mut self, at: PageAddr, stamp: Stamp, main: &[u8]) -> Result<(), Fault>
-        ensures does { Performs (command.Program at stamp.number) stamp.sector (value_with stamp.trimmed main.now) result
+        ensures does { Performs (command.Program at stamp.number) stamp.extent (value_with stamp.trimmed main.now) result
             (chip_flash self.old) (chip_flash self.new) }
         ensures shape { chip_shape self.new ≡ chip_shape self.old }
         ensures bad { chip_bad self.new ≡ chip_bad self.old }
@@ -324,7 +357,7 @@ impl Nand for Chip {
     }
 
     fn copyback(&mut self, from: PageAddr, to: PageAddr) -> Result<(), Fault>
-        ensures does { Performs (command.Copy 0 from to) 0 None result (chip_flash self.old) (chip_flash self.new) }
+        ensures does { Performs (command.Copy 0 from to) (sole 0) None result (chip_flash self.old) (chip_flash self.new) }
         ensures shape { chip_shape self.new ≡ chip_shape self.old }
         ensures bad { chip_bad self.new ≡ chip_bad self.old }
         ensures cause { CountsFault (chip_faults self.old) (chip_faults self.new) result }
@@ -337,7 +370,7 @@ impl Nand for Chip {
     }
 
     fn erase(&mut self, block: u32) -> Result<(), Fault>
-        ensures does { Performs (command.Erase block) 0 None result (chip_flash self.old) (chip_flash self.new) }
+        ensures does { Performs (command.Erase block) (sole 0) None result (chip_flash self.old) (chip_flash self.new) }
         ensures shape { chip_shape self.new ≡ chip_shape self.old }
         ensures bad { chip_bad self.new ≡ chip_bad self.old }
         ensures cause { CountsFault (chip_faults self.old) (chip_faults self.new) result }

@@ -1,11 +1,13 @@
 ghost use Rattle.std.specs.Prelude.{◌≡◌, ◌⊎◌, ◌<◌, ℕ, Bool, true, false, List, length, slice_index_or, IfOk, OnOk};
 ghost use Rattle.durable.specs.Flash.{Flash};
+ghost use Rattle.durable.specs.Updates.{sole};
 ghost use Rattle.nand.specs.declared.flash.Shape.{Shape as Numbers};
 ghost use Rattle.durable.specs.declared.command.Command.TheVariants as command;
 ghost use Rattle.nand.specs.declared.flash.Fault.{Fault as Cause};
 ghost use Rattle.nand.specs.Numbers.{Marks};
 ghost use Rattle.nand.specs.Nand.{ReadsStamp, ReadsMain, Performs, CountsFault, CountsCut, value_with};
 
+use durable::Extent;
 use geometry::PageAddr;
 use thiserror::Error;
 
@@ -36,10 +38,11 @@ pub struct Shape {
 /// What is programmed into a page's spare bytes.
 #[derive(Clone, Copy, Debug, PartialEq, Eq)]
 pub struct Stamp {
-    pub sector: u32,
+    /// The sectors of which the version is: of a write one.
+    pub extent: Extent,
     /// Grows by one from a version to the next.
     pub number: u64,
-    /// The version is empty: the sector was trimmed.
+    /// The version is empty: the sectors were trimmed.
     pub trimmed: bool,
 }
 
@@ -109,21 +112,21 @@ pub trait Nand {
     /// Programs an erased page. The main bytes of a trim are none.
     fn program(&mut self, at: PageAddr, stamp: Stamp, main: &[u8]) -> Result<(), Fault>
         requires { stamp.trimmed ≡ false → length main.now ≡ (shape self.old).page_bytes }
-        ensures does { Performs (command.Program at stamp.number) stamp.sector (value_with stamp.trimmed main.now) result (flash self.old) (flash self.new) }
+        ensures does { Performs (command.Program at stamp.number) stamp.extent (value_with stamp.trimmed main.now) result (flash self.old) (flash self.new) }
         ensures shape { shape self.new ≡ shape self.old }
         ensures bad { bad self.new ≡ bad self.old }
         ensures cause { CountsFault (faults self.old) (faults self.new) result };
 
     /// Copies a page with its stamp into an erased page.
     fn copyback(&mut self, from: PageAddr, to: PageAddr) -> Result<(), Fault>
-        ensures does { Performs (command.Copy 0 from to) 0 None result (flash self.old) (flash self.new) }
+        ensures does { Performs (command.Copy 0 from to) (sole 0) None result (flash self.old) (flash self.new) }
         ensures shape { shape self.new ≡ shape self.old }
         ensures bad { bad self.new ≡ bad self.old }
         ensures cause { CountsFault (faults self.old) (faults self.new) result };
 
     /// Erases a block.
     fn erase(&mut self, block: u32) -> Result<(), Fault>
-        ensures does { Performs (command.Erase block) 0 None result (flash self.old) (flash self.new) }
+        ensures does { Performs (command.Erase block) (sole 0) None result (flash self.old) (flash self.new) }
         ensures shape { shape self.new ≡ shape self.old }
         ensures bad { bad self.new ≡ bad self.old }
         ensures cause { CountsFault (faults self.old) (faults self.new) result };

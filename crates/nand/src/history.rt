@@ -1,24 +1,25 @@
-ghost use Rattle.std.specs.Prelude.{◌≡◌, All, List, ◌∷◌, [], length, Ok, Err, OnOk, IfOk, IfErr};
+ghost use Rattle.std.specs.Prelude.{◌≡◌, ◌⊎◌, All, List, ◌∷◌, [], length, Ok, Err, OnOk, IfOk, IfErr};
 ghost use Rattle.durable.specs.Updates.{Makes, Update};
 ghost use Rattle.nand.specs.Histories.{IsFor, Leads, update_by};
 ghost use Rattle.nand.specs.Opened.{CanOpen, Fails, HasMarkedFailed, IsClosed, IsOpenLayer, IsTrueCause, KeepsDevice, layer_sectors};
+ghost use Rattle.nand.specs.Programs.{ProgramsOnce};
 ghost use Rattle.nand.specs.declared.failure.Failure.TheVariants as failure;
 
 use crate::failure::{Failure, OpenFailure};
 use crate::flash::Nand;
 use crate::layer::{Durable, NotOpened};
-use durable::MountFault;
+use durable::{Extent, MountFault};
 use std::alloc::Global;
 
-/// A call that changes the array: a write of a sector, or a trim.
+/// A call that changes the array: a write of a sector, or a trim of an extent.
 #[derive(Drop)]
 pub enum Change {
     Write(u32, Vec<u8>),
-    Trim(u32),
+    Trim(Extent),
 }
 
 impl<N: Nand> Durable<N> {
-    /// Writes or trims a sector.
+    /// Writes a sector, or trims an extent.
     pub fn make(&mut self, change: &Change) -> Result<(), Failure>
         requires { IsFor (layer_sectors self.old) (N.shape self.old.nand).page_bytes change.now }
         ensures acknowledged { (updates : List Update) → IsOpenLayer N.flash N.shape N.bad self.old updates
@@ -30,10 +31,14 @@ impl<N: Nand> Durable<N> {
         ensures device { KeepsDevice N.shape N.bad N.faults self.old self.new }
         ensures marks { (updates : List Update) → IsOpenLayer N.flash N.shape N.bad self.old updates
             → OnOk result (HasMarkedFailed N.shape N.bad N.faults self.old self.new) }
+        ensures memory { (updates : List Update) → IsOpenLayer N.flash N.shape N.bad self.old updates
+            → result ≡ Err failure.OutOfMemory → HasMarkedFailed N.shape N.bad N.faults self.old self.new }
+        ensures once { (updates : List Update) → IsOpenLayer N.flash N.shape N.bad self.old updates
+            → OnOk result ((N.flash self.new.nand ≡ N.flash self.old.nand) ⊎ ProgramsOnce N.flash N.bad self.old self.new (update_by change.now)) }
     {
         match change {
             Change::Write(sector, bytes) => self.write(*sector, bytes),
-            Change::Trim(sector) => match self.trim(*sector) {
+            Change::Trim(extent) => match self.trim(*extent) {
                 Ok(_) => Ok(()),
                 Err(failure) => Err(failure),
             },

@@ -3,11 +3,12 @@ ghost use Rattle.std.specs.Prelude.{◌≡◌, ◌≢◌, ◌<◌, ◌-◌, ◌%
 ghost use Rattle.std.specs.declared.alloc.Global.{Global as OnHeap};
 ghost use Rattle.geometry.specs.Sectors.{Sector};
 ghost use Rattle.geometry.specs.declared.answer.Got.TheVariants as got;
+ghost use Rattle.geometry.specs.declared.answer.Was.TheVariants as was;
 ghost use Rattle.durable.specs.Device.{device_of, next_number_of};
 ghost use Rattle.durable.specs.Flash.{Erased, Flash, IsErased, SetsPage, Torn, Version};
 ghost use Rattle.durable.specs.Promise.{KeepsAcknowledged};
 ghost use Rattle.durable.specs.Spare.{IsDuplicated};
-ghost use Rattle.durable.specs.Updates.{Update};
+ghost use Rattle.durable.specs.Updates.{Update, sole};
 ghost use Rattle.durable.specs.declared.command.Command.TheVariants as command;
 ghost use Rattle.nand.specs.Cells.{IsWiped, contents_of, flash_in};
 ghost use Rattle.nand.specs.Chip.{Ends, HasSame, after_command, chip_bad, chip_erases, chip_faults, chip_flash, chip_shape, coming, schedule_of};
@@ -15,7 +16,8 @@ ghost use Rattle.nand.specs.Histories.{IsFor, Leads, update_by};
 ghost use Rattle.nand.specs.Nand.{CountsCut, CountsFault, Performs, ReadsMain, ReadsStamp, noted_of, other_fault, value_with};
 ghost use Rattle.nand.specs.Numbers.{IsInReserve, IsInUse, IsOrder, Marks, chip_block, chip_page, good_before, is_marked, most_in_use, numbered};
 ghost use Rattle.nand.specs.Opened.{CanFreeInUse, CanOpen, Fails, HasMarkedFailed, IsClosed, IsOpenLayer, IsRefusal, IsSameDevice, IsSpent, IsTrueCause};
-ghost use Rattle.nand.specs.Opened.{KeepsDevice, ReadsSector, device_on, layer_sectors, most_used, number_of, reserve_of, update_of};
+ghost use Rattle.nand.specs.Opened.{KeepsDevice, ReadsSector, Were, device_on, layer_sectors, most_used, number_of, reserve_of, update_of};
+ghost use Rattle.nand.specs.Programs.{AddsVersion, HasSomewhere, ProgramsOnce};
 ghost use Rattle.nand.specs.declared.chip.Chip.{Chip as Modelled};
 ghost use Rattle.nand.specs.declared.chip.Cut.TheVariants as cut;
 ghost use Rattle.nand.specs.declared.chip.Fate.TheVariants as fate;
@@ -35,28 +37,32 @@ ghost use Rattle.nand.specs.declared.layer.Durable.{Durable as Layer};
 pub fn readings()
     ensures value { value_with false (5 ∷ []) ≡ Some (5 ∷ []) }
     ensures trim { value_with true (5 ∷ []) ≡ None }
-    ensures version { ReadsStamp (Version 7 3 (Some (5 ∷ []))) (outcome.Version (record { sector = 7; number = 3; trimmed = false })) }
-    ensures trimmed { ReadsStamp (Version 7 3 None) (outcome.Version (record { sector = 7; number = 3; trimmed = true })) }
-    ensures sector { ¬ ReadsStamp (Version 7 3 None) (outcome.Version (record { sector = 8; number = 3; trimmed = true })) }
-    ensures number { ¬ ReadsStamp (Version 7 3 None) (outcome.Version (record { sector = 7; number = 4; trimmed = true })) }
-    ensures not_trimmed { ¬ ReadsStamp (Version 7 3 None) (outcome.Version (record { sector = 7; number = 3; trimmed = false })) }
-    ensures data { ¬ ReadsStamp (Version 7 3 (Some (5 ∷ []))) (outcome.Version (record { sector = 7; number = 3; trimmed = true })) }
-    ensures missed { ¬ ReadsStamp (Version 7 3 None) outcome.Erased }
-    ensures unread { ¬ ReadsStamp (Version 7 3 None) outcome.Unreadable }
+    ensures version { ReadsStamp (Version (sole 7) 3 (Some (5 ∷ []))) (outcome.Version (record { extent = sole 7; number = 3; trimmed = false })) }
+    ensures trimmed { ReadsStamp (Version (sole 7) 3 None) (outcome.Version (record { extent = sole 7; number = 3; trimmed = true })) }
+    ensures sector { ¬ ReadsStamp (Version (sole 7) 3 None) (outcome.Version (record { extent = sole 8; number = 3; trimmed = true })) }
+    ensures number { ¬ ReadsStamp (Version (sole 7) 3 None) (outcome.Version (record { extent = sole 7; number = 4; trimmed = true })) }
+    ensures not_trimmed { ¬ ReadsStamp (Version (sole 7) 3 None) (outcome.Version (record { extent = sole 7; number = 3; trimmed = false })) }
+    ensures data { ¬ ReadsStamp (Version (sole 7) 3 (Some (5 ∷ []))) (outcome.Version (record { extent = sole 7; number = 3; trimmed = true })) }
+    ensures missed { ¬ ReadsStamp (Version (sole 7) 3 None) outcome.Erased }
+    ensures unread { ¬ ReadsStamp (Version (sole 7) 3 None) outcome.Unreadable }
     ensures torn { ReadsStamp Torn outcome.Unreadable }
     ensures torn_erased { ReadsStamp Torn outcome.Erased }
-    ensures torn_version { ¬ ReadsStamp Torn (outcome.Version (record { sector = 7; number = 3; trimmed = true })) }
+    ensures torn_version { ¬ ReadsStamp Torn (outcome.Version (record { extent = sole 7; number = 3; trimmed = true })) }
     ensures erased { ReadsStamp Erased outcome.Erased }
     ensures erased_unread { ReadsStamp Erased outcome.Unreadable }
-    ensures erased_version { ¬ ReadsStamp Erased (outcome.Version (record { sector = 7; number = 3; trimmed = true })) }
-    ensures main { ReadsMain (Version 7 3 (Some (5 ∷ []))) (5 ∷ []) }
-    ensures other_main { ¬ ReadsMain (Version 7 3 (Some (5 ∷ []))) (6 ∷ []) }
-    ensures no_main { ReadsMain (Version 7 3 None) (6 ∷ []) }
+    ensures erased_version { ¬ ReadsStamp Erased (outcome.Version (record { extent = sole 7; number = 3; trimmed = true })) }
+    ensures main { ReadsMain (Version (sole 7) 3 (Some (5 ∷ []))) (5 ∷ []) }
+    ensures other_main { ¬ ReadsMain (Version (sole 7) 3 (Some (5 ∷ []))) (6 ∷ []) }
+    ensures no_main { ReadsMain (Version (sole 7) 3 None) (6 ∷ []) }
     ensures torn_main { ReadsMain Torn (6 ∷ []) }
     ensures erased_main { ReadsMain Erased (6 ∷ []) }
-    ensures noted { noted_of (outcome.Version (record { sector = 7; number = 3; trimmed = true })) ≡ Some (record { sector = 7; number = 3 }) }
+    ensures noted { noted_of (outcome.Version (record { extent = sole 7; number = 3; trimmed = true })) ≡ Some (record { extent = sole 7; number = 3 }) }
     ensures not_noted { noted_of outcome.Unreadable ≡ None }
     ensures none_noted { noted_of outcome.Erased ≡ None }
+    ensures some_written { (array : ℕ → Sector) → array 8 ≡ Some (5 ∷ []) → Were array (record { first = 7; count = 2 }) was.Written }
+    ensures none_written { (array : ℕ → Sector) → array 8 ≡ Some (5 ∷ []) → ¬ Were array (record { first = 7; count = 2 }) was.Empty }
+    ensures other_written { (array : ℕ → Sector) → array 7 ≡ None → array 8 ≡ None → ¬ Were array (record { first = 7; count = 2 }) was.Written }
+    ensures all_empty { (array : ℕ → Sector) → ((k : ℕ) → array k ≡ None) → Were array (record { first = 7; count = 2 }) was.Empty }
     ensures empty { ReadsSector None got.Empty (6 ∷ []) }
     ensures empty_data { ¬ ReadsSector None got.Data (6 ∷ []) }
     ensures bytes { ReadsSector (Some (5 ∷ [])) got.Data (5 ∷ []) }
@@ -66,18 +72,18 @@ pub fn readings()
 
 /// What a command leaves, and which counts a call changes.
 pub fn outcomes()
-    ensures done { (f t : Flash) → Performs {T = ℕ} (command.Program (record { block = 1; page = 2 }) 5) 7 None (Ok 0) f t → f 1 2 ≡ Erased
-        → t 1 2 ≡ Version 7 5 None }
+    ensures done { (f t : Flash) → Performs {T = ℕ} (command.Program (record { block = 1; page = 2 }) 5) (sole 7) None (Ok 0) f t → f 1 2 ≡ Erased
+        → t 1 2 ≡ Version (sole 7) 5 None }
     ensures programmed { (f t : Flash) → f 1 2 ≡ Torn
-        → Performs {T = ℕ} (command.Program (record { block = 1; page = 2 }) 5) 7 None (Ok 0) f t }
-    ensures failed { (f : Flash) → Performs {T = ℕ} (command.Program (record { block = 1; page = 2 }) 5) 7 None (Err fault.Failed) f f }
-    ensures cut { (f : Flash) → Performs {T = ℕ} (command.Program (record { block = 1; page = 2 }) 5) 7 None (Err fault.PowerGone) f f }
+        → Performs {T = ℕ} (command.Program (record { block = 1; page = 2 }) 5) (sole 7) None (Ok 0) f t }
+    ensures failed { (f : Flash) → Performs {T = ℕ} (command.Program (record { block = 1; page = 2 }) 5) (sole 7) None (Err fault.Failed) f f }
+    ensures cut { (f : Flash) → Performs {T = ℕ} (command.Program (record { block = 1; page = 2 }) 5) (sole 7) None (Err fault.PowerGone) f f }
     ensures not_done { (f : Flash) → f 1 2 ≡ Erased
-        → ¬ Performs {T = ℕ} (command.Program (record { block = 1; page = 2 }) 5) 7 None (Ok 0) f f }
+        → ¬ Performs {T = ℕ} (command.Program (record { block = 1; page = 2 }) 5) (sole 7) None (Ok 0) f f }
     ensures torn { (f t : Flash) → SetsPage f t 1 2 Torn
-        → Performs {T = ℕ} (command.Program (record { block = 1; page = 2 }) 5) 7 None (Err fault.Failed) f t }
+        → Performs {T = ℕ} (command.Program (record { block = 1; page = 2 }) 5) (sole 7) None (Err fault.Failed) f t }
     ensures other { (f t : Flash) → f 1 2 ≡ Erased → t 0 0 ≢ f 0 0
-        → ¬ Performs {T = ℕ} (command.Program (record { block = 1; page = 2 }) 5) 7 None (Err fault.Failed) f t }
+        → ¬ Performs {T = ℕ} (command.Program (record { block = 1; page = 2 }) 5) (sole 7) None (Err fault.Failed) f t }
     ensures same { (count : Cause → ℕ) → CountsFault {T = ℕ} count count (Ok 0) }
     ensures success { (old new : Cause → ℕ) → new fault.Failed ≢ old fault.Failed → ¬ CountsFault {T = ℕ} old new (Ok 0) }
     ensures same_cut { (old new : Cause → ℕ) → new fault.PowerGone ≢ old fault.PowerGone → ¬ CountsFault {T = ℕ} old new (Ok 0) }
@@ -108,8 +114,8 @@ pub fn modelled()
         → pages.items ≡ page.Torn ∷ [] → chip_flash chip 0 0 ≡ Torn }
     ensures shape { (chip : Modelled) → chip.shape.pages ≡ 4 → (chip_shape chip).pages ≡ 4 }
     ensures version { (main : Vec ℕ OnHeap) → main.items ≡ 5 ∷ []
-        → contents_of (page.Version (record { sector = 7; number = 3; trimmed = false }) main) ≡ Version 7 3 (Some (5 ∷ [])) }
-    ensures trim { (main : Vec ℕ OnHeap) → contents_of (page.Version (record { sector = 7; number = 3; trimmed = true }) main) ≡ Version 7 3 None }
+        → contents_of (page.Version (record { extent = sole 7; number = 3; trimmed = false }) main) ≡ Version (sole 7) 3 (Some (5 ∷ [])) }
+    ensures trim { (main : Vec ℕ OnHeap) → contents_of (page.Version (record { extent = sole 7; number = 3; trimmed = true }) main) ≡ Version (sole 7) 3 None }
     ensures wiped { (f t : Flash) → IsWiped f t 1 → t 1 3 ≡ Erased }
     ensures other { (f t : Flash) → IsWiped f t 1 → t 0 3 ≡ f 0 3 }
     ensures clean { (f : Flash) → IsErased f → IsWiped f f 1 }
@@ -121,14 +127,18 @@ pub fn modelled()
 /// What comes of a modelled chip's commands.
 pub fn schedules()
     ensures off { coming (record { powered = false; commands = 3; cut = None; failing = None }) ≡ fate.Cut cut.Nothing }
-    ensures done { coming (record { powered = true; commands = 3; cut = Some (4, cut.Whole); failing = Some 5 }) ≡ fate.Done }
-    ensures cut { coming (record { powered = true; commands = 4; cut = Some (4, cut.Whole); failing = Some 4 }) ≡ fate.Cut cut.Whole }
-    ensures fails { coming (record { powered = true; commands = 5; cut = Some (4, cut.Whole); failing = Some 5 }) ≡ fate.Fails }
-    ensures counts { after_command (record { powered = true; commands = 3; cut = Some (4, cut.Whole); failing = Some 5 })
-        ≡ record { powered = true; commands = 4; cut = Some (4, cut.Whole); failing = Some 5 } }
+    ensures done { coming (record { powered = true; commands = 3; cut = Some (4, cut.Whole); failing = Some (5, 1) }) ≡ fate.Done }
+    ensures cut { coming (record { powered = true; commands = 4; cut = Some (4, cut.Whole); failing = Some (4, 1) }) ≡ fate.Cut cut.Whole }
+    ensures fails { coming (record { powered = true; commands = 5; cut = Some (4, cut.Whole); failing = Some (5, 1) }) ≡ fate.Fails }
+    ensures fails_again { coming (record { powered = true; commands = 7; cut = None; failing = Some (5, 5) }) ≡ fate.Fails }
+    ensures between { coming (record { powered = true; commands = 6; cut = None; failing = Some (5, 5) }) ≡ fate.Done }
+    ensures before { coming (record { powered = true; commands = 4; cut = None; failing = Some (5, 5) }) ≡ fate.Done }
+    ensures past { coming (record { powered = true; commands = 69; cut = None; failing = Some (5, 2 ^ 64 - 1) }) ≡ fate.Done }
+    ensures counts { after_command (record { powered = true; commands = 3; cut = Some (4, cut.Whole); failing = Some (5, 1) })
+        ≡ record { powered = true; commands = 4; cut = Some (4, cut.Whole); failing = Some (5, 1) } }
     ensures wraps { (after_command (record { powered = true; commands = 2 ^ 64 - 1; cut = None; failing = None })).commands ≡ 0 }
-    ensures falls { after_command (record { powered = true; commands = 4; cut = Some (4, cut.Whole); failing = Some 5 })
-        ≡ record { powered = false; commands = 5; cut = None; failing = Some 5 } }
+    ensures falls { after_command (record { powered = true; commands = 4; cut = Some (4, cut.Whole); failing = Some (5, 1) })
+        ≡ record { powered = false; commands = 5; cut = None; failing = Some (5, 1) } }
     ensures stays_off { after_command (record { powered = false; commands = 4; cut = Some (4, cut.Whole); failing = None })
         ≡ record { powered = false; commands = 4; cut = Some (4, cut.Whole); failing = None } }
     ensures lost { ¬ Ends (fate.Cut cut.Whole) (Ok tt) }
@@ -150,7 +160,7 @@ pub fn schedules()
     ensures powered { (chip : Modelled) → chip.powered ≡ true → (schedule_of chip).powered ≡ true }
     ensures commands { (chip : Modelled) → chip.commands ≡ 3 → (schedule_of chip).commands ≡ 3 }
     ensures at { (chip : Modelled) → chip.cut ≡ Some (4, cut.Whole) → (schedule_of chip).cut ≡ Some (4, cut.Whole) }
-    ensures failing { (chip : Modelled) → chip.failing ≡ Some 5 → (schedule_of chip).failing ≡ Some 5 }
+    ensures failing { (chip : Modelled) → chip.failing ≡ Some (5, 1) → (schedule_of chip).failing ≡ Some (5, 1) }
 {}
 
 /// Which failures may come, and what they leave.
@@ -173,8 +183,8 @@ pub fn opened()
         → ((device_on shape (false ∷ true ∷ []) 8).blocks ≡ 2) × ((device_on shape (false ∷ true ∷ []) 8).read_blocks ≡ 3) }
     ensures pages { (shape : Numbers) → shape.pages ≡ 4 → (device_on shape [] 8).pages ≡ 4 }
     ensures sectors { (shape : Numbers) → (device_on shape [] 8).sectors ≡ 8 }
-    ensures sector { (update_of 7 None).sector ≡ 7 }
-    ensures value { (update_of 7 (Some (5 ∷ []))).value ≡ Some (5 ∷ []) }
+    ensures sector { (update_of (sole 7) None).extent ≡ sole 7 }
+    ensures value { (update_of (sole 7) (Some (5 ∷ []))).value ≡ Some (5 ∷ []) }
     ensures size { (layer : Layer Modelled) → (device_of layer.core).sectors ≡ 8 → layer_sectors layer ≡ 8 }
     ensures number { (layer : Layer Modelled) → next_number_of layer.core ≡ 5 → number_of layer ≡ 5 }
     ensures rest { (layer : Layer Modelled) → layer.reserve ≡ 2 → reserve_of layer ≡ 2 }
@@ -183,7 +193,7 @@ pub fn opened()
     ensures other_chip { (layer : Layer Modelled) (updates : List Update) → (chip_shape layer.nand).blocks ≡ 3 → (device_of layer.core).read_blocks ≡ 4
         → ¬ IsOpenLayer chip_flash chip_shape chip_bad layer updates }
     ensures numbered { (layer : Layer Modelled) (v : Sector) (updates : List Update) → IsOpenLayer chip_flash chip_shape chip_bad layer updates
-        → chip_flash layer.nand 0 0 ≡ Version 7 5 v → 5 < next_number_of layer.core }
+        → chip_flash layer.nand 0 0 ≡ Version (sole 7) 5 v → 5 < next_number_of layer.core }
     ensures bad_unused { (layer : Layer Modelled) (updates : List Update) → IsOpenLayer chip_flash chip_shape chip_bad layer updates
         → chip_bad layer.nand ≡ true ∷ [] → 0 < (device_of layer.core).blocks → chip_block layer.numbers.items 0 ≢ 0 }
     ensures frees { (chip : Modelled) (updates : List Update) → (chip_shape chip).blocks ≡ 1 → chip_bad chip ≡ true ∷ []
@@ -193,9 +203,9 @@ pub fn opened()
         → reserve_of layer ≡ 1 }
     ensures blank { (layer : Layer Modelled) (v : Sector) (updates : List Update) → IsOpenLayer chip_flash chip_shape chip_bad layer updates
         → (chip_shape layer.nand).blocks ≡ 9 → (chip_shape layer.nand).pages ≡ 4 → layer_sectors layer ≡ 8 → chip_bad layer.nand ≡ []
-        → chip_flash layer.nand 8 0 ≢ Version 7 5 v }
+        → chip_flash layer.nand 8 0 ≢ Version (sole 7) 5 v }
     ensures blank_chip { (chip : Modelled) (v : Sector) (updates : List Update) → CanOpen chip_flash chip_shape chip_bad chip 8 updates
-        → (chip_shape chip).blocks ≡ 9 → (chip_shape chip).pages ≡ 4 → chip_bad chip ≡ [] → chip_flash chip 8 0 ≢ Version 7 5 v }
+        → (chip_shape chip).blocks ≡ 9 → (chip_shape chip).pages ≡ 4 → chip_bad chip ≡ [] → chip_flash chip 8 0 ≢ Version (sole 7) 5 v }
     ensures freed { (f : Flash) (shape : Numbers) → shape.blocks ≡ 2 → CanFreeInUse f shape (true ∷ false ∷ []) 8 → IsDuplicated f 8 1 }
     ensures freed_in_use { (f : Flash) (shape : Numbers) → shape.blocks ≡ 9 → shape.pages ≡ 4 → CanFreeInUse f shape [] 8
         → (b : ℕ) × (good_before [] b < 8) × IsDuplicated f 8 b }
@@ -204,8 +214,8 @@ pub fn opened()
     ensures erased { (chip : Modelled) → IsErased (chip_flash chip) → 0 < good_before (chip_bad chip) (chip_shape chip).blocks
         → CanOpen chip_flash chip_shape chip_bad chip 8 [] }
     ensures on_chip { (chip : Modelled) (v : Sector) (updates : List Update) → CanOpen chip_flash chip_shape chip_bad chip 8 updates
-        → chip_flash chip 3 0 ≡ Version 7 5 v → 3 < (chip_shape chip).blocks }
-    ensures no_sector { (chip : Modelled) (v : Sector) (updates : List Update) → chip_flash chip 3 0 ≡ Version 8 5 v
+        → chip_flash chip 3 0 ≡ Version (sole 7) 5 v → 3 < (chip_shape chip).blocks }
+    ensures no_sector { (chip : Modelled) (v : Sector) (updates : List Update) → chip_flash chip 3 0 ≡ Version (sole 8) 5 v
         → ¬ CanOpen chip_flash chip_shape chip_bad chip 8 updates }
 {}
 
@@ -233,6 +243,23 @@ pub fn orders()
     ensures bad_reserve { ¬ IsInReserve (false ∷ true ∷ []) 1 1 }
     ensures marked { (now : List Bool) → Marks [] now 1 → is_marked now 1 ≡ true }
     ensures unmarked { (now : List Bool) → Marks (true ∷ false ∷ []) now 1 → is_marked now 0 ≡ true }
+{}
+
+/// Which versions a call adds.
+pub fn programs()
+    ensures somewhere { (f : Flash) → f 1 2 ≡ Version (sole 8) 3 None → HasSomewhere f (sole 8) 3 None }
+    ensures nowhere { (f : Flash) → IsErased f → ¬ HasSomewhere f (sole 8) 3 None }
+    ensures put { (f t : Flash) (u : Update) → AddsVersion f t 5 u → HasSomewhere t u.extent 5 u.value }
+    ensures adds { (f t : Flash) → SetsPage f t 0 1 (Version (sole 7) 5 None) → AddsVersion f t 5 (update_of (sole 7) None) }
+    ensures second_page { (f t : Flash) (u : Update) → IsErased f → AddsVersion f t 5 u → t 0 0 ≡ Version (sole 7) 5 None
+        → t 0 1 ≢ Version (sole 7) 6 None }
+    ensures second_block { (f t : Flash) (u : Update) → IsErased f → AddsVersion f t 5 u → t 0 0 ≡ Version (sole 7) 5 None
+        → t 1 0 ≢ Version (sole 7) 6 None }
+    ensures numbered { (old new : Layer Modelled) (u : Update) → ProgramsOnce chip_flash chip_bad old new u → chip_bad new.nand ≡ chip_bad old.nand
+        → number_of old ≡ 5 → HasSomewhere (chip_flash new.nand) u.extent 5 u.value }
+    ensures once { (old new : Layer Modelled) (u : Update) → ProgramsOnce chip_flash chip_bad old new u → chip_bad new.nand ≡ chip_bad old.nand
+        → IsErased (chip_flash old.nand) → chip_flash new.nand 0 0 ≡ Version (sole 7) 5 None → chip_flash new.nand 0 1 ≢ Version (sole 7) 6 None }
+    ensures marked { (old new : Layer Modelled) (u : Update) → chip_bad new.nand ≢ chip_bad old.nand → ProgramsOnce chip_flash chip_bad old new u }
 {}
 
 /// How updates fail, and which causes are true.
@@ -263,26 +290,27 @@ pub fn failing()
     ensures spare { (shape : Numbers) → shape.blocks ≡ 9 → shape.pages ≡ 4 → ¬ IsSpent shape [] 8 5 }
     ensures spent { (shape : Numbers) → shape.blocks ≡ 3 → shape.pages ≡ 4 → IsSpent shape [] 8 5 }
     ensures spent_numbers { (shape : Numbers) → IsSpent shape [] 8 (2 ^ 64 - 1) }
-    ensures told { (old new : Layer Modelled) (u : Update) (updates : List Update) → Fails chip_flash chip_shape chip_bad old new u updates failure.Failed
+    ensures only_spent { (old new : Layer Modelled) (u : Update) (updates : List Update) → Fails chip_flash chip_shape chip_bad old new u updates failure.Failed
         → IsSpent (chip_shape new.nand) (chip_bad new.nand) (layer_sectors old) (number_of new) }
     ensures lost { (old new : Layer Modelled) (u : Update) (updates : List Update) → ¬ Fails chip_flash chip_shape chip_bad old new u updates failure.Lost }
     ensures written { (old new : Layer Modelled) (u : Update) (updates : List Update) → new.mounted ≡ false
         → ¬ Fails chip_flash chip_shape chip_bad old new u updates failure.Written }
     ensures stays { (old new : Layer Modelled) (u : Update) (updates : List Update) → Fails chip_flash chip_shape chip_bad old new u updates failure.PowerGone
         → new.mounted ≡ true → (device_of new.core).read_blocks ≡ (chip_shape new.nand).blocks }
-    ensures reopens { (old new : Layer Modelled) (u : Update) (updates : List Update) (v : Sector) → chip_flash new.nand 3 0 ≡ Version 8 5 v
+    ensures reopens { (old new : Layer Modelled) (u : Update) (updates : List Update) (v : Sector) → chip_flash new.nand 3 0 ≡ Version (sole 8) 5 v
         → layer_sectors old ≡ 8 → ¬ Fails chip_flash chip_shape chip_bad old new u updates failure.PowerGone }
 {}
 
 /// What calls leave that were acknowledged or cut short.
 pub fn histories()
-    ensures write { (bytes : Vec ℕ OnHeap) → bytes.items ≡ 5 ∷ [] → update_by (Write 7 bytes) ≡ record { sector = 7; value = Some (5 ∷ []) } }
-    ensures trim { update_by (Trim 7) ≡ record { sector = 7; value = None } }
+    ensures write { (bytes : Vec ℕ OnHeap) → bytes.items ≡ 5 ∷ [] → update_by (Write 7 bytes) ≡ record { extent = sole 7; value = Some (5 ∷ []) } }
+    ensures trim { update_by (Trim (record { first = 7; count = 2 })) ≡ record { extent = record { first = 7; count = 2 }; value = None } }
     ensures fits { (bytes : Vec ℕ OnHeap) → bytes.items ≡ 5 ∷ [] → IsFor 8 1 (Write 7 bytes) }
     ensures beyond { (bytes : Vec ℕ OnHeap) → ¬ IsFor 8 1 (Write 8 bytes) }
     ensures short { (bytes : Vec ℕ OnHeap) → bytes.items ≡ [] → ¬ IsFor 8 1 (Write 7 bytes) }
-    ensures last { IsFor 8 1 (Trim 7) }
-    ensures past { ¬ IsFor 8 1 (Trim 8) }
+    ensures last { IsFor 9 1 (Trim (record { first = 7; count = 2 })) }
+    ensures past { ¬ IsFor 8 1 (Trim (record { first = 7; count = 2 })) }
+    ensures no_sectors { ¬ IsFor 8 1 (Trim (record { first = 7; count = 0 })) }
     ensures in_order { (a b : Call) (u : Update) → Leads (a ∷ b ∷ []) (true ∷ true ∷ []) (u ∷ []) (update_by b ∷ update_by a ∷ u ∷ []) }
     ensures only { (a b : Call) (updates : List Update) → Leads (a ∷ b ∷ []) (true ∷ true ∷ []) [] updates → updates ≡ update_by b ∷ update_by a ∷ [] }
     ensures not_made { (a b : Call) (updates : List Update) → Leads (a ∷ b ∷ []) (true ∷ []) [] updates → updates ≡ update_by a ∷ [] }

@@ -3,13 +3,16 @@ ghost use Rattle.std.specs.Prelude.{None, Some, Ok, Err, OnOk, OnErr, IfOk, IfEr
 ghost use Rattle.geometry.specs.Sectors.{was_of};
 ghost use Rattle.geometry.specs.declared.answer.Was.TheVariants as was;
 ghost use Rattle.durable.specs.Collecting.{HasCapacity};
-ghost use Rattle.durable.specs.Updates.{Update, array_after};
+ghost use Rattle.durable.specs.Updates.{Covers, LiesWithin, Update, array_after, sole};
+ghost use Rattle.durable.specs.declared.extent.Extent.{Extent as Sectors};
 ghost use Rattle.durable.specs.declared.fault.MountFault.TheVariants as mount_fault;
 ghost use Rattle.durable.specs.Device.{IsWrittenOn, losses_of};
 ghost use Rattle.durable.specs.Flash.{IsErased};
 ghost use Rattle.nand.specs.Numbers.{good_before};
-ghost use Rattle.nand.specs.Opened.{CanOpen, Fails, HasMarkedFailed, IsClosed, IsOpenLayer, IsSameDevice, IsTrueCause, KeepsDevice, ReadsSector};
+ghost use Rattle.nand.specs.Opened.{CanOpen, Fails, HasMarkedFailed, IsClosed, IsOpenLayer, IsSameDevice, IsTrueCause, KeepsDevice, ReadsSector, Were};
 ghost use Rattle.nand.specs.Opened.{device_on, layer_sectors, number_of, reserve_of, update_of};
+ghost use Rattle.nand.specs.Looks.{Looks};
+ghost use Rattle.nand.specs.Programs.{ProgramsOnce};
 ghost use Rattle.nand.specs.declared.failure.Failure.TheVariants as failure;
 ghost use Rattle.nand.specs.declared.failure.OpenFailure.TheVariants as why;
 ghost use Rattle.nand.specs.declared.flash.Reading.TheVariants as outcome;
@@ -20,7 +23,7 @@ use crate::failure::{Failure, OpenFailure};
 use crate::flash::{Nand, PowerGone, Reading};
 use crate::mounting::mount;
 use crate::numbers::chip_page;
-use durable::Core;
+use durable::{Core, Extent};
 use geometry::{Got, Was};
 use std::alloc::Global;
 
@@ -48,13 +51,13 @@ pub struct NotOpened<N> {
 
 // What a sector is, by what its page was read as.
 fn found(reading: Reading, sector: u32) -> Result<Was, Failure>
-    ensures version { (n : ℕ) (t : Bool) → reading ≡ outcome.Version (record { sector = sector; number = n; trimmed = t })
+    ensures version { (e : Sectors) (n : ℕ) (t : Bool) → Covers e sector → reading ≡ outcome.Version (record { extent = e; number = n; trimmed = t })
         → result ≡ Ok (if t then was.Empty else was.Written) }
     ensures lost { OnErr result (result ≡ Err failure.Lost) }
 {
     match reading {
         Reading::Version(stamp) => {
-            if stamp.sector != sector {
+            if !stamp.extent.covers(sector) {
                 return Err(Failure::Lost);
             }
             Ok(if stamp.trimmed {
@@ -178,19 +181,27 @@ impl<N: Nand> Durable<N> {
         requires sector { sector < layer_sectors self.old }
         requires page { length bytes.now ≡ (N.shape self.old.nand).page_bytes }
         ensures acknowledged { (updates : List Update) → IsOpenLayer N.flash N.shape N.bad self.old updates
-            → OnOk result (IsOpenLayer N.flash N.shape N.bad self.new (update_of sector (Some bytes.now) ∷ updates)) }
+            → OnOk result (IsOpenLayer N.flash N.shape N.bad self.new (update_of (sole sector) (Some bytes.now) ∷ updates)) }
 
         // It fails only if the chip does, or if the numbers have run out.
         ensures fails { (updates : List Update) → IsOpenLayer N.flash N.shape N.bad self.old updates
-            → IfErr result (Fails N.flash N.shape N.bad self.old self.new (update_of sector (Some bytes.now)) updates) }
+            → IfErr result (Fails N.flash N.shape N.bad self.old self.new (update_of (sole sector) (Some bytes.now)) updates) }
         ensures cause { IfErr result (IsTrueCause N.faults self.old self.new) }
         ensures closed { IsClosed self.old → result ≡ Err failure.Closed }
         ensures device { KeepsDevice N.shape N.bad N.faults self.old self.new }
         ensures marks { (updates : List Update) → IsOpenLayer N.flash N.shape N.bad self.old updates
             → OnOk result (HasMarkedFailed N.shape N.bad N.faults self.old self.new) }
+        ensures memory { (updates : List Update) → IsOpenLayer N.flash N.shape N.bad self.old updates
+            → result ≡ Err failure.OutOfMemory → HasMarkedFailed N.shape N.bad N.faults self.old self.new }
+        ensures once { (updates : List Update) → IsOpenLayer N.flash N.shape N.bad self.old updates
+            → OnOk result (ProgramsOnce N.flash N.bad self.old self.new (update_of (sole sector) (Some bytes.now))) }
         ensures overwrites { result ≢ Err failure.Written }
     {
-        self.update(sector, false, bytes)
+        let extent = Extent {
+            first: sector,
+            count: 1,
+        };
+        self.update(extent, false, bytes)
     }
 
     /// Writes a sector if it is empty.
@@ -198,7 +209,7 @@ impl<N: Nand> Durable<N> {
         requires sector { sector < layer_sectors self.old }
         requires page { length bytes.now ≡ (N.shape self.old.nand).page_bytes }
         ensures acknowledged { (updates : List Update) → IsOpenLayer N.flash N.shape N.bad self.old updates
-            → OnOk result (IsOpenLayer N.flash N.shape N.bad self.new (update_of sector (Some bytes.now) ∷ updates)) }
+            → OnOk result (IsOpenLayer N.flash N.shape N.bad self.new (update_of (sole sector) (Some bytes.now) ∷ updates)) }
         ensures empty { (updates : List Update) → IsOpenLayer N.flash N.shape N.bad self.old updates
             → OnOk result (was_of (array_after updates sector) ≡ was.Empty) }
 
@@ -206,42 +217,54 @@ impl<N: Nand> Durable<N> {
         ensures written { (updates : List Update) → IsOpenLayer N.flash N.shape N.bad self.old updates
             → result ≡ Err failure.Written → was_of (array_after updates sector) ≡ was.Written }
         ensures fails { (updates : List Update) → IsOpenLayer N.flash N.shape N.bad self.old updates
-            → IfErr result (Fails N.flash N.shape N.bad self.old self.new (update_of sector (Some bytes.now)) updates) }
+            → IfErr result (Fails N.flash N.shape N.bad self.old self.new (update_of (sole sector) (Some bytes.now)) updates) }
         ensures cause { IfErr result (IsTrueCause N.faults self.old self.new) }
         ensures closed { IsClosed self.old → result ≡ Err failure.Closed }
         ensures device { KeepsDevice N.shape N.bad N.faults self.old self.new }
         ensures marks { (updates : List Update) → IsOpenLayer N.flash N.shape N.bad self.old updates
             → OnOk result (HasMarkedFailed N.shape N.bad N.faults self.old self.new) }
+        ensures memory { (updates : List Update) → IsOpenLayer N.flash N.shape N.bad self.old updates
+            → result ≡ Err failure.OutOfMemory → HasMarkedFailed N.shape N.bad N.faults self.old self.new }
+        ensures once { (updates : List Update) → IsOpenLayer N.flash N.shape N.bad self.old updates
+            → OnOk result (ProgramsOnce N.flash N.bad self.old self.new (update_of (sole sector) (Some bytes.now))) }
     {
+        let extent = Extent {
+            first: sector,
+            count: 1,
+        };
         match self.was(sector) {
-            Ok(Was::Empty) => self.update(sector, false, bytes),
+            Ok(Was::Empty) => self.update(extent, false, bytes),
             Ok(Was::Written) => Err(Failure::Written),
             Err(failure) => Err(failure),
         }
     }
 
-    /// Empties a sector, and returns what it was. If it was empty, nothing is programmed.
-    pub fn trim(&mut self, sector: u32) -> Result<Was, Failure>
-        requires { sector < layer_sectors self.old }
+    /// Empties the sectors of an extent, and returns whether any of them was written. If none was, nothing is programmed, and otherwise one page.
+    pub fn trim(&mut self, extent: Extent) -> Result<Was, Failure>
+        requires { LiesWithin (layer_sectors self.old) extent }
         ensures was { (updates : List Update) → IsOpenLayer N.flash N.shape N.bad self.old updates
-            → IfOk result (λ had. had ≡ was_of (array_after updates sector)) }
+            → IfOk result (Were (array_after updates) extent) }
         ensures acknowledged { (updates : List Update) → IsOpenLayer N.flash N.shape N.bad self.old updates
-            → OnOk result (IsOpenLayer N.flash N.shape N.bad self.new (update_of sector None ∷ updates)) }
+            → OnOk result (IsOpenLayer N.flash N.shape N.bad self.new (update_of extent None ∷ updates)) }
         ensures nothing { result ≡ Ok was.Empty → N.flash self.new.nand ≡ N.flash self.old.nand }
 
         // It fails only if the chip does, or if the numbers have run out.
         ensures fails { (updates : List Update) → IsOpenLayer N.flash N.shape N.bad self.old updates
-            → IfErr result (Fails N.flash N.shape N.bad self.old self.new (update_of sector None) updates) }
+            → IfErr result (Fails N.flash N.shape N.bad self.old self.new (update_of extent None) updates) }
         ensures cause { IfErr result (IsTrueCause N.faults self.old self.new) }
         ensures closed { IsClosed self.old → result ≡ Err failure.Closed }
         ensures device { KeepsDevice N.shape N.bad N.faults self.old self.new }
         ensures marks { (updates : List Update) → IsOpenLayer N.flash N.shape N.bad self.old updates
             → OnOk result (HasMarkedFailed N.shape N.bad N.faults self.old self.new) }
+        ensures memory { (updates : List Update) → IsOpenLayer N.flash N.shape N.bad self.old updates
+            → result ≡ Err failure.OutOfMemory → HasMarkedFailed N.shape N.bad N.faults self.old self.new }
+        ensures once { (updates : List Update) → IsOpenLayer N.flash N.shape N.bad self.old updates
+            → result ≡ Ok was.Written → ProgramsOnce N.flash N.bad self.old self.new (update_of extent None) }
         ensures trims { result ≢ Err failure.Written }
     {
-        match self.was(sector) {
+        match self.were(extent) {
             Ok(Was::Empty) => Ok(Was::Empty),
-            Ok(Was::Written) => match self.update(sector, true, &[]) {
+            Ok(Was::Written) => match self.update(extent, true, &[]) {
                 Ok(()) => Ok(Was::Written),
                 Err(failure) => Err(failure),
             },
@@ -268,16 +291,9 @@ impl<N: Nand> Durable<N> {
         requires { sector < layer_sectors self.old }
         ensures gives { (updates : List Update) → IsOpenLayer N.flash N.shape N.bad self.old updates
             → IfOk result (λ had. had ≡ was_of (array_after updates sector)) }
-        ensures open { (updates : List Update) → IsOpenLayer N.flash N.shape N.bad self.old updates → IsOpenLayer N.flash N.shape N.bad self.new updates }
+        ensures looks { Looks N.flash N.shape N.bad N.faults self.old self.new result }
         ensures only { (updates : List Update) → IsOpenLayer N.flash N.shape N.bad self.old updates → OnErr result (result ≡ Err failure.PowerGone) }
-        ensures cause { IfErr result (IsTrueCause N.faults self.old self.new) }
-        ensures failed { (result ≢ Err failure.Failed) × (result ≢ Err failure.NoNumber) × (result ≢ Err failure.Written) }
         ensures closed { IsClosed self.old → result ≡ Err failure.Closed }
-        ensures mounted { self.new.mounted ≡ self.old.mounted }
-        ensures faults { OnOk result ((cause : Cause) → N.faults self.new.nand cause ≡ N.faults self.old.nand cause) }
-        ensures number { number_of self.new ≡ number_of self.old }
-        ensures flash { N.flash self.new.nand ≡ N.flash self.old.nand }
-        ensures device { IsSameDevice N.shape N.bad self.old self.new }
     {
         if !self.mounted {
             return Err(Failure::Closed);
@@ -289,5 +305,24 @@ impl<N: Nand> Durable<N> {
             Ok(reading) => found(reading, sector),
             Err(PowerGone) => Err(Failure::PowerGone),
         }
+    }
+
+    // Whether any sector of an extent is written.
+    fn were(&mut self, extent: Extent) -> Result<Was, Failure>
+        requires { LiesWithin (layer_sectors self.old) extent }
+        ensures gives { (updates : List Update) → IsOpenLayer N.flash N.shape N.bad self.old updates
+            → IfOk result (Were (array_after updates) extent) }
+        ensures looks { Looks N.flash N.shape N.bad N.faults self.old self.new result }
+        ensures only { (updates : List Update) → IsOpenLayer N.flash N.shape N.bad self.old updates → OnErr result (result ≡ Err failure.PowerGone) }
+        ensures closed { IsClosed self.old → result ≡ Err failure.Closed }
+    {
+        for sector in extent.first..extent.first + extent.count {
+            match self.was(sector) {
+                Ok(Was::Empty) => {}
+                Ok(Was::Written) => return Ok(Was::Written),
+                Err(failure) => return Err(failure),
+            }
+        }
+        Ok(Was::Empty)
     }
 }

@@ -13,7 +13,7 @@ mod numbers;
 mod updating;
 
 pub use chip::{Chip, Cut};
-pub use durable::MountFault;
+pub use durable::{Extent, MountFault};
 pub use failure::{Failure, OpenFailure};
 pub use flash::{Fault, Nand, PowerGone, Reading, Shape, Stamp};
 pub use geometry::{Got, PageAddr, Was};

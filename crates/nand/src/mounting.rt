@@ -23,7 +23,7 @@ fn noted(reading: Reading) -> Option<durable::Stamp>
 {
     match reading {
         Reading::Version(stamp) => Some(durable::Stamp {
-            sector: stamp.sector,
+            extent: stamp.extent,
             number: stamp.number,
         }),
         Reading::Erased | Reading::Unreadable => None,

@@ -1,13 +1,14 @@
-//! How a sector gets a new version, and how the layer goes on after a command that has failed.
+//! How sectors get a new version, and how the layer goes on after a command that has failed.
 ghost use Rattle.std.specs.Prelude.{◌≡◌, ◌≢◌, ◌⊎◌, ◌<◌, ◌≤◌, ◌+◌, ◌^◌, ℕ, Bool, true, false, List, ◌∷◌, length, Ok, Err, OnOk, OnErr, IfErr};
 ghost use Rattle.durable.specs.Failures.{Changes};
-ghost use Rattle.durable.specs.Updates.{Update};
+ghost use Rattle.durable.specs.Updates.{LiesWithin, Update};
 ghost use Rattle.durable.specs.declared.command.Command.TheVariants as commands;
 ghost use Rattle.nand.specs.Attempts.{CanReplace, CountsStop, Leaves};
 ghost use Rattle.nand.specs.Nand.{CountsFault, Performs, value_with};
 ghost use Rattle.nand.specs.Numbers.{IsOrder, good_before, is_marked, numbered};
 ghost use Rattle.nand.specs.Opened.{CanOpen, Fails, HasMarkedFailed, IsClosed, IsOpenLayer, IsSameDevice, IsTrueCause, KeepsDevice};
 ghost use Rattle.nand.specs.Opened.{layer_sectors, number_of, reserve_of, update_of};
+ghost use Rattle.nand.specs.Programs.{AddsVersion, ProgramsOnce};
 ghost use Rattle.nand.specs.declared.failure.Failure.TheVariants as failure;
 ghost use Rattle.nand.specs.declared.flash.Fault.{Fault as Cause};
 ghost use Rattle.nand.specs.declared.flash.Fault.TheVariants as fault;
@@ -18,9 +19,9 @@ use crate::flash::{Fault, Nand, PowerGone, Stamp};
 use crate::layer::Durable;
 use crate::mounting::mount;
 use crate::numbers::{chip_block, chip_page};
-use durable::Command;
+use durable::{Command, Extent};
 
-// Why an attempt to update a sector came to no end.
+// Why an attempt to update sectors came to no end.
 #[derive(Clone, Copy)]
 pub(crate) enum Stop {
     // The numbers of versions have run out.
@@ -46,12 +47,12 @@ fn perform<N: Nand>(
     nand: &mut N,
     numbers: &[u32],
     command: Command,
-    sector: u32,
+    extent: Extent,
     trimmed: bool,
     main: &[u8],
 ) -> Result<(), Fault>
     requires { trimmed ≡ false → length main.now ≡ (N.shape nand.old).page_bytes }
-    ensures does { (bad : List Bool) (blocks : ℕ) → IsOrder numbers.now bad blocks → Performs command sector (value_with trimmed main.now) result
+    ensures does { (bad : List Bool) (blocks : ℕ) → IsOrder numbers.now bad blocks → Performs command extent (value_with trimmed main.now) result
         (numbered numbers.now (N.flash nand.old)) (numbered numbers.now (N.flash nand.new)) }
     ensures shape { N.shape nand.new ≡ N.shape nand.old }
     ensures bad { N.bad nand.new ≡ N.bad nand.old }
@@ -60,7 +61,7 @@ fn perform<N: Nand>(
     match command {
         Command::Program(at, number) => {
             let stamp = Stamp {
-                sector,
+                extent,
                 number,
                 trimmed,
             };
@@ -76,20 +77,29 @@ fn perform<N: Nand>(
 }
 
 impl<N: Nand> Durable<N> {
-    // Gives a sector a new version. A block whose command fails is replaced by one of the reserve, and the call goes on.
-    pub(crate) fn update(&mut self, sector: u32, trimmed: bool, main: &[u8]) -> Result<(), Failure>
-        requires sector { sector < layer_sectors self.old }
+    // Gives the sectors of an extent a new version. A block whose command fails is replaced by one of the reserve, and the call goes on.
+    pub(crate) fn update(
+        &mut self,
+        extent: Extent,
+        trimmed: bool,
+        main: &[u8],
+    ) -> Result<(), Failure>
+        requires within { LiesWithin (layer_sectors self.old) extent }
         requires page { trimmed ≡ false → length main.now ≡ (N.shape self.old.nand).page_bytes }
         ensures acknowledged { (updates : List Update) → IsOpenLayer N.flash N.shape N.bad self.old updates
-            → OnOk result (IsOpenLayer N.flash N.shape N.bad self.new (update_of sector (value_with trimmed main.now) ∷ updates)) }
+            → OnOk result (IsOpenLayer N.flash N.shape N.bad self.new (update_of extent (value_with trimmed main.now) ∷ updates)) }
         ensures fails { (updates : List Update) → IsOpenLayer N.flash N.shape N.bad self.old updates
-            → IfErr result (Fails N.flash N.shape N.bad self.old self.new (update_of sector (value_with trimmed main.now)) updates) }
+            → IfErr result (Fails N.flash N.shape N.bad self.old self.new (update_of extent (value_with trimmed main.now)) updates) }
         ensures cause { IfErr result (IsTrueCause N.faults self.old self.new) }
         ensures closed { IsClosed self.old → result ≡ Err failure.Closed }
         ensures device { KeepsDevice N.shape N.bad N.faults self.old self.new }
         ensures marks { (updates : List Update) → IsOpenLayer N.flash N.shape N.bad self.old updates
             → OnOk result (HasMarkedFailed N.shape N.bad N.faults self.old self.new) }
+        ensures memory { (updates : List Update) → IsOpenLayer N.flash N.shape N.bad self.old updates
+            → result ≡ Err failure.OutOfMemory → HasMarkedFailed N.shape N.bad N.faults self.old self.new }
         ensures overwrites { result ≢ Err failure.Written }
+        ensures once { (updates : List Update) → IsOpenLayer N.flash N.shape N.bad self.old updates
+            → OnOk result (ProgramsOnce N.flash N.bad self.old self.new (update_of extent (value_with trimmed main.now))) }
     {
         if !self.mounted {
             return Err(Failure::Closed);
@@ -97,7 +107,7 @@ impl<N: Nand> Durable<N> {
         let reserve = self.reserve;
         let mut failed = 0;
         loop {
-            match self.attempt(sector, trimmed, main) {
+            match self.attempt(extent, trimmed, main) {
                 Ok(()) => return Ok(()),
                 Err(Stop::NoNumber) => {
                     if failed == 0 {
@@ -121,20 +131,23 @@ impl<N: Nand> Durable<N> {
     }
 
     // The same, up to the first fault.
-    fn attempt(&mut self, sector: u32, trimmed: bool, main: &[u8]) -> Result<(), Stop>
-        requires sector { sector < layer_sectors self.old }
+    fn attempt(&mut self, extent: Extent, trimmed: bool, main: &[u8]) -> Result<(), Stop>
+        requires within { LiesWithin (layer_sectors self.old) extent }
         requires page { trimmed ≡ false → length main.now ≡ (N.shape self.old.nand).page_bytes }
         ensures acknowledged { (updates : List Update) → IsOpenLayer N.flash N.shape N.bad self.old updates
-            → OnOk result (IsOpenLayer N.flash N.shape N.bad self.new (update_of sector (value_with trimmed main.now) ∷ updates)) }
+            → OnOk result (IsOpenLayer N.flash N.shape N.bad self.new (update_of extent (value_with trimmed main.now) ∷ updates)) }
         ensures leaves { (updates : List Update) → IsOpenLayer N.flash N.shape N.bad self.old updates
-            → IfErr result (Leaves N.flash N.shape N.bad self.new (update_of sector (value_with trimmed main.now)) updates) }
+            → IfErr result (Leaves N.flash N.shape N.bad self.new (update_of extent (value_with trimmed main.now)) updates) }
         ensures number { result ≡ Err stop.NoNumber → (number_of self.new ≡ number_of self.old) × (2 ^ 64 ≤ number_of self.new + 1) }
         ensures counts { CountsStop (N.faults self.old.nand) (N.faults self.new.nand) result }
         ensures device { IsSameDevice N.shape N.bad self.old self.new }
         ensures reserve { reserve_of self.new ≡ reserve_of self.old }
+        ensures adds { (updates : List Update) → IsOpenLayer N.flash N.shape N.bad self.old updates
+            → OnOk result (AddsVersion (N.flash self.old.nand) (N.flash self.new.nand) (number_of self.old) (update_of extent
+            (value_with trimmed main.now))) }
     {
         loop {
-            let command = self.core.next(sector);
+            let command = self.core.next(extent);
             if matches!(command, Command::Refused) {
                 return Err(Stop::NoNumber);
             }
@@ -142,14 +155,14 @@ impl<N: Nand> Durable<N> {
                 &mut self.nand,
                 &self.numbers,
                 command,
-                sector,
+                extent,
                 trimmed,
                 main,
             ) {
                 self.mounted = false;
                 return Err(Stop::Fault(fault, changed_block(command)));
             }
-            self.core.done(sector, command);
+            self.core.done(extent, command);
             if command.is_last() {
                 return Ok(());
             }
@@ -164,6 +177,9 @@ impl<N: Nand> Durable<N> {
             ≡ good_before (N.bad self.old.nand) (N.shape self.old.nand).blocks)) }
         ensures closed { (updates : List Update) → CanReplace N.flash N.shape N.bad self.old number updates → 0 < reserve_of self.old
             → OnErr result (IsClosed self.new × CanOpen N.flash N.shape N.bad self.new.nand (layer_sectors self.old) updates) }
+        ensures marked { (updates : List Update) → CanReplace N.flash N.shape N.bad self.old number updates → result ≡ Err failure.OutOfMemory
+            → good_before (N.bad self.new.nand) (N.shape self.old.nand).blocks + 1
+            ≡ good_before (N.bad self.old.nand) (N.shape self.old.nand).blocks }
         ensures causes { OnErr result ((result ≡ Err failure.PowerGone) ⊎ (result ≡ Err failure.OutOfMemory)) }
         ensures failures { N.faults self.new.nand fault.Failed ≡ N.faults self.old.nand fault.Failed }
         ensures faults { OnOk result ((cause : Cause) → N.faults self.new.nand cause ≡ N.faults self.old.nand cause) }

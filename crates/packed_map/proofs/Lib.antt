@@ -1,1 +1,3 @@
-pub mod Packing
+pub mod Entries
+pub mod Groups
+pub mod Halves

@@ -1,27 +1,41 @@
-//! Laws of locations. Each function has no code: its clauses say where a definition holds and where not.
-ghost use Rattle.std.specs.Prelude.{◌≡◌};
-ghost use Rattle.packed_map.specs.Locations.{location_of, IsPackable};
-ghost use Rattle.packed_map.specs.declared.location.Location.TheVariants.{Nowhere, Page, Trim};
+//! Laws of the definitions. Each function has no code: its clauses say on small values where a definition holds and where not.
+ghost use Rattle.std.specs.Prelude.{◌≡◌, ℕ, List, [], ◌∷◌, replicate, None, Some};
+ghost use Rattle.packed_map.specs.Entries.{entry_of, IsPackable};
+ghost use Rattle.packed_map.specs.Groups.{grouped_numbers, AreGrouped};
+ghost use Rattle.packed_map.specs.Halves.{joined};
 
-/// The limits of a location.
-pub fn limits_of_a_location()
-    ensures nowhere { IsPackable Nowhere }
-    ensures page { IsPackable (Page (record { block = 1048575; page = 16383 })) }
-    ensures block { ¬ (IsPackable (Page (record { block = 1048576; page = 0 }))) }
-    ensures many_pages { ¬ (IsPackable (Page (record { block = 0; page = 16384 }))) }
-    ensures trim { IsPackable (Trim 268435455) }
-    ensures many_trims { ¬ (IsPackable (Trim 268435456)) }
+/// The bits of entries.
+#[tactic(auto, unfolding(crate::specs::Entries::entry_of))]
+pub fn bits_of_entries()
+    ensures none { entry_of 0 ≡ None }
+    ensures first { entry_of 1 ≡ Some (record { block = 0; page = 0 }) }
+    ensures last_low_page { entry_of 16384 ≡ Some (record { block = 0; page = 16383 }) }
+    ensures next_block { entry_of 16385 ≡ Some (record { block = 1; page = 0 }) }
+    ensures last_low { entry_of 4294967295 ≡ Some (record { block = 262143; page = 16382 }) }
+    ensures last_block { entry_of 70368744177664 ≡ Some (record { block = 4294967295; page = 16383 }) }
+    ensures high_page { entry_of 70368744177665 ≡ Some (record { block = 0; page = 16384 }) }
+    ensures greatest { entry_of 18446744073709551615 ≡ Some (record { block = 4294967295; page = 4294967294 }) }
 {}
 
-/// The bits of locations.
-#[tactic(auto, unfolding(crate::specs::Locations::location_of))]
-pub fn bits_of_locations()
-    ensures first { location_of 0 ≡ Page (record { block = 0; page = 0 }) }
-    ensures last_page { location_of 16383 ≡ Page (record { block = 0; page = 16383 }) }
-    ensures next_block { location_of 16384 ≡ Page (record { block = 1; page = 0 }) }
-    ensures last { location_of 17179869183 ≡ Page (record { block = 1048575; page = 16383 }) }
-    ensures first_trim { location_of 17179869184 ≡ Trim 0 }
-    ensures last_trim { location_of 17448304639 ≡ Trim 268435455 }
-    ensures next { location_of 17448304640 ≡ Nowhere }
-    ensures greatest { location_of 18446744073709551615 ≡ Nowhere }
+/// Which entries have bits.
+pub fn limits_of_entries()
+    ensures none { IsPackable None }
+    ensures greatest { IsPackable (Some (record { block = 4294967295; page = 4294967294 })) }
+    ensures last { ¬ IsPackable (Some (record { block = 4294967295; page = 4294967295 })) }
+{}
+
+/// Where the numbers of groups are, and which groups are kept.
+#[tactic(auto, unfolding(crate::specs::Groups::grouped_numbers))]
+pub fn groups()
+    ensures numbers { grouped_numbers (0 ∷ []) (5 ∷ 6 ∷ []) 3 ≡ 5 ∷ 6 ∷ 0 ∷ [] }
+    ensures first { AreGrouped (replicate 3 0) (replicate 256 0) 1 }
+    ensures nothing { (places : List ℕ) → ¬ AreGrouped places [] 1 }
+    ensures shared { (kept : List ℕ) → ¬ AreGrouped (1 ∷ 1 ∷ []) kept 2 }
+    ensures outside { (kept : List ℕ) → ¬ AreGrouped (2 ∷ []) kept 2 }
+{}
+
+/// Numbers by their halves.
+#[tactic(auto, unfolding(crate::specs::Halves::joined))]
+pub fn halves()
+    ensures { joined (1 ∷ 2 ∷ []) (0 ∷ 3 ∷ []) ≡ 1 ∷ 12884901890 ∷ [] }
 {}

@@ -1,9 +1,12 @@
-//! The map of a layer over flash, packed: where the newest version of each sector is, in eight bytes a sector.
+//! The map of a layer over flash, packed: the page of each sector in four bytes, or eight on the largest devices, and next to nothing for sectors
+//! that have none.
 #![tactic(auto)]
 
+mod entry;
 mod laws;
-mod location;
+mod numbers;
 mod packed_map;
+mod words;
 
-pub use location::{Location, MAX_BLOCKS, MAX_PAGES, MAX_TRIMS};
+pub use numbers::SparseNumbers;
 pub use packed_map::PackedMap;

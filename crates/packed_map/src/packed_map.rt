@@ -1,68 +1,60 @@
-ghost use Rattle.std.specs.Prelude.{◌≡◌, ◌<◌, length, replicate, slice_set, slice_index_or, IfOk, IsTrue, ◌↔◌};
-ghost use Rattle.packed_map.specs.Locations.{IsPackable};
-ghost use Rattle.packed_map.specs.declared.location.Location.TheVariants.{Nowhere};
+ghost use Rattle.std.specs.Prelude.{◌≡◌, ◌<◌, length, replicate, slice_set, slice_index_or, None, IfOk};
+ghost use Rattle.packed_map.specs.Entries.{IsPackable};
 
-use crate::location::{Location, NOWHERE, pack, unpack};
+use crate::entry::{pack, unpack};
+use crate::numbers::SparseNumbers;
+use geometry::PageAddr;
 use std::alloc::{AllocError, Global};
 use std::marker::Model;
 
-/// Where the newest version of each sector is, in eight bytes a sector.
+/// The page of each sector, or none.
 #[derive(Drop)]
 pub struct PackedMap {
-    entries: Vec<u64>,
+    entries: SparseNumbers,
 }
 
-// Clauses see the list of the sectors' locations.
+// Clauses see the list of the entries.
 impl Model for PackedMap {
-    ghost use Rattle.std.specs.Prelude.{List, map};
-    ghost use Rattle.packed_map.specs.declared.location.Location.{Location};
+    ghost use Rattle.std.specs.Prelude.{map};
+    ghost use Rattle.packed_map.specs.Entries.{Entries, entry_of};
 
-    ghost Value = { List Location };
+    ghost Value = { Entries };
 
-    ghost use Rattle.packed_map.specs.Locations.{location_of};
-
-    ghost view = { λ packed. map location_of packed.entries.items };
+    ghost view = { λ packed. record { items = map entry_of packed.entries } };
 }
 
 impl PackedMap {
-    /// No sector has a version.
-    pub fn new(alloc: Global, sectors: usize) -> Result<Self, AllocError>
-        ensures { IfOk result (λ packed. packed ≡ replicate sectors Nowhere) }
+    /// No sector has a page.
+    pub fn new(alloc: Global, sectors: u32) -> Result<Self, AllocError>
+        ensures { IfOk result (λ packed. packed.items ≡ replicate sectors None) }
     {
         Ok(PackedMap {
-            entries: vec![in alloc; NOWHERE; sectors]?,
+            entries: SparseNumbers::new(alloc, sectors)?,
         })
     }
 
     /// How many sectors there are.
     pub fn len(&self) -> usize
-        ensures { result ≡ length self.now }
+        ensures { result ≡ length self.now.items }
     {
         self.entries.len()
     }
 
-    /// Whether there are no sectors.
-    pub fn is_empty(&self) -> bool
-        ensures { IsTrue result ↔ (length self.now ≡ 0) }
-    {
-        self.entries.is_empty()
-    }
-
-    /// Where the newest version of a sector is.
-    pub fn get(&self, sector: usize) -> Location
-        requires { sector < length self.now }
-        ensures location { result ≡ slice_index_or self.now sector Nowhere }
+    /// The page of a sector.
+    pub fn get(&self, sector: usize) -> Option<PageAddr>
+        requires { sector < length self.now.items }
+        ensures entry { result ≡ slice_index_or self.now.items sector None }
         ensures packable { IsPackable result }
     {
-        unpack(self.entries[sector])
+        unpack(self.entries.get(sector))
     }
 
-    /// Moves the newest version of a sector.
-    pub fn set(&mut self, sector: usize, location: Location)
-        requires sector { sector < length self.old }
-        requires packable { IsPackable location }
-        ensures { self.new ≡ slice_set self.old sector location }
+    /// Maps a sector to a page, or to none.
+    pub fn set(&mut self, sector: usize, entry: Option<PageAddr>)
+        requires sector { sector < length self.old.items }
+        requires packable { IsPackable entry }
+        ensures { self.new.items ≡ slice_set self.old.items sector entry }
     {
-        self.entries[sector] = pack(location);
+        self.entries.set(sector, pack(entry));
     }
 }

@@ -1,11 +1,7 @@
 -- Keys and which blocks are eligible.
 use Rattle.std.proofs.Common.{◌≡◌, ℕ, ◌<◌, true, false, List, [], ◌∷◌, length, replicate, set, get_or, refl, suc, ap, ap₂, ◌∙◌, arith}
-use Rattle.std.specs.Prelude.{count_by, nat_lt, ◌==◌, ◌&&◌}
-use Rattle.std.specs.List.{zip}
-use Rattle.std.proofs.lemmas.List.{map-set, get_or-map}
-use Rattle.std.proofs.Math.Seq.{map-set_same}
-use Rattle.std.proofs.lemmas.Bool.Decides.{nat_tests}
-use Rattle.std.proofs.lemmas.Grind.{common_steps}
+use Rattle.std.specs.{Prelude.count_by, Prelude.nat_lt, Prelude.◌==◌, Prelude.◌&&◌, List.zip}
+use Rattle.std.proofs.{lemmas.List.map-set, lemmas.List.get_or-map, Math.Seq.map-set_same, lemmas.Bool.Decides.nat_tests, lemmas.Grind.common_steps}
 use Rattle.victims.specs.Victims.{IsEligible, AreKeys, are_above_zero}
 
 -- the marks after a key is set to zero

@@ -1,12 +1,8 @@
 -- Sorted items after a step of one key.
 use Rattle.std.proofs.Common.{⊎_elim, [], ◌∷◌, refl, ◌≡◌, ℕ, ◌+◌, ◌<◌, ◌≤◌, Bool, cond, List, length, set, get_or, arith}
 use Rattle.std.specs.Prelude.{count_by, nat_lt, ◌==◌}
-use Rattle.std.proofs.lemmas.List.Sums.{sum_by-set, count_by-le-length}
-use Rattle.std.proofs.lemmas.Bool.{cases_lt}
-use Rattle.std.proofs.lemmas.Bool.Decides.{nat_tests}
-use Rattle.std.proofs.lemmas.Grind.{common_steps}
-use Rattle.victims.specs.Permutation.{AreInverse, HasMoved}
-use Rattle.victims.specs.Buckets.{AreSorted, HasLeastKey}
+use Rattle.std.proofs.lemmas.{List.Sums.sum_by-set, List.Sums.count_by-le-length, Bool.cases_lt, Bool.Decides.nat_tests, Grind.common_steps}
+use Rattle.victims.specs.{Permutation.AreInverse, Permutation.HasMoved, Buckets.AreSorted, Buckets.HasLeastKey}
 
 -- a count after one number is replaced
 pub count_by-set : (p : ℕ → Bool) (xs : List ℕ) (i y : ℕ) → i < length xs

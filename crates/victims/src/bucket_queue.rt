@@ -1,4 +1,4 @@
-ghost use Rattle.std.specs.Prelude.{◌≡◌, ◌≢◌, ◌⊎◌, ℕ, ◌+◌, ◌-◌, ◌^◌, ◌<◌, ◌≤◌, ◌==◌, length, replicate, count_by, slice_set, slice_index, IfOk, IfSome, IfNone};
+ghost use Rattle.std.specs.Prelude.{◌≡◌, ◌≢◌, ℕ, ◌+◌, ◌-◌, ◌^◌, ◌<◌, ◌≤◌, ◌==◌, length, replicate, count_by, slice_set, slice_index, IfOk, IfSome, IfNone};
 ghost use Rattle.victims.specs.Buckets.{AreSorted, HasLeastKey};
 
 use crate::permutation::Permutation;

@@ -1,8 +1,7 @@
 //! Laws of what is known of blocks, and of how they are sorted. Each function has no code: its clauses say where a definition holds and where not.
-ghost use Rattle.std.specs.Prelude.{◌≡◌, ◌^◌, ℕ, [], ◌∷◌, true, false};
-ghost use Rattle.victims.specs.Victims.{Blocks, block_count, kept_pages, erase_count, spare_count, AreKeys, are_above_zero};
-ghost use Rattle.victims.specs.Victims.{AreCounted, IsEligible, IsBestVictim, IsSpareBlock};
-ghost use Rattle.victims.specs.Permutation.{AreInverse, HasMoved};
+ghost use Rattle.std.specs.Prelude.{◌≡◌, ◌^◌, [], ◌∷◌, true, false};
+ghost use Rattle.victims.specs.Victims.{Blocks, block_count, kept_pages, erase_count, spare_count, AreKeys, are_above_zero, AreCounted, IsEligible};
+ghost use Rattle.victims.specs.{Victims.IsBestVictim, Victims.IsSpareBlock, Permutation.AreInverse, Permutation.HasMoved};
 ghost use Rattle.victims.specs.Buckets.{AreSorted, HasLeastKey};
 
 /// Four blocks that keep 3, 0, 1 and 1 pages, of which all but the second are eligible.

@@ -1,5 +1,4 @@
-use Rattle.std.proofs.Common.{get_or, arith}
-use Rattle.std.proofs.lemmas.Grind.{common_steps}
+use Rattle.std.proofs.{Common.get_or, Common.arith, lemmas.Grind.common_steps}
 use Rattle.crc32c.proofs.Remainders.{by_table}
 use Rattle.crc32c.proofs.crc.extend.Goals as goal
 

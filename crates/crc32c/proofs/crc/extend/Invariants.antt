@@ -1,5 +1,4 @@
-use Rattle.std.proofs.Common.{◌≡◌, take}
-use Rattle.std.specs.Prelude.{fold, bit_xor}
+use Rattle.std.{proofs.Common.◌≡◌, proofs.Common.take, specs.Prelude.fold, specs.Prelude.bit_xor}
 use Rattle.crc32c.specs.Crc.{with_byte}
 use Rattle.crc32c.proofs.crc.extend.Given as goal
 

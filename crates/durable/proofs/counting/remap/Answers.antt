@@ -1,18 +1,18 @@
-use Rattle.std.proofs.Common.{◌<◌, length, None, Some, set, sym, ◌∙◌, ap, arith}
-use Rattle.std.proofs.lemmas.List.{length-set, get_or_default}
-use Rattle.durable.specs.Collecting.{weight}
+use Rattle.std.proofs.Common.{◌<◌, length, Some, set, ap, arith}
+use Rattle.std.proofs.lemmas.List.{length-set}
+use Rattle.durable.specs.Collecting.{weight, live_in}
 use Rattle.durable.proofs.Counts.{kept_in_set, weight_in, live_most}
 use Rattle.durable.proofs.counting.remap.Goals as goal
 
 pub discount-requires : goal.discount-requires
 discount-requires c b lt =
-    let old = c.index.ensures ∙ sym (get_or_default c.args.map.now.items c.args.sector None c.index.result.now c.requires.sector) in
+    let old = c.requires.from in
     omega (arith, weight_in b c.args.map.now.items c.args.sector c.requires.sector, c.requires.counted b lt, ap (weight b) old)
 
 pub count-requires : goal.count-requires
 count-requires c b lt =
     let map = c.args.map.now.items in
-    let old = c.index.ensures ∙ sym (get_or_default map c.args.sector None c.index.result.now c.requires.sector) in
+    let old = c.requires.from in
     let inside : b < length c.args.counts.now = omega (arith, lt, c.discount.ensures.size) in
     omega (
       arith,
@@ -28,7 +28,7 @@ count-requires c b lt =
 pub returns-clause-counted : goal.returns-clause-counted
 returns-clause-counted c b lt =
     let map = c.args.map.now.items in
-    let old = c.index.ensures ∙ sym (get_or_default map c.args.sector None c.index.result.now c.requires.sector) in
+    let old = c.requires.from in
     let before : b < length c.discount.new.counts = omega (arith, lt, c.count.ensures.size) in
     let inside : b < length c.args.counts.now = omega (arith, before, c.discount.ensures.size) in
     omega (
@@ -38,4 +38,5 @@ returns-clause-counted c b lt =
       c.requires.counted b inside,
       kept_in_set b map c.args.sector (Some c.args.to) c.requires.sector,
       ap (weight b) old,
+      ap (live_in b) c.set.ensures,
     )

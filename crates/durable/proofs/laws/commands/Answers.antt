@@ -1,12 +1,13 @@
 use Rattle.std.proofs.Common.{◌≢◌, inl, inr, ⊎_elim, ℕ, sym, ◌∙◌}
 use Rattle.std.proofs.lemmas.Bool.{cases_eq}
 use Rattle.geometry.specs.Sectors.{Sector}
+use Rattle.durable.specs.declared.extent.Extent.{Extent}
 use Rattle.durable.specs.Flash.{PageContents, Erased, Torn, Version, Flash, SetsPage, LosesPages}
 use Rattle.durable.proofs.Cells.{erased_holds_none, torn_holds_none}
 use Rattle.durable.proofs.laws.commands.Goals as goal
 
 -- a page that has no version any more is a page lost
-one_lost : (f t : Flash) (x : PageContents) → ((s m : ℕ) (v : Sector) → x ≢ Version s m v) → SetsPage f t 1 3 x → LosesPages f t 1
+one_lost : (f t : Flash) (x : PageContents) → ((s : Extent) (m : ℕ) (v : Sector) → x ≢ Version s m v) → SetsPage f t 1 3 x → LosesPages f t 1
 one_lost f t x none sets = record {
   within = λ c p s m v e. ⊎_elim
       (λ b. ⊎_elim (λ q. absurd (none s m v (sym sets.put ∙ ((λ i. t (sym b i) (sym q i)) ∙ e)))) (λ differs. sym (sets.others c p (inr differs)) ∙ e)

@@ -1,5 +1,4 @@
-use Rattle.std.proofs.Common.{arith}
-use Rattle.std.proofs.lemmas.Grind.{common_steps}
+use Rattle.std.proofs.{Common.arith, lemmas.Grind.common_steps}
 use Rattle.geometry.proofs.geometry.has_room.Goals as goal
 
 pub returns-then-hosts-eq0 : goal.returns-then-hosts-eq0

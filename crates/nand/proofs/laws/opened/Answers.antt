@@ -2,6 +2,7 @@ use Rattle.std.proofs.Common.{◌≡◌, ◌∙◌, ⊎_elim, ◌<◌, ℕ, min,
 use Rattle.std.proofs.lemmas.Bool.{cases_eq, false≢true}
 use Rattle.durable.specs.Device.{Device}
 use Rattle.durable.specs.Spare.{IsDuplicated}
+use Rattle.durable.specs.Updates.{sole}
 use Rattle.nand.specs.Chip.{chip_bad, chip_flash, chip_shape}
 use Rattle.nand.specs.declared.flash.Shape.{Shape}
 use Rattle.nand.specs.Numbers.{good_before, is_marked, most_in_use}
@@ -11,7 +12,7 @@ use Rattle.nand.proofs.laws.opened.Goals as goal
 
 pub returns-clause-numbered : goal.returns-clause-numbered
 returns-clause-numbered c layer v updates is held =
-    is.consistent.represents.numbers (is.order.to 0) 0 7 5 v ((λ i. chip_flash layer.nand (is.order.put 0 i) 0) ∙ held)
+    is.consistent.represents.numbers (is.order.to 0) 0 (sole 7) 5 v ((λ i. chip_flash layer.nand (is.order.put 0 i) 0) ∙ held)
 
 pub returns-clause-bad_unused : goal.returns-clause-bad_unused
 returns-clause-bad_unused c layer updates is bad some = λ e.
@@ -64,12 +65,12 @@ returns-clause-blank c layer v updates is nine four sectors none =
     let shape = chip_shape layer.nand in
     let most = ap (most_used shape) sectors ∙ most_of_nine shape nine four in
     let last : good_before (chip_bad layer.nand) 8 ≡ 8 = ap (λ (m : List Bool). good_before m 8) none in
-    is.blank 8 (omega (arith, nine)) (ap (λ (m : List Bool). is_marked m 8) none, omega (arith, most, last)) 0 7 5 v
+    is.blank 8 (omega (arith, nine)) (ap (λ (m : List Bool). is_marked m 8) none, omega (arith, most, last)) 0 (sole 7) 5 v
 
 pub returns-clause-blank_chip : goal.returns-clause-blank_chip
 returns-clause-blank_chip c chip v updates is nine four none =
     let last : good_before (chip_bad chip) 8 ≡ 8 = ap (λ (m : List Bool). good_before m 8) none in
-    is.blank 8 (omega (arith, nine)) (ap (λ (m : List Bool). is_marked m 8) none, omega (arith, most_of_nine (chip_shape chip) nine four, last)) 0 7 5 v
+    is.blank 8 (omega (arith, nine)) (ap (λ (m : List Bool). is_marked m 8) none, omega (arith, most_of_nine (chip_shape chip) nine four, last)) 0 (sole 7) 5 v
 
 pub returns-clause-keeps : goal.returns-clause-keeps
 returns-clause-keeps c chip updates is = is.readable.keeps
@@ -78,7 +79,7 @@ pub returns-clause-erased : goal.returns-clause-erased
 returns-clause-erased c chip erased some = erased_opens (chip_flash chip) (chip_shape chip) (chip_bad chip) 8 erased some
 
 pub returns-clause-on_chip : goal.returns-clause-on_chip
-returns-clause-on_chip c chip v updates is held = (is.readable.written 3 0 7 5 v held).0
+returns-clause-on_chip c chip v updates is held = (is.readable.written 3 0 (sole 7) 5 v held).0
 
 pub returns-clause-no_sector : goal.returns-clause-no_sector
-returns-clause-no_sector c chip v updates held is = let written = is.readable.written 3 0 8 5 v held in omega (arith, written.2)
+returns-clause-no_sector c chip v updates held is = let written = is.readable.written 3 0 (sole 8) 5 v held in omega (arith, written.2.1)

@@ -1,14 +1,11 @@
-use Rattle.std.proofs.Common.{◌∙◌, Option, Err, IfSome, refl, sym, ap, subst, arith}
-use Rattle.geometry.specs.declared.page_addr.PageAddr.{PageAddr}
+use Rattle.std.proofs.Common.{◌∙◌, Err, refl, sym, ap, subst, arith}
 use Rattle.durable.specs.Device.{Device, IsWrittenOn}
-use Rattle.durable.specs.Flash.{Flash}
-use Rattle.durable.specs.Mounting.{IsStampOf}
+use Rattle.durable.specs.Mounting.{next_in}
 use Rattle.durable.specs.Promise.{IsReadable, IsRecoverable}
-use Rattle.nand.specs.Nand.{ReadsStamp}
 use Rattle.nand.specs.declared.flash.Shape.{Shape}
 use Rattle.nand.specs.Numbers.{numbered}
 use Rattle.nand.specs.Opened.{device_using}
-use Rattle.nand.proofs.Mounted.{noted, falls}
+use Rattle.nand.proofs.Mounted.{falls, next_noted}
 use Rattle.nand.proofs.mounting.mount_in_order.Goals as goal
 
 pub returns-in-Err-note-clause-foreign : goal.returns-in-Err-note-clause-foreign
@@ -16,13 +13,8 @@ returns-in-Err-note-clause-foreign g c is =
     let inv = c.loop-at.invariant in
     let flash = g.N.Nand.flash c.args.nand.now in
     let f = numbered c.args.numbers.now flash in
-    let at = c.in-Some.at in
-    let next = sym c.next_page.ensures ∙ c.in-Some.is in
-    let there = subst (λ (k : Flash). ReadsStamp (k c.chip_page.result.block c.chip_page.result.page) c.in-Ok-stamp.reading) inv.flash
-    c.in-Ok-stamp.ensures.stamp in
-    let reads = subst (λ (x : PageAddr). ReadsStamp (flash x.block x.page) c.in-Ok-stamp.reading) c.chip_page.ensures there in
-    let stamp = subst (IsStampOf f at.block at.page) (sym c.noted.ensures) (noted f at.block at.page c.in-Ok-stamp.reading reads) in
-    let known = subst (λ (x : Option PageAddr). IfSome x (λ a. IsStampOf f a.block a.page c.noted.result)) (sym next) stamp in
+    let known = next_noted f (next_in c.loop-at.mount) c.in-Some.at c.in-Ok-stamp.reading c.noted.result (sym c.next_page.ensures ∙ c.in-Some.is)
+    c.noted.ensures (rw (inv.flash, c.chip_page.ensures) at c.in-Ok-stamp.ensures.stamp) in
     let accepted = c.note.ensures.accepts f (subst (λ (d : Device). IsWrittenOn d f) (sym inv.device) is) known in
     absurd (cc (sym accepted ∙ c.in-Err-note.is))
 
@@ -47,13 +39,8 @@ loop-at-preserved g c =
     let inv = c.loop-at.invariant in
     let flash = g.N.Nand.flash c.args.nand.now in
     let f = numbered c.args.numbers.now flash in
-    let at = c.in-Some.at in
-    let next = sym c.next_page.ensures ∙ c.in-Some.is in
-    let there = subst (λ (k : Flash). ReadsStamp (k c.chip_page.result.block c.chip_page.result.page) c.in-Ok-stamp.reading) inv.flash
-    c.in-Ok-stamp.ensures.stamp in
-    let reads = subst (λ (x : PageAddr). ReadsStamp (flash x.block x.page) c.in-Ok-stamp.reading) c.chip_page.ensures there in
-    let stamp = subst (IsStampOf f at.block at.page) (sym c.noted.ensures) (noted f at.block at.page c.in-Ok-stamp.reading reads) in
-    let known = subst (λ (x : Option PageAddr). IfSome x (λ a. IsStampOf f a.block a.page c.noted.result)) (sym next) stamp in
+    let known = next_noted f (next_in c.loop-at.mount) c.in-Some.at c.in-Ok-stamp.reading c.noted.result (sym c.next_page.ensures ∙ c.in-Some.is)
+    c.noted.ensures (rw (inv.flash, c.chip_page.ensures) at c.in-Ok-stamp.ensures.stamp) in
     record {
       device = c.note.ensures.device ∙ inv.device;
       flash = c.stamp.ensures.flash ∙ inv.flash;

@@ -20,21 +20,21 @@ invariant_of-self-clause-on_device c =
 pub invariant_of-self-clause-few_sectors : goal.invariant_of-self-clause-few_sectors
 invariant_of-self-clause-few_sectors c =
     let core = c.args.self.now in subst (λ (n : ℕ). n < 2 ^ 32)
-    (sym (ap length c.remap.ensures.map ∙ length-set core.map.items c.args.sector (Some c.in-Program.at))) core.few_sectors
+    (sym c.remap_all.ensures.map.size) core.few_sectors
 
 pub invariant_of-self-clause-has_capacity : goal.invariant_of-self-clause-has_capacity
 invariant_of-self-clause-has_capacity c =
     let core = c.args.self.now in
     subst (λ (n : ℕ). HasCapacity n core.blocks core.pages)
-    (sym (ap length c.remap.ensures.map ∙ length-set core.map.items c.args.sector (Some c.in-Program.at))) core.has_capacity
+    (sym c.remap_all.ensures.map.size) core.has_capacity
 
 pub invariant_of-self-clause-can_collect : goal.invariant_of-self-clause-can_collect
 invariant_of-self-clause-can_collect c =
     let core = c.args.self.now in
-    let map = c.remap.new.map.items in
-    collects_after core c.args.sector c.args.command map (c.in-Program.number + 1) c.page_after-self.result c.requires.sector c.requires.next
-    (subst (λ (m : Command). Becomes core c.args.sector m map (c.in-Program.number + 1) c.page_after-self.result) (sym c.in-Program.is)
-    (c.remap.ensures.map, refl, (c.page_after-self.ensures.next, c.page_after-self.ensures.last)))
+    let map = c.remap_all.new.map.items in
+    collects_after core c.args.extent c.args.command map (c.in-Program.number + 1) c.page_after-self.result c.requires.next
+    (subst (λ (m : Command). Becomes core c.args.extent m map (c.in-Program.number + 1) c.page_after-self.result) (sym c.in-Program.is)
+    (c.remap_all.ensures.map, refl, (c.page_after-self.ensures.next, c.page_after-self.ensures.last)))
 
 pub invariant_of-self-in-Copy-clause-on_device : goal.invariant_of-self-in-Copy-clause-on_device
 invariant_of-self-in-Copy-clause-on_device c =
@@ -45,22 +45,22 @@ invariant_of-self-in-Copy-clause-on_device c =
 
 pub invariant_of-self-in-Copy-clause-few_sectors : goal.invariant_of-self-in-Copy-clause-few_sectors
 invariant_of-self-in-Copy-clause-few_sectors c =
-    let core = c.args.self.now in subst (λ (n : ℕ). n < 2 ^ 32) (sym (ap length c.remap-in-Copy.ensures.map ∙ length-set core.map.items c.in-Copy.sector
+    let core = c.args.self.now in subst (λ (n : ℕ). n < 2 ^ 32) (sym (ap length c.remap.ensures.map ∙ length-set core.map.items c.in-Copy.sector
     (Some c.in-Copy.to))) core.few_sectors
 
 pub invariant_of-self-in-Copy-clause-has_capacity : goal.invariant_of-self-in-Copy-clause-has_capacity
 invariant_of-self-in-Copy-clause-has_capacity c =
     let core = c.args.self.now in
-    subst (λ (n : ℕ). HasCapacity n core.blocks core.pages) (sym (ap length c.remap-in-Copy.ensures.map ∙ length-set core.map.items c.in-Copy.sector
+    subst (λ (n : ℕ). HasCapacity n core.blocks core.pages) (sym (ap length c.remap.ensures.map ∙ length-set core.map.items c.in-Copy.sector
     (Some c.in-Copy.to))) core.has_capacity
 
 pub invariant_of-self-in-Copy-clause-can_collect : goal.invariant_of-self-in-Copy-clause-can_collect
 invariant_of-self-in-Copy-clause-can_collect c =
     let core = c.args.self.now in
-    let map = c.remap-in-Copy.new.map.items in
-    collects_after core c.args.sector c.args.command map core.next_number c.page_after-self-in-Copy.result c.requires.sector c.requires.next
-    (subst (λ (m : Command). Becomes core c.args.sector m map core.next_number c.page_after-self-in-Copy.result) (sym c.in-Copy.is)
-    (c.remap-in-Copy.ensures.map, refl, (c.page_after-self-in-Copy.ensures.next, c.page_after-self-in-Copy.ensures.last)))
+    let map = c.remap.new.map.items in
+    collects_after core c.args.extent c.args.command map core.next_number c.page_after-self-in-Copy.result c.requires.next
+    (subst (λ (m : Command). Becomes core c.args.extent m map core.next_number c.page_after-self-in-Copy.result) (sym c.in-Copy.is)
+    (c.remap.ensures.map, refl, (c.page_after-self-in-Copy.ensures.next, c.page_after-self-in-Copy.ensures.last)))
 
 pub invariant_of-self-in-Erase-clause-on_device : goal.invariant_of-self-in-Erase-clause-on_device
 invariant_of-self-in-Erase-clause-on_device c = let next = subst (IsNext c.args.self.now) c.in-Erase.is c.requires.next in
@@ -70,67 +70,74 @@ pub invariant_of-self-in-Erase-clause-can_collect : goal.invariant_of-self-in-Er
 invariant_of-self-in-Erase-clause-can_collect c =
     let core = c.args.self.now in
     let next : Option PageAddr = Some (record { block = c.in-Erase.block; page = 0 }) in
-    collects_after core c.args.sector c.args.command core.map.items core.next_number next c.requires.sector c.requires.next
-    (subst (λ (m : Command). Becomes core c.args.sector m core.map.items core.next_number next) (sym c.in-Erase.is) (refl, refl, refl))
+    collects_after core c.args.extent c.args.command core.map.items core.next_number next c.requires.next
+    (subst (λ (m : Command). Becomes core c.args.extent m core.map.items core.next_number next) (sym c.in-Erase.is) (refl, refl, refl))
 
 pub returns-in-Program-clause-acknowledges : goal.returns-in-Program-clause-acknowledges
 returns-in-Program-clause-acknowledges c =
     let core = c.args.self.now in
-    acknowledges core _ c.args.sector c.args.command c.requires.sector c.requires.next
-    (subst (λ (m : Command). Becomes core c.args.sector m c.remap.new.map.items
+    acknowledges core _ c.args.extent c.args.command c.requires.within c.requires.next
+    (subst (λ (m : Command). Becomes core c.args.extent m c.remap_all.new.map.items
     (c.in-Program.number + 1) c.page_after-self.result)
-    (sym c.in-Program.is) (c.remap.ensures.map, refl, (c.page_after-self.ensures.next, c.page_after-self.ensures.last))) refl refl refl
+    (sym c.in-Program.is) (c.remap_all.ensures.map, refl, (c.page_after-self.ensures.next, c.page_after-self.ensures.last))) refl refl refl
 
 pub returns-in-Copy-clause-acknowledges : goal.returns-in-Copy-clause-acknowledges
 returns-in-Copy-clause-acknowledges c =
     let core = c.args.self.now in
-    acknowledges core _ c.args.sector c.args.command c.requires.sector c.requires.next
-    (subst (λ (m : Command). Becomes core c.args.sector m c.remap-in-Copy.new.map.items core.next_number
+    acknowledges core _ c.args.extent c.args.command c.requires.within c.requires.next
+    (subst (λ (m : Command). Becomes core c.args.extent m c.remap.new.map.items core.next_number
     c.page_after-self-in-Copy.result)
-    (sym c.in-Copy.is) (c.remap-in-Copy.ensures.map, refl, (c.page_after-self-in-Copy.ensures.next, c.page_after-self-in-Copy.ensures.last))) refl refl refl
+    (sym c.in-Copy.is) (c.remap.ensures.map, refl, (c.page_after-self-in-Copy.ensures.next, c.page_after-self-in-Copy.ensures.last))) refl refl refl
 
 pub returns-in-Copy-clause-spends : goal.returns-in-Copy-clause-spends
 returns-in-Copy-clause-spends c =
     let core = c.args.self.now in
-    let map = c.remap-in-Copy.new.map.items in
-    spends_after core c.args.sector c.args.command map core.next_number c.page_after-self-in-Copy.result c.requires.next
-    (subst (λ (m : Command). Becomes core c.args.sector m map core.next_number c.page_after-self-in-Copy.result) (sym c.in-Copy.is)
-    (c.remap-in-Copy.ensures.map, refl, (c.page_after-self-in-Copy.ensures.next, c.page_after-self-in-Copy.ensures.last)))
+    let map = c.remap.new.map.items in
+    spends_after core c.args.extent c.args.command map core.next_number c.page_after-self-in-Copy.result c.requires.next
+    (subst (λ (m : Command). Becomes core c.args.extent m map core.next_number c.page_after-self-in-Copy.result) (sym c.in-Copy.is)
+    (c.remap.ensures.map, refl, (c.page_after-self-in-Copy.ensures.next, c.page_after-self-in-Copy.ensures.last)))
 
 pub returns-in-Erase-clause-acknowledges : goal.returns-in-Erase-clause-acknowledges
 returns-in-Erase-clause-acknowledges c =
     let core = c.args.self.now in
-    acknowledges core _ c.args.sector c.args.command c.requires.sector c.requires.next
-    (subst (λ (m : Command). Becomes core c.args.sector m core.map.items core.next_number (Some (record { block = c.in-Erase.block; page = 0 })))
+    acknowledges core _ c.args.extent c.args.command c.requires.within c.requires.next
+    (subst (λ (m : Command). Becomes core c.args.extent m core.map.items core.next_number (Some (record { block = c.in-Erase.block; page = 0 })))
     (sym c.in-Erase.is)
     (refl, refl, refl)) refl refl refl
 
 pub returns-in-Program-clause-whole : goal.returns-in-Program-clause-whole
 returns-in-Program-clause-whole c =
     let core = c.args.self.now in
-    remains_whole core _ c.args.sector c.args.command c.requires.sector c.requires.next
-    (subst (λ (m : Command). Becomes core c.args.sector m c.remap.new.map.items
+    remains_whole core _ c.args.extent c.args.command c.requires.next
+    (subst (λ (m : Command). Becomes core c.args.extent m c.remap_all.new.map.items
     (c.in-Program.number + 1) c.page_after-self.result)
-    (sym c.in-Program.is) (c.remap.ensures.map, refl, (c.page_after-self.ensures.next, c.page_after-self.ensures.last))) refl
+    (sym c.in-Program.is) (c.remap_all.ensures.map, refl, (c.page_after-self.ensures.next, c.page_after-self.ensures.last))) refl
 
 pub returns-in-Copy-clause-whole : goal.returns-in-Copy-clause-whole
 returns-in-Copy-clause-whole c =
     let core = c.args.self.now in
-    remains_whole core _ c.args.sector c.args.command c.requires.sector c.requires.next
-    (subst (λ (m : Command). Becomes core c.args.sector m c.remap-in-Copy.new.map.items core.next_number
+    remains_whole core _ c.args.extent c.args.command c.requires.next
+    (subst (λ (m : Command). Becomes core c.args.extent m c.remap.new.map.items core.next_number
     c.page_after-self-in-Copy.result)
-    (sym c.in-Copy.is) (c.remap-in-Copy.ensures.map, refl, (c.page_after-self-in-Copy.ensures.next, c.page_after-self-in-Copy.ensures.last))) refl
+    (sym c.in-Copy.is) (c.remap.ensures.map, refl, (c.page_after-self-in-Copy.ensures.next, c.page_after-self-in-Copy.ensures.last))) refl
 
 pub returns-in-Erase-clause-whole : goal.returns-in-Erase-clause-whole
 returns-in-Erase-clause-whole c =
     let core = c.args.self.now in
-    remains_whole core _ c.args.sector c.args.command c.requires.sector c.requires.next
-    (subst (λ (m : Command). Becomes core c.args.sector m core.map.items core.next_number (Some (record { block = c.in-Erase.block; page = 0 })))
+    remains_whole core _ c.args.extent c.args.command c.requires.next
+    (subst (λ (m : Command). Becomes core c.args.extent m core.map.items core.next_number (Some (record { block = c.in-Erase.block; page = 0 })))
     (sym c.in-Erase.is)
     (refl, refl, refl)) refl
 
 pub returns-in-Refused-clause-whole : goal.returns-in-Refused-clause-whole
 returns-in-Refused-clause-whole c =
     let core = c.args.self.now in
-    remains_whole core core c.args.sector c.args.command c.requires.sector c.requires.next
-    (subst (λ (m : Command). Becomes core c.args.sector m core.map.items core.next_number core.next_page) (sym c.in-Refused.is) (refl, refl, refl)) refl
+    remains_whole core _ c.args.extent c.args.command c.requires.next
+    (subst (λ (m : Command). Becomes core c.args.extent m core.map.items core.next_number core.next_page) (sym c.in-Refused.is) (refl, refl, refl)) refl
+
+pub returns-in-Refused-clause-acknowledges : goal.returns-in-Refused-clause-acknowledges
+returns-in-Refused-clause-acknowledges c =
+    let core = c.args.self.now in
+    acknowledges core _ c.args.extent c.args.command c.requires.within c.requires.next
+    (subst (λ (m : Command). Becomes core c.args.extent m core.map.items core.next_number core.next_page) (sym c.in-Refused.is) (refl, refl, refl)) refl refl
+    refl

@@ -6,13 +6,13 @@ pub returns-clause-safe : goal.returns-clause-safe
 returns-clause-safe c = is_safe c.args.self.now c.choose.result c.choose.ensures.next
 
 pub returns-clause-cut : goal.returns-clause-cut
-returns-clause-cut c = survives_cut c.args.self.now c.args.sector c.choose.result c.requires c.choose.ensures.next
+returns-clause-cut c = survives_cut c.args.self.now c.args.extent c.choose.result c.requires c.choose.ensures.next
 
 pub returns-clause-idle : goal.returns-clause-idle
 returns-clause-idle c = survives_idle_cut c.args.self.now
 
 pub returns-clause-unharmed : goal.returns-clause-unharmed
-returns-clause-unharmed c = cuts_unharmed c.args.self.now c.args.sector c.choose.result c.choose.ensures.next
+returns-clause-unharmed c = cuts_unharmed c.args.self.now c.args.extent c.choose.result c.choose.ensures.next
 
 pub returns-clause-idle_unharmed : goal.returns-clause-idle_unharmed
 returns-clause-idle_unharmed c = cuts_idle_unharmed c.args.self.now

@@ -1,9 +1,10 @@
-use Rattle.std.proofs.Common.{refl, arith, ◌≡◌, ◌+◌, ◌<◌, ◌^◌, ◌∙◌, sym, ap, subst, ℕ, List, length, IfSome}
+use Rattle.std.proofs.Common.{refl, arith, ◌≡◌, ◌+◌, ◌<◌, ◌^◌, ◌∙◌, sym, subst, ℕ, List, length, IfSome}
 use Rattle.std.proofs.lemmas.Bool.{false≢true}
 use Rattle.geometry.specs.declared.page_addr.PageAddr.{PageAddr}
 use Rattle.durable.specs.Device.{device_in}
+use Rattle.durable.specs.Updates.{LiesWithin}
 use Rattle.durable.specs.Mounting.{IsStampOf}
-use Rattle.durable.specs.Candidates.{found_with}
+use Rattle.durable.specs.Candidates.{IsFoundWith}
 use Rattle.durable.proofs.Noting.{of_next, some_left, fits_device}
 use Rattle.durable.proofs.Scans.{finds_wrap}
 use Rattle.durable.proofs.Counted.{noted_all, counts_wrap, prefers_wrap}
@@ -16,7 +17,8 @@ returns-then-self-clause-notes c f was stamp =
     let lt : mount.block < length mount.gaps.items = omega (arith, some_left mount.read_blocks at c.requires, mount.gaps_sized) in
     let now = noted_all f mount.pages mount.block mount.page mount.gaps.items mount.versions mount.found.items mount.next_number at c.args.stamp
     c.take.new.found.items c.take.new.next_number c.count_gaps.new.gaps.items c.count_gaps.new.versions refl refl lt
-    (c.take.ensures.found ∙ ap (λ (g : List ℕ). found_with g mount.found.items at c.args.stamp) c.deref.ensures.value) c.take.ensures.number
+    (subst (λ (g : List ℕ). IsFoundWith g mount.found.items c.take.new.found.items at c.args.stamp) c.deref.ensures.value c.take.ensures.found)
+    c.take.ensures.number
     c.count_gaps.ensures.gaps c.count_gaps.ensures.versions
     (of_next mount.read_blocks at (λ at. IsStampOf f at.block at.page c.args.stamp) c.requires stamp) (was.finds, was.counts, was.prefers) in
     record { finds = now.0; counts = now.1; prefers = now.2 }
@@ -29,7 +31,8 @@ returns-else-self-clause-notes c f was stamp =
     let lt : mount.block < length mount.gaps.items = omega (arith, some_left mount.read_blocks at c.requires, mount.gaps_sized) in
     let now = noted_all f mount.pages mount.block mount.page mount.gaps.items mount.versions mount.found.items mount.next_number at c.args.stamp
     c.take.new.found.items c.take.new.next_number c.count_gaps.new.gaps.items c.count_gaps.new.versions refl refl lt
-    (c.take.ensures.found ∙ ap (λ (g : List ℕ). found_with g mount.found.items at c.args.stamp) c.deref.ensures.value) c.take.ensures.number
+    (subst (λ (g : List ℕ). IsFoundWith g mount.found.items c.take.new.found.items at c.args.stamp) c.deref.ensures.value c.take.ensures.found)
+    c.take.ensures.number
     c.count_gaps.ensures.gaps c.count_gaps.ensures.versions
     (of_next mount.read_blocks at (λ at. IsStampOf f at.block at.page c.args.stamp) c.requires stamp) (was.finds, was.counts, was.prefers) in
     record {
@@ -43,7 +46,6 @@ returns-then-not-is_of_device-clause-accepts c f written stamp =
     let mount = c.args.self.now in
     let at : PageAddr = record { block = mount.block; page = mount.page } in
     let is = of_next mount.read_blocks at (λ at. IsStampOf f at.block at.page c.args.stamp) c.requires stamp in
-    let size : c.len.result ≡ length mount.found.items = omega (arith, c.len.ensures, mount.found.ok) in
     absurd (false≢true (sym c.if-not-is_of_device.true ∙ c.is_of_device.ensures.accepts
-    (subst (λ (n : ℕ). IfSome c.args.stamp (λ s. (s.sector < n) × (s.number + 1 < 2 ^ 64))) (sym size)
+    (subst (λ (n : ℕ). IfSome c.args.stamp (λ s. LiesWithin n s.extent × (s.number + 1 < 2 ^ 64))) (sym c.len.ensures)
     (fits_device f (device_in mount) mount.block mount.page c.args.stamp written is))))

@@ -1,5 +1,4 @@
-use Rattle.std.proofs.Common.{arith}
-use Rattle.std.proofs.lemmas.Grind.{common_steps}
+use Rattle.std.proofs.{Common.arith, lemmas.Grind.common_steps}
 use Rattle.geometry.proofs.pin_word.Phase.bits.Goals as goal
 
 pub returns-in-Retired-clause-bits : goal.returns-in-Retired-clause-bits

@@ -1,14 +1,14 @@
-use Rattle.std.proofs.Common.{◌≡◌, ◌≢◌, ◌∙◌, ◌∷◌, ◌+◌, ◌^◌, ◌<◌, ⊎_elim, ℕ, List, refl, sym, ap, subst, arith}
+use Rattle.std.proofs.Common.{◌≡◌, ◌≢◌, ◌∙◌, ◌∷◌, ◌+◌, ◌^◌, ◌<◌, ⊎_elim, List, refl, sym, ap, subst, arith}
 use Rattle.std.proofs.lemmas.Bool.{cases_lt}
 use Rattle.durable.specs.declared.command.Command.TheVariants.{Refused}
-use Rattle.durable.specs.Commands.{Completes, CutLeaves, IsAllowed}
 use Rattle.durable.specs.Device.{Device, NamesOn}
 use Rattle.durable.specs.Promise.{IsConsistent, IsRecoverable}
 use Rattle.durable.specs.Updates.{Update}
 use Rattle.durable.proofs.Promises.{completes_cut}
 use Rattle.nand.specs.Nand.{value_with}
-use Rattle.nand.specs.Numbers.{IsOrder, good_before, numbered}
+use Rattle.nand.specs.Numbers.{good_before, numbered}
 use Rattle.nand.specs.Opened.{IsOpenLayer, device_on, layer_sectors, reserve_of, update_of, used_blocks}
+use Rattle.nand.proofs.Programs.{adds_version, still_none}
 use Rattle.nand.proofs.Replacing.{blank_after, blank_there, in_use, reserve_there, stopped}
 use Rattle.nand.proofs.Steps.{adds, keeps, moved, same_number, same_order}
 use Rattle.nand.proofs.layer.Durable.attempt.Goals as goal
@@ -49,23 +49,19 @@ returns-in-Err-clause-leaves g c updates h =
     let f = numbered numbers (g.N.Nand.flash mid) in
     let t = numbered numbers (g.N.Nand.flash now) in
     let value = value_with c.args.trimmed c.args.main.now in
-    let update = update_of c.args.sector value in
+    let update = update_of c.args.extent value in
     let consistent = inv.consistent updates h in
     let order = inv.order updates h in
     let safe = c.next-command.ensures.safe f updates updates consistent in
-    let same = c.deref.ensures.value in
-    let does = c.in-Err.ensures.does (g.N.Nand.bad mid) (g.N.Nand.shape mid).blocks
-    (subst (λ (ns : List ℕ). IsOrder ns (g.N.Nand.bad mid) (g.N.Nand.shape mid).blocks) (sym same) order) in
-    let there = (does (subst (λ (ns : List ℕ). IsAllowed (numbered ns (g.N.Nand.flash mid)) c.next-command.result) (sym same) safe.1)).1 in
-    let cut = subst (λ (ns : List ℕ). CutLeaves c.next-command.result c.args.sector value (numbered ns (g.N.Nand.flash mid))
-    (numbered ns (g.N.Nand.flash now))) same there in
+    let does = rw c.deref.ensures.value at c.in-Err.ensures.does in
+    let cut = (does (g.N.Nand.bad mid) (g.N.Nand.shape mid).blocks order safe.1).1 in
     let device = moved c.args.self.now.core c.loop-self.self.core (g.N.Nand.shape was) (g.N.Nand.shape mid) (g.N.Nand.bad was) (g.N.Nand.bad mid)
     inv.device h.device inv.shape inv.bad in
     let device_now = moved c.args.self.now.core c.loop-self.self.core (g.N.Nand.shape was) (g.N.Nand.shape now) (g.N.Nand.bad was) (g.N.Nand.bad now)
     inv.device h.device (c.perform.ensures.shape ∙ inv.shape) (c.perform.ensures.bad ∙ inv.bad) in
     let names = subst (λ (d : Device). NamesOn d c.next-command.result) device safe.0 in
     let blank = blank_after (g.N.Nand.flash mid) (g.N.Nand.flash now) (g.N.Nand.shape mid) (g.N.Nand.bad mid) numbers (layer_sectors c.loop-self.self)
-    c.next-command.result c.args.sector value order names cut (inv.blank updates h) in
+    c.next-command.result c.args.extent value order names cut (inv.blank updates h) in
     let left = subst (λ (d : Device). IsRecoverable t d updates (update ∷ updates)) device_now
     (c.next-command.ensures.cut f t value updates updates consistent cut) in
     let reserve = reserve_there c.args.self.now.core c.loop-self.self.core (reserve_of c.args.self.now) (reserve_of c.loop-self.self) (g.N.Nand.shape was)
@@ -100,21 +96,17 @@ returns-then-is_last-clause-acknowledged g c updates h =
     let f = numbered numbers (g.N.Nand.flash mid) in
     let t = numbered numbers (g.N.Nand.flash now) in
     let value = value_with c.args.trimmed c.args.main.now in
-    let update : Update = record { sector = c.args.sector; value = value } in
+    let update : Update = record { extent = c.args.extent; value = value } in
     let consistent = inv.consistent updates h in
     let order = inv.order updates h in
     let safe = c.next-command.ensures.safe f updates updates consistent in
-    let same = c.deref.ensures.value in
-    let does = c.in_default-perform.ensures.does (g.N.Nand.bad mid) (g.N.Nand.shape mid).blocks
-    (subst (λ (ns : List ℕ). IsOrder ns (g.N.Nand.bad mid) (g.N.Nand.shape mid).blocks) (sym same) order) in
-    let there = (does (subst (λ (ns : List ℕ). IsAllowed (numbered ns (g.N.Nand.flash mid)) c.next-command.result) (sym same) safe.1)).0 in
-    let completes = subst (λ (ns : List ℕ). Completes c.next-command.result c.args.sector value (numbered ns (g.N.Nand.flash mid))
-    (numbered ns (g.N.Nand.flash now))) same there in
+    let does = rw c.deref.ensures.value at c.in_default-perform.ensures.does in
+    let completes = (does (g.N.Nand.bad mid) (g.N.Nand.shape mid).blocks order safe.1).0 in
     let device = moved c.args.self.now.core c.loop-self.self.core (g.N.Nand.shape was) (g.N.Nand.shape mid) (g.N.Nand.bad was) (g.N.Nand.bad mid)
     inv.device h.device inv.shape inv.bad in
     let blank = blank_after (g.N.Nand.flash mid) (g.N.Nand.flash now) (g.N.Nand.shape mid) (g.N.Nand.bad mid) numbers (layer_sectors c.loop-self.self)
-    c.next-command.result c.args.sector value order (subst (λ (d : Device). NamesOn d c.next-command.result) device safe.0)
-    (completes_cut f t c.next-command.result c.args.sector value completes) (inv.blank updates h) in
+    c.next-command.result c.args.extent value order (subst (λ (d : Device). NamesOn d c.next-command.result) device safe.0)
+    (completes_cut f t c.next-command.result c.args.extent value completes) (inv.blank updates h) in
     let last = sym c.is_last.ensures ∙ c.if-is_last.true in
     record {
       mounted = inv.mounted ∙ h.mounted;
@@ -132,6 +124,21 @@ returns-then-is_last-clause-acknowledged g c updates h =
           (c.done.ensures.acknowledges f t value updates updates consistent completes);
     }
 
+pub returns-then-is_last-clause-adds : goal.returns-then-is_last-clause-adds
+returns-then-is_last-clause-adds g c updates h =
+    let inv = c.loop-self.invariant in
+    let numbers = c.loop-self.self.numbers.items in
+    let mid = c.loop-self.self.nand in
+    let now = c.perform.new.nand in
+    let value = value_with c.args.trimmed c.args.main.now in
+    let order = inv.order updates h in
+    let safe = c.next-command.ensures.safe (numbered numbers (g.N.Nand.flash mid)) updates updates (inv.consistent updates h) in
+    let does = rw c.deref.ensures.value at c.in_default-perform.ensures.does in
+    let completes = (does (g.N.Nand.bad mid) (g.N.Nand.shape mid).blocks order safe.1).0 in
+    adds_version (g.N.Nand.flash c.args.self.now.nand) (g.N.Nand.flash mid) (g.N.Nand.flash now) numbers (g.N.Nand.bad mid)
+    (g.N.Nand.shape mid).blocks order (inv.had updates h) c.next-command.result c.loop-self.self.core _ (update_of c.args.extent value)
+    (sym c.is_last.ensures ∙ c.if-is_last.true) c.next-command.ensures.next inv.number completes
+
 pub loop-self-preserved : goal.loop-self-preserved
 loop-self-preserved g c =
     let inv = c.loop-self.invariant in
@@ -142,16 +149,12 @@ loop-self-preserved g c =
     let f = numbered numbers (g.N.Nand.flash mid) in
     let t = numbered numbers (g.N.Nand.flash now) in
     let value = value_with c.args.trimmed c.args.main.now in
-    let update : Update = record { sector = c.args.sector; value = value } in
+    let update : Update = record { extent = c.args.extent; value = value } in
     let others = sym c.is_last.ensures ∙ c.if-is_last.false in
-    let same = c.deref.ensures.value in
+    let does = rw c.deref.ensures.value at c.in_default-perform.ensures.does in
     let completes = λ (updates : List Update) (h : IsOpenLayer g.N.Nand.flash g.N.Nand.shape g.N.Nand.bad c.args.self.now updates).
-    let does = c.in_default-perform.ensures.does (g.N.Nand.bad mid) (g.N.Nand.shape mid).blocks
-    (subst (λ (ns : List ℕ). IsOrder ns (g.N.Nand.bad mid) (g.N.Nand.shape mid).blocks) (sym same) (inv.order updates h)) in
-    let allowed = (c.next-command.ensures.safe f updates updates (inv.consistent updates h)).1 in
-    let there = (does (subst (λ (ns : List ℕ). IsAllowed (numbered ns (g.N.Nand.flash mid)) c.next-command.result) (sym same) allowed)).0 in
-    subst (λ (ns : List ℕ). Completes c.next-command.result c.args.sector value (numbered ns (g.N.Nand.flash mid))
-    (numbered ns (g.N.Nand.flash now))) same there in
+    (does (g.N.Nand.bad mid) (g.N.Nand.shape mid).blocks (inv.order updates h)
+    (c.next-command.ensures.safe f updates updates (inv.consistent updates h)).1).0 in
     record {
       mounted = inv.mounted;
       shape = c.perform.ensures.shape ∙ inv.shape;
@@ -170,8 +173,10 @@ loop-self-preserved g c =
           blank_there (g.N.Nand.flash now) (g.N.Nand.flash now) (g.N.Nand.shape mid) (g.N.Nand.shape now) (g.N.Nand.bad mid) (g.N.Nand.bad now)
           (layer_sectors c.loop-self.self) _ refl c.perform.ensures.shape c.perform.ensures.bad (ap (λ (d : Device). d.sectors) c.done.ensures.device)
           (blank_after (g.N.Nand.flash mid) (g.N.Nand.flash now) (g.N.Nand.shape mid) (g.N.Nand.bad mid) numbers (layer_sectors c.loop-self.self)
-          c.next-command.result c.args.sector value (inv.order updates h) names
-          (completes_cut f t c.next-command.result c.args.sector value (completes updates h)) (inv.blank updates h));
+          c.next-command.result c.args.extent value (inv.order updates h) names
+          (completes_cut f t c.next-command.result c.args.extent value (completes updates h)) (inv.blank updates h));
+      had = λ updates h. still_none (g.N.Nand.flash was) (g.N.Nand.flash mid) (g.N.Nand.flash now) numbers (g.N.Nand.bad mid)
+          (g.N.Nand.shape mid).blocks (inv.order updates h) (inv.had updates h) c.next-command.result c.args.extent value others (completes updates h);
       consistent = λ updates h.
           subst (λ (us : List Update). IsConsistent t c.done.new.self us us) (keeps c.next-command.result update updates others)
           (c.done.ensures.acknowledges f t value updates updates (inv.consistent updates h) (completes updates h));

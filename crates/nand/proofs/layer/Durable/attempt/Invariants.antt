@@ -6,6 +6,7 @@ use Rattle.durable.specs.Updates.{Update}
 use Rattle.nand.specs.Numbers.{IsOrder, numbered}
 use Rattle.nand.specs.Opened.{IsOpenLayer, IsReserveBlank, layer_sectors, reserve_of}
 use Rattle.nand.specs.declared.flash.Fault.{Fault}
+use Rattle.nand.proofs.Programs.{HasNoNew}
 use Rattle.nand.proofs.layer.Durable.attempt.Given as goal
 
 abbrev pub invariant-loop-self : goal.invariant-loop-self
@@ -21,6 +22,8 @@ invariant-loop-self g l = record {
       → IsOrder l.self.numbers.items (g.N.Nand.bad l.self.nand) (g.N.Nand.shape l.self.nand).blocks;
   blank : (updates : List Update) → IsOpenLayer g.N.Nand.flash g.N.Nand.shape g.N.Nand.bad l.fn.self updates
       → IsReserveBlank (g.N.Nand.flash l.self.nand) (g.N.Nand.shape l.self.nand) (g.N.Nand.bad l.self.nand) (layer_sectors l.self);
+  had : (updates : List Update) → IsOpenLayer g.N.Nand.flash g.N.Nand.shape g.N.Nand.bad l.fn.self updates
+      → HasNoNew (g.N.Nand.flash l.fn.self.nand) (g.N.Nand.flash l.self.nand);
   consistent : (updates : List Update) → IsOpenLayer g.N.Nand.flash g.N.Nand.shape g.N.Nand.bad l.fn.self updates
       → IsConsistent (numbered l.self.numbers.items (g.N.Nand.flash l.self.nand)) l.self.core updates updates;
 }

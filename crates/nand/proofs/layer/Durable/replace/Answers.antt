@@ -31,6 +31,17 @@ returns-in-Ok-clause-replaced g c updates can some =
       ap (λ (m : List Bool). good_before m chip.blocks + 1) c.mount.ensures.bad ∙ one,
     )
 
+pub returns-in-Err-Refused-clause-marked : goal.returns-in-Err-Refused-clause-marked
+returns-in-Err-Refused-clause-marked g c updates can told =
+    let bad = g.N.Nand.bad c.args.self.now.nand in
+    let marks = g.N.Nand.bad c.mark_bad.new.self in
+    let blocks = (g.N.Nand.shape c.args.self.now.nand).blocks in
+    let number = c.args.number in
+    let block = chip_block c.args.self.now.numbers.items number in
+    let place : c.chip_block.result ≡ block = c.chip_block.ensures ∙ ap (λ (ns : List ℕ). chip_block ns number) c.deref.ensures.value in
+    let is : Marks bad marks block = subst (Marks bad marks) place (c.in_default.ensures.marks (omega (arith, place, can.lies))) in
+    ap (λ (m : List Bool). good_before m blocks + 1) c.mount.ensures.bad ∙ fewer_good bad marks block is can.good blocks can.lies
+
 pub returns-in-Ok-clause-marks : goal.returns-in-Ok-clause-marks
 returns-in-Ok-clause-marks g c b is =
     let bad = g.N.Nand.bad c.args.self.now.nand in

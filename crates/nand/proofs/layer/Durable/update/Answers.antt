@@ -1,4 +1,4 @@
-use Rattle.std.proofs.Common.{◌≡◌, ◌∙◌, inl, inr, ◌+◌, ◌-◌, ◌%◌, ◌^◌, ◌<◌, ◌≤◌, ℕ, Bool, List, Err, refl, ap, subst, arith}
+use Rattle.std.proofs.Common.{◌≡◌, ◌∙◌, inl, inr, ◌+◌, ◌-◌, ◌%◌, ◌^◌, ◌<◌, ◌≤◌, ℕ, Bool, List, Err, refl, sym, ap, subst, arith}
 use Rattle.durable.specs.Updates.{Update}
 use Rattle.nand.specs.Attempts.{CountsStop, Leaves}
 use Rattle.nand.specs.Nand.{value_with}
@@ -9,13 +9,14 @@ use Rattle.nand.specs.declared.flash.Fault.TheVariants as fault
 use Rattle.nand.specs.declared.flash.Shape.{Shape}
 use Rattle.nand.specs.declared.updating.Stop.{Stop}
 use Rattle.nand.specs.declared.updating.Stop.TheVariants as stop
+use Rattle.nand.proofs.Programs.{adds_there}
 use Rattle.nand.proofs.Replacing.{all_used, either, no_replacement, open_once, opens_once, settles, settles_made}
-use Rattle.nand.proofs.Steps.{fails_open, left_open}
+use Rattle.nand.proofs.Steps.{fails_open, left_open, power_gone}
 use Rattle.nand.proofs.layer.Durable.update.Goals as goal
 
 pub returns-in-Ok-clause-acknowledged : goal.returns-in-Ok-clause-acknowledged
 returns-in-Ok-clause-acknowledged g c updates h =
-    let update = update_of c.args.sector (value_with c.args.trimmed c.args.main.now) in
+    let update = update_of c.args.extent (value_with c.args.trimmed c.args.main.now) in
     let holds = c.loop-self.invariant.holds updates h in
     settles_made (λ (us : List Update). IsOpenLayer g.N.Nand.flash g.N.Nand.shape g.N.Nand.bad c.attempt.new.self us) update updates holds.0
     (open_once g.N.Nand.flash g.N.Nand.shape g.N.Nand.bad c.attempt.new.self update updates) holds.1
@@ -31,10 +32,20 @@ returns-in-Ok-clause-marks g c updates h =
     ap (λ (n : ℕ). n % 2 ^ 64) (c.in-Ok.ensures.counts fault.Failed) ∙ (c.loop-self.invariant.failures
     ∙ ap (λ (n : ℕ). (g.N.Nand.faults was fault.Failed + n) % 2 ^ 64) marked)
 
+pub returns-in-Ok-clause-once : goal.returns-in-Ok-clause-once
+returns-in-Ok-clause-once g c updates h none =
+    let inv = c.loop-self.invariant in
+    let holds = inv.holds updates h in
+    let blocks = (g.N.Nand.shape c.args.self.now.nand).blocks in
+    let zero : c.loop-self.failed ≡ 0 = omega (arith, holds.4, ap (λ (m : List Bool). good_before m blocks) (sym c.attempt.ensures.device.marks ∙ none)) in
+    let first = inv.first zero in
+    adds_there (g.N.Nand.flash c.args.self.now.nand) (g.N.Nand.flash c.loop-self.self.nand) (g.N.Nand.flash c.attempt.new.self.nand) _ _
+    (update_of c.args.extent (value_with c.args.trimmed c.args.main.now)) first.3 first.2 (c.in-Ok.ensures.adds holds.0 holds.2)
+
 pub returns-then-failed-eq0-clause-fails : goal.returns-then-failed-eq0-clause-fails
 returns-then-failed-eq0-clause-fails g c updates h =
     let inv = c.loop-self.invariant in
-    let update = update_of c.args.sector (value_with c.args.trimmed c.args.main.now) in
+    let update = update_of c.args.extent (value_with c.args.trimmed c.args.main.now) in
     let new = c.attempt.new.self in
     let holds = inv.holds updates h in
     let there = subst (λ (s : Stop). Leaves g.N.Nand.flash g.N.Nand.shape g.N.Nand.bad new update holds.0 s) c.in-Err-NoNumber.field-0-is
@@ -46,7 +57,7 @@ returns-then-failed-eq0-clause-fails g c updates h =
 pub returns-in-Err-NoNumber-clause-fails : goal.returns-in-Err-NoNumber-clause-fails
 returns-in-Err-NoNumber-clause-fails g c updates h =
     let inv = c.loop-self.invariant in
-    let update = update_of c.args.sector (value_with c.args.trimmed c.args.main.now) in
+    let update = update_of c.args.extent (value_with c.args.trimmed c.args.main.now) in
     let new = c.attempt.new.self in
     let sectors = c.attempt.ensures.device.sectors ∙ inv.sectors in
     let holds = inv.holds updates h in
@@ -66,7 +77,7 @@ returns-in-Err-NoNumber-clause-fails g c updates h =
 pub returns-in-Err-Fault-PowerGone-default-clause-fails : goal.returns-in-Err-Fault-PowerGone-default-clause-fails
 returns-in-Err-Fault-PowerGone-default-clause-fails g c updates h =
     let inv = c.loop-self.invariant in
-    let update = update_of c.args.sector (value_with c.args.trimmed c.args.main.now) in
+    let update = update_of c.args.extent (value_with c.args.trimmed c.args.main.now) in
     let new = c.attempt.new.self in
     let sectors = c.attempt.ensures.device.sectors ∙ inv.sectors in
     let holds = inv.holds updates h in
@@ -82,14 +93,14 @@ returns-in-Err-Fault-PowerGone-default-clause-fails g c updates h =
       reopens = either opens update updates settled.0 settled.1 settled.2;
       refused = λ none. absurd none;
       stays = inr there.2.closed;
-      readable = λ e. cc e;
-      spent = λ e. absurd (cc e);
+      readable = power_gone.0;
+      spent = λ e. absurd (power_gone.1 e);
     }
 
 pub returns-then-failed-reserve-clause-fails : goal.returns-then-failed-reserve-clause-fails
 returns-then-failed-reserve-clause-fails g c updates h =
     let inv = c.loop-self.invariant in
-    let update = update_of c.args.sector (value_with c.args.trimmed c.args.main.now) in
+    let update = update_of c.args.extent (value_with c.args.trimmed c.args.main.now) in
     let new = c.attempt.new.self in
     let sectors = c.attempt.ensures.device.sectors ∙ inv.sectors in
     let holds = inv.holds updates h in
@@ -115,7 +126,7 @@ returns-then-failed-reserve-clause-fails g c updates h =
 pub returns-in-Err-clause-fails : goal.returns-in-Err-clause-fails
 returns-in-Err-clause-fails g c updates h =
     let inv = c.loop-self.invariant in
-    let update = update_of c.args.sector (value_with c.args.trimmed c.args.main.now) in
+    let update = update_of c.args.extent (value_with c.args.trimmed c.args.main.now) in
     let new = c.attempt.new.self in
     let sectors = c.attempt.ensures.device.sectors ∙ inv.sectors in
     let holds = inv.holds updates h in
@@ -139,6 +150,29 @@ returns-in-Err-clause-fails g c updates h =
       spent = λ failed. absurd (told.2 failed);
     }
 
+pub returns-in-Err-clause-memory : goal.returns-in-Err-clause-memory
+returns-in-Err-clause-memory g c updates h told =
+    let inv = c.loop-self.invariant in
+    let was = c.args.self.now.nand in
+    let mid = c.attempt.new.self.nand in
+    let last = c.replace.new.self.nand in
+    let blocks = (g.N.Nand.shape was).blocks in
+    let update = update_of c.args.extent (value_with c.args.trimmed c.args.main.now) in
+    let holds = inv.holds updates h in
+    let stopped : c.in-Err-Fault-Failed-default.field-0 ≡ stop.Fault fault.Failed c.in-Err-Fault-Failed-default.number =
+    cc (c.in-Err-Fault-Failed-default.field-0-is, c.in-Err-Fault-Failed-default.field-0-0-is, c.in-Err-Fault-Failed-default.number-is) in
+    let there = subst (λ (s : Stop). Leaves g.N.Nand.flash g.N.Nand.shape g.N.Nand.bad c.attempt.new.self update holds.0 s) stopped
+    (c.in-Err-Fault-Failed-default.ensures.leaves holds.0 holds.2) in
+    let one = subst (λ (s : Stop). CountsStop {T = Unit {0}} (g.N.Nand.faults c.loop-self.self.nand) (g.N.Nand.faults mid) (Err s)) stopped
+    c.in-Err-Fault-Failed-default.ensures.counts in
+    let one_less = subst (λ (s : Shape). good_before (g.N.Nand.bad last) s.blocks + 1 ≡ good_before (g.N.Nand.bad mid) s.blocks)
+    (c.attempt.ensures.device.chip ∙ inv.shape) (c.in-Err.ensures.marked there.0 there.2 told) in
+    let marked : c.loop-self.failed + 1 ≡ good_before (g.N.Nand.bad was) blocks - good_before (g.N.Nand.bad last) blocks =
+    omega (arith, one_less, holds.4, ap (λ (m : List Bool). good_before m blocks) c.attempt.ensures.device.marks) in
+    let counted : g.N.Nand.faults last fault.Failed % 2 ^ 64 ≡ (g.N.Nand.faults was fault.Failed + (c.loop-self.failed + 1)) % 2 ^ 64 =
+    omega (arith, c.replace.ensures.failures, one.0, inv.failures) in
+    counted ∙ ap (λ (n : ℕ). (g.N.Nand.faults was fault.Failed + n) % 2 ^ 64) marked
+
 pub loop-self-preserved : goal.loop-self-preserved
 loop-self-preserved g c =
     let inv = c.loop-self.invariant in
@@ -158,7 +192,7 @@ loop-self-preserved g c =
       failures = omega (arith, replaced.faults fault.Failed, one.0, inv.failures);
       first = λ none. absurd (omega (arith, none));
       holds = λ updates h.
-          let update = update_of c.args.sector (value_with c.args.trimmed c.args.main.now) in
+          let update = update_of c.args.extent (value_with c.args.trimmed c.args.main.now) in
           let holds = inv.holds updates h in
           let blocks = (g.N.Nand.shape c.args.self.now.nand).blocks in
           let there = subst (λ (s : Stop). Leaves g.N.Nand.flash g.N.Nand.shape g.N.Nand.bad c.attempt.new.self update holds.0 s) stopped

@@ -1,7 +1,9 @@
 use Rattle.std.proofs.Common.{◌∙◌, Some, sym}
-use Rattle.nand.specs.declared.failure.Failure.TheVariants as failure
+use Rattle.durable.specs.Updates.{sole}
 use Rattle.nand.specs.Opened.{update_of}
-use Rattle.nand.proofs.Steps.{fails_open, if_fails_after, if_marked_after, if_true_after, keeps_after, keeps_same, not_failed, not_lost, on_ok}
+use Rattle.nand.specs.declared.failure.Failure.TheVariants as failure
+use Rattle.nand.proofs.Steps.{fails_after, fails_open, if_err, if_ok, keeps_after, keeps_same, marked_after, not_failed, not_lost, not_memory, on_ok}
+use Rattle.nand.proofs.Steps.{once_after, true_after}
 use Rattle.nand.proofs.layer.Durable.write_new.Goals as goal
 
 pub returns-in-Ok-Empty-clause-empty : goal.returns-in-Ok-Empty-clause-empty
@@ -11,41 +13,48 @@ pub returns-in-Ok-Empty-clause-written : goal.returns-in-Ok-Empty-clause-written
 returns-in-Ok-Empty-clause-written g c updates is written = absurd (c.update.ensures.overwrites written)
 
 pub returns-in-Ok-Empty-clause-fails : goal.returns-in-Ok-Empty-clause-fails
-returns-in-Ok-Empty-clause-fails g c updates is =
-    if_fails_after g.N.Nand.flash g.N.Nand.shape g.N.Nand.bad c.args.self.now c.was.new.self c.update.new.self (update_of c.args.sector (Some c.args.bytes.now))
-    updates c.update.result c.was.ensures.device.sectors (c.update.ensures.fails updates (c.was.ensures.open updates is))
+returns-in-Ok-Empty-clause-fails g c updates is = if_err c.update.result (λ cause fails. fails_after c.in-Ok-Empty.ensures.looks fails)
+    (c.update.ensures.fails updates (c.was.ensures.looks.opens updates is))
 
 pub returns-in-Ok-Empty-clause-cause : goal.returns-in-Ok-Empty-clause-cause
 returns-in-Ok-Empty-clause-cause g c =
-    if_true_after g.N.Nand.faults c.args.self.now c.was.new.self c.update.new.self c.update.result c.was.ensures.mounted
-    c.was.ensures.number c.in-Ok-Empty.ensures.faults c.update.ensures.cause
+    if_err c.update.result (λ cause. true_after c.in-Ok-Empty.ensures.looks c.update.new.self cause) c.update.ensures.cause
+
+pub returns-in-Ok-Empty-clause-device : goal.returns-in-Ok-Empty-clause-device
+returns-in-Ok-Empty-clause-device g c = keeps_after c.in-Ok-Empty.ensures.looks c.update.ensures.device
+
+pub returns-in-Ok-Empty-clause-marks : goal.returns-in-Ok-Empty-clause-marks
+returns-in-Ok-Empty-clause-marks g c updates is = if_ok c.update.result (λ marked. marked_after c.in-Ok-Empty.ensures.looks c.update.new.self marked)
+    (c.update.ensures.marks updates (c.was.ensures.looks.opens updates is))
+
+pub returns-in-Ok-Empty-clause-memory : goal.returns-in-Ok-Empty-clause-memory
+returns-in-Ok-Empty-clause-memory g c updates is told =
+    marked_after c.in-Ok-Empty.ensures.looks c.update.new.self (c.update.ensures.memory updates (c.was.ensures.looks.opens updates is) told)
+
+pub returns-in-Ok-Empty-clause-once : goal.returns-in-Ok-Empty-clause-once
+returns-in-Ok-Empty-clause-once g c updates is =
+    if_ok c.update.result (λ once. once_after c.in-Ok-Empty.ensures.looks c.update.new.self (update_of (sole c.args.sector) (Some c.args.bytes.now)) once)
+    (c.update.ensures.once updates (c.was.ensures.looks.opens updates is))
 
 pub returns-in-Ok-Written-clause-written : goal.returns-in-Ok-Written-clause-written
 returns-in-Ok-Written-clause-written g c updates is _ = sym (c.in-Ok-Written.ensures.gives updates is) ∙ c.in-Ok-Written.field-0-is
 
 pub returns-in-Ok-Written-clause-fails : goal.returns-in-Ok-Written-clause-fails
 returns-in-Ok-Written-clause-fails g c updates is =
-    fails_open g.N.Nand.flash g.N.Nand.shape g.N.Nand.bad c.args.self.now c.was.new.self (update_of c.args.sector (Some c.args.bytes.now)) updates
-    failure.Written (c.was.ensures.open updates is) c.was.ensures.device.sectors (λ e. cc e) (λ e. cc e)
+    fails_open g.N.Nand.flash g.N.Nand.shape g.N.Nand.bad c.args.self.now c.was.new.self (update_of (sole c.args.sector) (Some c.args.bytes.now)) updates
+    failure.Written (c.was.ensures.looks.opens updates is) c.was.ensures.looks.device.sectors (λ e. cc e) (λ e. cc e)
+
+pub returns-in-Ok-Written-clause-device : goal.returns-in-Ok-Written-clause-device
+returns-in-Ok-Written-clause-device g c = keeps_same c.was.ensures.looks.device
 
 pub returns-in-Err-clause-fails : goal.returns-in-Err-clause-fails
 returns-in-Err-clause-fails g c updates is =
-    fails_open g.N.Nand.flash g.N.Nand.shape g.N.Nand.bad c.args.self.now c.was.new.self (update_of c.args.sector (Some c.args.bytes.now)) updates
-    c.in-Err.failure (c.was.ensures.open updates is) c.was.ensures.device.sectors (not_lost c.in-Err.failure (c.in-Err.ensures.only updates is))
-    (not_failed c.in-Err.failure (c.in-Err.ensures.only updates is))
+    fails_open g.N.Nand.flash g.N.Nand.shape g.N.Nand.bad c.args.self.now c.was.new.self (update_of (sole c.args.sector) (Some c.args.bytes.now)) updates
+    c.in-Err.failure (c.was.ensures.looks.opens updates is) c.was.ensures.looks.device.sectors
+    (not_lost c.in-Err.failure (c.in-Err.ensures.only updates is)) (not_failed c.in-Err.failure (c.in-Err.ensures.only updates is))
 
-pub returns-in-Ok-Empty-clause-device : goal.returns-in-Ok-Empty-clause-device
-returns-in-Ok-Empty-clause-device g c =
-    keeps_after g.N.Nand.shape g.N.Nand.bad g.N.Nand.faults c.args.self.now c.was.new.self c.update.new.self c.was.ensures.device
-    c.in-Ok-Empty.ensures.faults c.update.ensures.device
-
-pub returns-in-Ok-Empty-clause-marks : goal.returns-in-Ok-Empty-clause-marks
-returns-in-Ok-Empty-clause-marks g c updates is =
-    if_marked_after g.N.Nand.shape g.N.Nand.bad g.N.Nand.faults c.args.self.now c.was.new.self c.update.new.self c.update.result c.was.ensures.device
-    c.in-Ok-Empty.ensures.faults (c.update.ensures.marks updates (c.was.ensures.open updates is))
-
-pub returns-in-Ok-Written-clause-device : goal.returns-in-Ok-Written-clause-device
-returns-in-Ok-Written-clause-device g c = keeps_same g.N.Nand.shape g.N.Nand.bad g.N.Nand.faults c.args.self.now c.was.new.self c.was.ensures.device
+pub returns-in-Err-clause-memory : goal.returns-in-Err-clause-memory
+returns-in-Err-clause-memory g c updates is told = absurd (not_memory c.in-Err.failure (c.in-Err.ensures.only updates is) told)
 
 pub returns-in-Err-clause-device : goal.returns-in-Err-clause-device
-returns-in-Err-clause-device g c = keeps_same g.N.Nand.shape g.N.Nand.bad g.N.Nand.faults c.args.self.now c.was.new.self c.was.ensures.device
+returns-in-Err-clause-device g c = keeps_same c.was.ensures.looks.device

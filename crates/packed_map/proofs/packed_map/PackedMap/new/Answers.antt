@@ -1,7 +1,7 @@
-use Rattle.std.proofs.Common.{◌∙◌, ap, replicate, arith}
-use Rattle.packed_map.proofs.Packing.{location_of_none, map_location_of-replicate}
+use Rattle.std.proofs.Common.{◌∙◌, ℕ, List, ap, map}
+use Rattle.packed_map.specs.Entries.{entry_of}
+use Rattle.packed_map.proofs.Entries.{map_entry_of-zeros}
 use Rattle.packed_map.proofs.packed_map.PackedMap.new.Goals as goal
 
 pub returns : goal.returns
-returns c = rw (c.in_ok-vec.ensures.items_if_clones_equal (λ y h. h)) (map_location_of-replicate c.args.sectors _
-    ∙ ap (λ l. replicate c.args.sectors l) (location_of_none _ (omega arith)))
+returns c = ap (λ (xs : List ℕ). map entry_of xs) c.in_ok-new.ensures ∙ map_entry_of-zeros c.args.sectors

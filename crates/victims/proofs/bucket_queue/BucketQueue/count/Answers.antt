@@ -1,5 +1,4 @@
-use Rattle.std.proofs.Common.{◌+◌, arith}
-use Rattle.std.proofs.lemmas.Grind.{common_steps}
+use Rattle.std.proofs.{Common.◌+◌, Common.arith, lemmas.Grind.common_steps}
 use Rattle.victims.proofs.Sorting.{count_below_next}
 use Rattle.victims.proofs.bucket_queue.BucketQueue.count.Goals as goal
 

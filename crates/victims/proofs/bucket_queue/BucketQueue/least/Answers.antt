@@ -1,5 +1,4 @@
-use Rattle.std.proofs.Common.{◌≡◌, ◌<◌, length, get_or, arith}
-use Rattle.std.proofs.lemmas.Grind.{common_steps}
+use Rattle.std.proofs.{Common.◌≡◌, Common.◌<◌, Common.length, Common.get_or, Common.arith, lemmas.Grind.common_steps}
 use Rattle.victims.proofs.Sorting.{starts_within, first_is_least}
 use Rattle.victims.proofs.bucket_queue.BucketQueue.least.Goals as goal
 

@@ -1,5 +1,4 @@
-use Rattle.std.proofs.Common.{⊎_elim, ◌≡◌, ◌≤◌, ◌<◌, length, get_or, arith}
-use Rattle.std.proofs.lemmas.Bool.{cases_lt}
+use Rattle.std.proofs.{Common.⊎_elim, Common.◌≡◌, Common.◌≤◌, Common.◌<◌, Common.length, Common.get_or, Common.arith, lemmas.Bool.cases_lt}
 use Rattle.std.proofs.lemmas.Grind.{common_steps}
 use Rattle.victims.proofs.Sorting.{in_key_order}
 use Rattle.victims.proofs.bucket_queue.BucketQueue.least_beside.Goals as goal

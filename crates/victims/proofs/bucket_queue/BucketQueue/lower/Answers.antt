@@ -1,5 +1,4 @@
-use Rattle.std.proofs.Common.{◌+◌, arith, length-set}
-use Rattle.std.proofs.lemmas.Grind.{common_steps}
+use Rattle.std.proofs.{Common.◌+◌, Common.arith, Common.length-set, lemmas.Grind.common_steps}
 use Rattle.victims.proofs.Sorting.{lowered}
 use Rattle.victims.proofs.bucket_queue.BucketQueue.lower.Goals as goal
 

@@ -1,5 +1,4 @@
-use Rattle.std.proofs.Common.{ℕ, ◌+◌, ◌-◌, arith, length-set}
-use Rattle.std.proofs.lemmas.Grind.{common_steps}
+use Rattle.std.proofs.{Common.ℕ, Common.◌+◌, Common.◌-◌, Common.arith, Common.length-set, lemmas.Grind.common_steps}
 use Rattle.victims.proofs.Sorting.{starts_within, raised}
 use Rattle.victims.proofs.bucket_queue.BucketQueue.raise.Goals as goal
 

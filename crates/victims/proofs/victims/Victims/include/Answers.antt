@@ -1,5 +1,4 @@
-use Rattle.std.proofs.Common.{arith}
-use Rattle.std.proofs.lemmas.Grind.{common_steps}
+use Rattle.std.proofs.{Common.arith, lemmas.Grind.common_steps}
 use Rattle.victims.proofs.Eligible.{are_above_zero-set_more}
 use Rattle.victims.proofs.victims.Victims.include.Goals as goal
 

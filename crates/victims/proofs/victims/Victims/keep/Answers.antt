@@ -1,6 +1,4 @@
-use Rattle.std.proofs.Common.{◌+◌, get_or, arith}
-use Rattle.std.proofs.lemmas.Bool.Decides.{nat_tests}
-use Rattle.std.proofs.lemmas.Grind.{common_steps}
+use Rattle.std.proofs.{Common.◌+◌, Common.get_or, Common.arith, lemmas.Bool.Decides.nat_tests, lemmas.Grind.common_steps}
 use Rattle.victims.proofs.Eligible.{are_above_zero_same}
 use Rattle.victims.proofs.victims.Victims.keep.Goals as goal
 use Rattle.victims.proofs.victims.Victims.keep.Goals.{then-index-ne-EXCLUDED, else-index-ne-EXCLUDED}

@@ -1,7 +1,5 @@
-use Rattle.std.proofs.Common.{◌≡◌, length, replicate, true, arith}
-use Rattle.std.proofs.lemmas.Grind.{common_steps}
-use Rattle.victims.specs.Victims.{are_above_zero}
-use Rattle.victims.proofs.Eligible.{all_above_zero}
+use Rattle.std.proofs.{Common.◌≡◌, Common.length, Common.replicate, Common.true, Common.arith, lemmas.Grind.common_steps}
+use Rattle.victims.{specs.Victims.are_above_zero, proofs.Eligible.all_above_zero}
 use Rattle.victims.proofs.victims.Victims.new.Goals as goal
 
 pub returns : goal.returns

@@ -1,5 +1,4 @@
-use Rattle.std.proofs.Common.{ℕ, Option, None, Some, arith}
-use Rattle.std.specs.Prelude.{IfNone}
+use Rattle.std.{proofs.Common.ℕ, proofs.Common.Option, proofs.Common.None, proofs.Common.Some, proofs.Common.arith, specs.Prelude.IfNone}
 use Rattle.victims.proofs.Eligible.{eligible_above_zero}
 use Rattle.victims.proofs.victims.Victims.victim.Goals as goal
 

@@ -1,0 +1,82 @@
+-- The versions that the commands of a call leave.
+use Rattle.std.proofs.Common.{◌≡◌, ◌⊎◌, ◌∙◌, inl, inr, ⊎_elim, ℕ, Bool, true, false, List, Result, Ok, Err, OnOk, refl, sym, ap, subst}
+use Rattle.std.proofs.lemmas.Bool.{cases_eq, false≢true}
+use Rattle.geometry.specs.Sectors.{Sector}
+use Rattle.geometry.specs.declared.answer.Was.{Was}
+use Rattle.geometry.specs.declared.answer.Was.TheVariants as was
+use Rattle.durable.specs.declared.command.Command.{Command}
+use Rattle.durable.specs.declared.command.Command.TheVariants.{Program, Copy, Erase, Refused}
+use Rattle.durable.specs.declared.extent.Extent.{Extent}
+use Rattle.durable.specs.declared.memory.Core.{Core}
+use Rattle.durable.specs.Choice.{IsNext}
+use Rattle.durable.specs.Commands.{Completes, is_program}
+use Rattle.durable.specs.Flash.{Flash, PageContents, Version, SetsPage}
+use Rattle.durable.specs.Updates.{Update}
+use Rattle.durable.proofs.Cells.{erased_holds_none}
+use Rattle.nand.specs.declared.failure.Failure.{Failure}
+use Rattle.nand.specs.Numbers.{IsOrder, chip_block, numbered}
+use Rattle.nand.specs.Programs.{AddsVersion, HasSomewhere}
+
+-- the flash has no version that it did not have before
+abbrev pub HasNoNew : Flash → Flash → Type 0
+HasNoNew f t = (b p : ℕ) (e : Extent) (m : ℕ) (v : Sector) → t b p ≡ Version e m v → HasSomewhere f e m v
+
+pub none_new : (f t : Flash) → t ≡ f → HasNoNew f t
+none_new f t same b p e m v is = (b, p, (λ i. sym same i b p) ∙ is)
+
+-- a page that was set, and the others
+set_or_kept : (f t : Flash) (b p : ℕ) (x : PageContents) → SetsPage f t b p x → (c q : ℕ) → ((c ≡ b) × (q ≡ p)) ⊎ (t c q ≡ f c q)
+set_or_kept f t b p x sets c q = ⊎_elim
+    (λ block. ⊎_elim (λ page. inl (block, page)) (λ differs. inr (sets.others c q (inr differs))) (cases_eq q p))
+    (λ differs. inr (sets.others c q (inl differs)))
+    (cases_eq c b)
+
+completes_none : (f t : Flash) (m : Command) (s : Extent) (x : Sector) → is_program m ≡ false → Completes m s x f t → HasNoNew f t
+completes_none f t (Program at n) s x is does b p e m v held = absurd (false≢true (sym is))
+completes_none f t (Copy k from to) s x is does b p e m v held = ⊎_elim
+    (λ here. (from.block, from.page, sym does.put ∙ (ap (λ (c : ℕ). t c to.page) (sym here.0) ∙ ap (t b) (sym here.1)) ∙ held))
+    (λ kept. (b, p, sym kept ∙ held))
+    (set_or_kept f t to.block to.page (f from.block from.page) does b p)
+completes_none f t (Erase c) s x is does b p e m v held = ⊎_elim
+    (λ here. absurd (erased_holds_none e m v (sym (ap (λ (d : ℕ). t d p) here ∙ does.0 p) ∙ held)))
+    (λ differs. (b, p, sym (does.1 b p differs) ∙ held))
+    (cases_eq b c)
+completes_none f t Refused s x is does b p e m v held = (b, p, sym (does b p) ∙ held)
+
+-- a command on the blocks in their order, which changed flash g of a call that began with f
+module _ (f g t : Flash) (numbers : List ℕ) (bad : List Bool) (blocks : ℕ) (order : IsOrder numbers bad blocks) (had : HasNoNew f g) where
+  pub still_none : (m : Command) (s : Extent) (x : Sector) → is_program m ≡ false → Completes m s x (numbered numbers g) (numbered numbers t)
+      → HasNoNew f t
+  still_none m s x is does b p e n v held =
+      let there = completes_none (numbered numbers g) (numbered numbers t) m s x is does (order.to b) p e n v
+      (ap (λ (c : ℕ). t c p) (order.put b) ∙ held) in
+      had (chip_block numbers there.0) there.1 e n v there.2
+
+  pub adds_version : (m : Command) (core : Core) (n : ℕ) (update : Update) → is_program m ≡ true → IsNext core m → core.next_number ≡ n
+      → Completes m update.extent update.value (numbered numbers g) (numbered numbers t) → AddsVersion f t n update
+  adds_version (Program at k) core n update is next number does = record {
+    block = chip_block numbers at.block;
+    page = at.page;
+    put = does.put ∙ ap (λ (j : ℕ). Version update.extent j update.value) (next.1 ∙ number);
+    others = λ b p e m v held. ⊎_elim
+        (λ here. inl (sym (order.put b) ∙ ap (chip_block numbers) here.0, here.1))
+        (λ kept. inr (had b p e m v (sym (ap (λ (c : ℕ). t c p) (sym (order.put b)) ∙ (kept ∙ ap (λ (c : ℕ). g c p) (order.put b))) ∙ held)))
+        (set_or_kept (numbered numbers g) (numbered numbers t) at.block at.page (Version update.extent k update.value) does (order.to b) p);
+  }
+  adds_version (Copy k from to) core n update is next number does = absurd (false≢true is)
+  adds_version (Erase b) core n update is next number does = absurd (false≢true is)
+  adds_version Refused core n update is next number does = absurd (false≢true is)
+
+-- the same of a flash and a number that are those from before
+pub adds_there : (f g t : Flash) (n k : ℕ) (update : Update) → g ≡ f → k ≡ n → AddsVersion g t k update → AddsVersion f t n update
+adds_there f g t n k update flash number adds = subst (λ (h : Flash). AddsVersion h t n update) flash
+    (subst (λ (j : ℕ). AddsVersion g t j update) number adds)
+
+-- a call that programs nothing, or once
+pub or_once : (P Q : Type 0) (result : Result (Unit {0}) Failure) → OnOk result Q → OnOk result (P ⊎ Q)
+or_once P Q (Ok v) is = inr is
+or_once P Q (Err e) is = tt
+
+pub by_answer : {P Q : Type 0} (had : Was) → (had ≡ was.Empty → P) → (had ≡ was.Written → Q) → P ⊎ Q
+by_answer {P} {Q} was.Empty empty written = inl (empty refl)
+by_answer {P} {Q} was.Written empty written = inr (written refl)

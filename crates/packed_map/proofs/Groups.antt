@@ -1,0 +1,192 @@
+-- Numbers in groups: what is kept where.
+use Rattle.std.proofs.Common.{◌≡◌, ◌≢◌, ℕ, zero, suc, ◌+◌, ◌-◌, ◌*◌, ◌<◌, ◌≤◌, ◌/◌, ◌%◌, ◌++◌, List, [], ◌∷◌, length, get_or, set, replicate}
+use Rattle.std.proofs.Common.{refl, sym, ◌∙◌, ap, ap₂, subst, arith, ⊎_elim, take, Result, Ok, Err, is_ok, IsOk, if◌then◌else◌}
+use Rattle.std.proofs.lemmas.Bool.{cases_eq, cases_lt, false≢true}
+use Rattle.std.proofs.lemmas.Bool.Decides.{nat_tests}
+use Rattle.std.proofs.lemmas.List.{length_push, get_or_push, get_or_append_left, get_or-append_right, get_or-set_same, get_or-set_other}
+use Rattle.std.proofs.lemmas.List.{get_or-replicate, get_or_past, length-set, length-append, length-replicate, ext_get_or, replicate_more, take_all}
+use Rattle.packed_map.specs.Groups.{number_at, grouped_numbers, share, shared_in, AreGrouped}
+
+pub length_numbers : (places kept : List ℕ) (n : ℕ) → length (grouped_numbers places kept n) ≡ n
+unfolding grouped_numbers
+length_numbers places kept zero = refl
+length_numbers places kept (suc n) =
+    omega (arith, length_push (grouped_numbers places kept n) (number_at places kept n), length_numbers places kept n)
+
+pub numbers_get : (places kept : List ℕ) (n i : ℕ) → i < n → get_or (grouped_numbers places kept n) i 0 ≡ number_at places kept i
+unfolding grouped_numbers
+numbers_get places kept zero i lt = absurd (omega arith)
+numbers_get places kept (suc n) i lt =
+    let before = grouped_numbers places kept n in
+    let size = length_numbers places kept n in
+    ⊎_elim
+    (λ (below : i < n). get_or_append_left before (number_at places kept n ∷ []) 0 i (omega (arith, below, size)) ∙ numbers_get places kept n i below)
+    (λ (last : n ≤ i). let same : n ≡ i = omega (arith, last, lt) in
+    subst (λ (j : ℕ). get_or (before ++ (number_at places kept n ∷ [])) j 0 ≡ number_at places kept j) same
+    (get_or_push before (number_at places kept n) 0 n size))
+    (cases_lt i n)
+
+-- the numbers are those with one changed, if they are at each index
+pub numbers_changed : (places kept new_places new_kept : List ℕ) (n i x : ℕ) → i < n → number_at new_places new_kept i ≡ x
+    → ((k : ℕ) → k < n → k ≢ i → number_at new_places new_kept k ≡ number_at places kept k)
+    → grouped_numbers new_places new_kept n ≡ set (grouped_numbers places kept n) i x
+numbers_changed places kept new_places new_kept n i x lt here others =
+    let old = grouped_numbers places kept n in
+    let size = length_numbers places kept n in
+    let new_size = length_numbers new_places new_kept n in
+    ext_get_or 0 _ _ (new_size ∙ sym (length-set old i x ∙ size)) (λ k below.
+    let within : k < n = omega (arith, below, new_size) in
+    numbers_get new_places new_kept n k within ∙ ⊎_elim
+    (λ (same : k ≡ i). subst (λ (j : ℕ). number_at new_places new_kept j ≡ get_or (set old i x) j 0) (sym same)
+    (here ∙ sym (get_or-set_same old i x 0 (omega (arith, lt, size)))))
+    (λ (differs : k ≢ i). others k within differs ∙ sym (get_or-set_other old i k x 0 differs ∙ numbers_get places kept n k within))
+    (cases_eq k i))
+
+zeros_at : (n i : ℕ) → get_or {A = ℕ} (replicate {A = ℕ} n 0) i 0 ≡ 0
+zeros_at n i = ⊎_elim (λ (lt : i < n). get_or-replicate {A = ℕ} n i 0 0 lt)
+    (λ (le : n ≤ i). get_or_past {X = ℕ} (replicate {A = ℕ} n 0) i 0 (omega (arith, le, length-replicate {A = ℕ} n 0))) (cases_lt i n)
+
+-- at first each number is 0
+first_number : (groups i : ℕ) → number_at (replicate {A = ℕ} groups 0) (replicate {A = ℕ} 256 0) i ≡ 0
+first_number groups i = zeros_at 256 (get_or {A = ℕ} (replicate {A = ℕ} groups 0) (i / 256) 0 * 256 + i % 256)
+
+zeros_more : (n : ℕ) → replicate {A = ℕ} (n + 1) 0 ≡ replicate {A = ℕ} (suc n) 0
+zeros_more n = let same : n + 1 ≡ suc n = omega arith in ap (λ (m : ℕ). replicate {A = ℕ} m 0) same
+
+pub first_numbers : (groups n : ℕ) → grouped_numbers (replicate groups 0) (replicate 256 0) n ≡ replicate n 0
+unfolding grouped_numbers
+first_numbers groups zero = refl
+first_numbers groups (suc n) =
+    ap (λ (rest : List ℕ). rest ++ (number_at (replicate groups 0) (replicate 256 0) n ∷ [])) (first_numbers groups n)
+    ∙ ap (λ (x : ℕ). replicate {A = ℕ} n 0 ++ (x ∷ [])) (first_number groups n) ∙ replicate_more {X = ℕ} n 0 ∙ zeros_more n
+
+share_zero : (place : ℕ) → place ≡ 0 → share place ≡ 1
+share_zero place is = grind (arith, nat_tests)
+
+share_other : (place : ℕ) → place ≢ 0 → share place ≡ 0
+share_other place differs = grind (arith, nat_tests)
+
+first_shared : (groups : ℕ) → shared_in (replicate groups 0) ≡ groups
+unfolding shared_in
+first_shared zero = refl
+first_shared (suc groups) = omega (arith, share_zero 0 refl, first_shared groups)
+
+pub first_kept : (groups : ℕ) → AreGrouped (replicate groups 0) (replicate 256 0) 1
+first_kept groups = record {
+  size = length-replicate {A = ℕ} 256 0;
+  first = omega arith;
+  zeros = λ r lt. get_or-replicate 256 r 0 0 lt;
+  within = λ g lt. omega (arith, zeros_at groups g);
+  apart = λ g h lt lt_h same differs. absurd (differs (zeros_at groups g));
+  counted = omega (arith, first_shared groups, length-replicate {A = ℕ} groups 0);
+}
+
+shared_set : (places : List ℕ) (g x : ℕ) → g < length places → get_or places g 0 ≡ 0 → x ≢ 0 → shared_in (set places g x) + 1 ≡ shared_in places
+unfolding shared_in
+shared_set [] g x lt is differs = absurd (omega arith)
+shared_set (place ∷ places) zero x lt is differs = omega (arith, share_zero place is, share_other x differs)
+shared_set (place ∷ places) (suc g) x lt is differs = omega (arith, shared_set places g x (omega arith) is differs)
+
+-- a place is left, if a group has none of its own
+pub place_left : (places : List ℕ) (g : ℕ) → g < length places → get_or places g 0 ≡ 0 → 0 < shared_in places
+place_left places g lt is = omega (arith, shared_set places g 1 lt is (λ e. omega (arith, e)))
+
+-- a group gets a place of its own
+pub opened : (places kept : List ℕ) (used g : ℕ) → AreGrouped places kept used → g < length places → get_or places g 0 ≡ 0
+    → AreGrouped (set places g used) (kept ++ replicate 256 0) (used + 1)
+opened places kept used g was lt is =
+    let here = get_or-set_same places g used 0 lt in
+    let size = length-set places g used in
+    let old : (h : ℕ) → h < length (set places g used) → h ≢ g → get_or (set places g used) h 0 < used = λ h below differs.
+    subst (λ (p : ℕ). p < used) (sym (get_or-set_other places g h used 0 differs)) (was.within h (omega (arith, below, size))) in record {
+      size = omega (arith, length-append kept (replicate 256 0), length-replicate {A = ℕ} 256 0, was.size);
+      first = omega arith;
+      zeros = λ r small. get_or_append_left kept (replicate 256 0) 0 r (omega (arith, small, was.size, was.first)) ∙ was.zeros r small;
+      within = λ h below. ⊎_elim
+          (λ (same : h ≡ g). subst (λ (j : ℕ). get_or (set places g used) j 0 < used + 1) (sym same) (omega (arith, here)))
+          (λ (differs : h ≢ g). omega (arith, old h below differs)) (cases_eq h g);
+      apart = λ h k below_h below_k same own. ⊎_elim
+          (λ (h_is : h ≡ g). ⊎_elim (λ (k_is : k ≡ g). h_is ∙ sym k_is)
+          (λ (k_not : k ≢ g). absurd (omega (arith, old k below_k k_not, same, ap (λ (j : ℕ). get_or (set places g used) j 0) h_is, here)))
+          (cases_eq k g))
+          (λ (h_not : h ≢ g). ⊎_elim
+          (λ (k_is : k ≡ g). absurd (omega (arith, old h below_h h_not, same, ap (λ (j : ℕ). get_or (set places g used) j 0) k_is, here)))
+          (λ (k_not : k ≢ g).
+          let h_same = get_or-set_other places g h used 0 h_not in
+          was.apart h k (omega (arith, below_h, size)) (omega (arith, below_k, size))
+          (sym h_same ∙ same ∙ get_or-set_other places g k used 0 k_not) (λ e. own (h_same ∙ e)))
+          (cases_eq k g))
+          (cases_eq h g);
+      counted = omega (arith, shared_set places g used lt is (λ e. omega (arith, e, was.first)), size, was.counted);
+    }
+
+pub kept_within : (places kept : List ℕ) (used k : ℕ) → AreGrouped places kept used → k / 256 < length places
+    → get_or places (k / 256) 0 * 256 + k % 256 < length kept
+kept_within places kept used k was below = omega (arith, was.within (k / 256) below, was.size)
+
+-- a number whose group has no place of its own is 0
+pub zero_at : (places kept : List ℕ) (used k : ℕ) → AreGrouped places kept used → get_or places (k / 256) 0 ≡ 0 → number_at places kept k ≡ 0
+zero_at places kept used k was there =
+    let rest : get_or places (k / 256) 0 * 256 + k % 256 ≡ k % 256 = omega (arith, there) in
+    ap (λ (i : ℕ). get_or kept i 0) rest ∙ was.zeros (k % 256) (omega arith)
+
+-- as all are while no group has one
+pub numbers_unused : (places kept : List ℕ) (used n i : ℕ) → AreGrouped places kept used → used ≡ 1 → i < n → n < length places * 256
+    → get_or (grouped_numbers places kept n) i 0 ≡ 0
+numbers_unused places kept used n i was one lt all =
+    numbers_get places kept n i lt ∙ zero_at places kept used i was (omega (arith, was.within (i / 256) (omega (arith, lt, all)), one))
+
+-- and each number is as before
+pub opened_same : (places kept : List ℕ) (used g k : ℕ) → AreGrouped places kept used → g < length places → get_or places g 0 ≡ 0 → k / 256 < length places
+    → number_at (set places g used) (kept ++ replicate 256 0) k ≡ number_at places kept k
+opened_same places kept used g k was lt is below = ⊎_elim
+    (λ (same : k / 256 ≡ g).
+    let here : get_or (set places g used) (k / 256) 0 ≡ used =
+    ap (λ (j : ℕ). get_or (set places g used) j 0) same ∙ get_or-set_same places g used 0 lt in
+    let there : get_or places (k / 256) 0 ≡ 0 = ap (λ (j : ℕ). get_or places j 0) same ∙ is in
+    ap (λ (p : ℕ). get_or (kept ++ replicate 256 0) (p * 256 + k % 256) 0) here
+    ∙ get_or-append_right kept (replicate 256 0) (used * 256) (used * 256 + k % 256) 0 was.size (omega arith)
+    ∙ zeros_at 256 (used * 256 + k % 256 - used * 256)
+    ∙ sym (zero_at places kept used k was there))
+    (λ (differs : k / 256 ≢ g).
+    ap (λ (p : ℕ). get_or (kept ++ replicate 256 0) (p * 256 + k % 256) 0) (get_or-set_other places g (k / 256) used 0 differs)
+    ∙ get_or_append_left kept (replicate 256 0) 0 (get_or places (k / 256) 0 * 256 + k % 256) (kept_within places kept used k was below))
+    (cases_eq (k / 256) g)
+
+-- a number is stored in a group with a place of its own
+pub stored : (places kept : List ℕ) (used i x : ℕ) → AreGrouped places kept used → get_or places (i / 256) 0 ≢ 0
+    → AreGrouped places (set kept (get_or places (i / 256) 0 * 256 + i % 256) x) used
+stored places kept used i x was own =
+    let at = get_or places (i / 256) 0 * 256 + i % 256 in record {
+      size = length-set kept at x ∙ was.size;
+      first = was.first;
+      zeros = λ r small. get_or-set_other kept at r x 0 (λ e. own (omega (arith, small, e))) ∙ was.zeros r small;
+      within = was.within;
+      apart = was.apart;
+      counted = was.counted;
+    }
+
+pub stored_here : (places kept : List ℕ) (used i x : ℕ) → AreGrouped places kept used → i / 256 < length places
+    → number_at places (set kept (get_or places (i / 256) 0 * 256 + i % 256) x) i ≡ x
+stored_here places kept used i x was below =
+    get_or-set_same kept (get_or places (i / 256) 0 * 256 + i % 256) x 0 (kept_within places kept used i was below)
+
+-- and no other number changes
+pub stored_other : (places kept : List ℕ) (used i x k : ℕ) → AreGrouped places kept used → get_or places (i / 256) 0 ≢ 0 → i / 256 < length places
+    → k / 256 < length places → k ≢ i
+    → number_at places (set kept (get_or places (i / 256) 0 * 256 + i % 256) x) k ≡ number_at places kept k
+stored_other places kept used i x k was own below_i below_k differs =
+    get_or-set_other kept (get_or places (i / 256) 0 * 256 + i % 256) (get_or places (k / 256) 0 * 256 + k % 256) x 0 (λ e.
+    let place : get_or places (i / 256) 0 ≡ get_or places (k / 256) 0 = omega (arith, e) in
+    let rest : i % 256 ≡ k % 256 = omega (arith, e) in
+    let group = was.apart (i / 256) (k / 256) below_i below_k place own in
+    differs (omega (arith, group, rest)))
+
+-- what is kept, after room for one group more was made
+pub resized : {T E : Type 0} (r : Result T E) (old new : List ℕ) (n len : ℕ) → new ≡ (if is_ok r then take n old ++ replicate (n - len) 0 else old)
+    → IsOk r → length old ≡ len → n ≡ len + 256 → new ≡ old ++ replicate 256 0
+resized (Ok value) old new n len is ok size more =
+    let all : take n old ≡ old = take_all n old (omega (arith, size, more)) in
+    let rest : n - len ≡ 256 = omega (arith, more) in
+    is ∙ ap₂ (λ (xs : List ℕ) (m : ℕ). xs ++ replicate {A = ℕ} m 0) all rest
+resized (Err e) old new n len is ok size more = absurd (false≢true ok)

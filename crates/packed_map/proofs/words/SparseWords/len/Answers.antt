@@ -1,0 +1,6 @@
+use Rattle.std.proofs.Common.{length, sym, ◌∙◌, ap}
+use Rattle.packed_map.proofs.Groups.{length_numbers}
+use Rattle.packed_map.proofs.words.SparseWords.len.Goals as goal
+
+pub returns : goal.returns
+returns c = sym (ap length (sym c.self.view_is) ∙ length_numbers c.self.inside.places.items c.self.inside.kept.items c.self.inside.len)

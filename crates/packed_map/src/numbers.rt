@@ -1,0 +1,62 @@
+ghost use Rattle.std.specs.Prelude.{◌≡◌, ◌<◌, ◌^◌, length, replicate, slice_set, slice_index_or, IfOk};
+
+use crate::words::SparseWords;
+use std::alloc::{AllocError, Global};
+use std::marker::Model;
+
+const HALF: u64 = 4_294_967_296;
+
+/// Numbers of which most are small: those below 2^32 take four bytes, and zeros next to nothing.
+#[derive(Drop)]
+pub struct SparseNumbers {
+    low: SparseWords,
+    high: SparseWords,
+}
+
+// Clauses see the list of the numbers.
+impl Model for SparseNumbers {
+    ghost use Rattle.std.specs.Prelude.{◌≡◌, List, ℕ, length};
+    ghost use Rattle.packed_map.specs.Halves.{joined};
+
+    ghost Value = { List ℕ };
+
+    ghost view = { λ n. joined n.low n.high };
+
+    ghost invariant = { λ n. length n.high ≡ length n.low };
+}
+
+impl SparseNumbers {
+    /// Each number is 0.
+    pub fn new(alloc: Global, len: u32) -> Result<Self, AllocError>
+        ensures { IfOk result (λ numbers. numbers ≡ replicate len 0) }
+    {
+        Ok(SparseNumbers {
+            low: SparseWords::new(alloc, len)?,
+            high: SparseWords::new(alloc, len)?,
+        })
+    }
+
+    /// How many numbers there are.
+    pub fn len(&self) -> usize
+        ensures { result ≡ length self.now }
+    {
+        self.low.len()
+    }
+
+    /// The number at an index.
+    pub fn get(&self, index: usize) -> u64
+        requires { index < length self.now }
+        ensures { result ≡ slice_index_or self.now index 0 }
+    {
+        u64::from(self.high.get(index)) * HALF + u64::from(self.low.get(index))
+    }
+
+    /// Sets the number at an index.
+    pub fn set(&mut self, index: usize, number: u64)
+        requires { index < length self.old }
+        ensures { self.new ≡ slice_set self.old index number }
+    {
+        self.low.set(index, (number % HALF) as u32);
+        self.high.set(index, (number / HALF) as u32);
+    }
+}
