@@ -1,5 +1,5 @@
 use geometry::PageAddr;
-use packed_map::{Location, PackedMap};
+use packed_map::PackedMap;
 use std::test::Fail;
 use victims::Victims;
 
@@ -37,16 +37,32 @@ fn of_blocks_with_equal_counts_the_least_erased_is_chosen(rt: HostRuntime) -> Re
     Ok(())
 }
 
+// The entries of the last two have more than 32 bits.
 #[test]
 fn a_packed_map_returns_what_was_set(rt: HostRuntime) -> Result<(), Fail> {
-    let mut map = PackedMap::new(rt.alloc(), 3)?;
-    let page = Location::Page(PageAddr {
-        block: 1_048_575,
+    let mut map = PackedMap::new(rt.alloc(), 3000)?;
+    let first = Some(PageAddr { block: 0, page: 0 });
+    let low = Some(PageAddr {
+        block: 262_143,
+        page: 16_382,
+    });
+    let high = Some(PageAddr {
+        block: 262_143,
         page: 16_383,
     });
-    map.set(0, page);
-    map.set(2, Location::Trim(7));
-    let locations = (map.get(0), map.get(1), map.get(2));
-    assert!(rt; locations == (page, Location::Nowhere, Location::Trim(7)));
+    let last = Some(PageAddr {
+        block: 4_294_967_295,
+        page: 4_294_967_294,
+    });
+    map.set(0, first);
+    map.set(255, low);
+    map.set(256, high);
+    map.set(2999, last);
+    assert!(rt;
+        (map.get(0), map.get(255), map.get(256), map.get(2999)) == (first, low, high, last)
+    );
+    assert!(rt; (map.get(1), map.get(257), map.get(2998)) == (None, None, None));
+    map.set(256, None);
+    assert!(rt; (map.get(255), map.get(256), map.get(2999)) == (low, None, last));
     Ok(())
 }

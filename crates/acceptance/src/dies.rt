@@ -1,5 +1,4 @@
-ghost use Rattle.std.specs.Prelude.{◌≡◌, IfOk};
-ghost use Rattle.std.specs.Bool.{OnTrue};
+ghost use Rattle.std.specs.{Prelude.◌≡◌, Bool.OnTrue};
 ghost use Rattle.geometry.specs.Geometry.{blocks_of, pages_of, page_bytes_of};
 ghost use Rattle.die.specs.Die.{geometry_of, IsUsable, IsNext};
 

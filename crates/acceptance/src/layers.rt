@@ -78,7 +78,7 @@ impl SmallLayer {
 }
 
 // A device with blocks of two pages and three sectors, what is written to it, how many of the writes are
-// refused, and the totals and the sectors at the end.
+// refused, and the totals and the sectors at the end, with 0 for an empty one.
 #[derive(Clone, Copy)]
 struct Row {
     name: &'static str,
@@ -88,23 +88,29 @@ struct Row {
     writes: &'static [(u32, u8)],
     refused: u32,
     totals: (u64, u64, u64),
-    sectors: [Option<u8>; 3],
+    sectors: [u8; 3],
+}
+
+// Rows by their names: LUNs, blocks and endurance, what is written, and what is found.
+macro_rules! rows {
+    ($($name:literal: $luns:literal $blocks:literal $endurance:literal, $writes:expr => $refused:literal, $totals:expr, $sectors:expr;)*) => {
+        [$(Row {
+            name: $name,
+            luns: $luns,
+            blocks: $blocks,
+            endurance: $endurance,
+            writes: &$writes,
+            refused: $refused,
+            totals: $totals,
+            sectors: $sectors,
+        }),*]
+    };
 }
 
 fn check_row(rt: &(impl Abort + AllocGlobal), row: Row) -> Result<(), Fail> {
-    let Row {
-        name,
-        luns,
-        blocks,
-        endurance,
-        writes,
-        refused,
-        totals,
-        sectors,
-    } = row;
-    let mut layer = SmallLayer::new(rt, luns, blocks, 2, 3, endurance)?;
+    let mut layer = SmallLayer::new(rt, row.luns, row.blocks, 2, 3, row.endurance)?;
     let mut worn = 0u32;
-    for (sector, byte) in writes {
+    for (sector, byte) in row.writes {
         if layer.write(rt, *sector, *byte).is_none() {
             worn = worn.wrapping_add(1);
         }
@@ -113,90 +119,31 @@ fn check_row(rt: &(impl Abort + AllocGlobal), row: Row) -> Result<(), Fail> {
     let found = (
         worn,
         (counts.programs, counts.copies, counts.erases),
-        [layer.read(rt, 0), layer.read(rt, 1), layer.read(rt, 2)],
+        [
+            layer.read(rt, 0).unwrap_or(0),
+            layer.read(rt, 1).unwrap_or(0),
+            layer.read(rt, 2).unwrap_or(0),
+        ],
     );
-    expect(rt, found == (refused, totals, sectors), &name);
+    expect(
+        rt,
+        found == (row.refused, row.totals, row.sectors),
+        &row.name,
+    );
     Ok(())
 }
 
 #[test]
 fn collection_and_wear_follow_the_worked_rows(rt: HostRuntime) -> Result<(), Fail> {
-    let rows = [
-        Row {
-            name: "a victim with no live page",
-            luns: 1,
-            blocks: 3,
-            endurance: 10,
-            writes: &[(0, 1), (1, 2), (0, 3), (1, 4), (2, 5)],
-            refused: 0,
-            totals: (5, 0, 1),
-            sectors: [Some(3), Some(4), Some(5)],
-        },
-        Row {
-            name: "one page is relocated",
-            luns: 1,
-            blocks: 3,
-            endurance: 10,
-            writes: &[(0, 1), (1, 2), (2, 3), (0, 4), (2, 5)],
-            refused: 0,
-            totals: (5, 1, 1),
-            sectors: [Some(4), Some(2), Some(5)],
-        },
-        Row {
-            name: "the only erase fails",
-            luns: 1,
-            blocks: 3,
-            endurance: 1,
-            writes: &[(0, 1), (1, 2), (0, 3), (1, 4), (2, 5), (0, 6), (1, 7)],
-            refused: 1,
-            totals: (6, 0, 1),
-            sectors: [Some(6), Some(4), Some(5)],
-        },
-        Row {
-            name: "the second block has the fewest live pages",
-            luns: 1,
-            blocks: 4,
-            endurance: 10,
-            writes: &[(0, 1), (1, 2), (2, 3), (2, 4), (2, 5), (2, 6), (0, 7)],
-            refused: 0,
-            totals: (7, 0, 1),
-            sectors: [Some(7), Some(2), Some(6)],
-        },
-        Row {
-            name: "a page goes to the other LUN",
-            luns: 2,
-            blocks: 4,
-            endurance: 10,
-            writes: &[(0, 1), (1, 2), (1, 3), (2, 4), (2, 5), (2, 6), (1, 7)],
-            refused: 0,
-            totals: (7, 1, 1),
-            sectors: [Some(1), Some(7), Some(6)],
-        },
-        Row {
-            name: "two sectors in turn until the device is worn out",
-            luns: 1,
-            blocks: 3,
-            endurance: 2,
-            writes: &[
-                (0, 1),
-                (1, 2),
-                (0, 3),
-                (1, 4),
-                (0, 5),
-                (1, 6),
-                (0, 7),
-                (1, 8),
-                (0, 9),
-                (1, 10),
-                (0, 11),
-                (1, 12),
-                (0, 13),
-            ],
-            refused: 1,
-            totals: (12, 0, 4),
-            sectors: [Some(11), Some(12), None],
-        },
-    ];
+    let rows = rows! {
+        "a victim with no live page": 1 3 10, [(0, 1), (1, 2), (0, 3), (1, 4), (2, 5)] => 0, (5, 0, 1), [3, 4, 5];
+        "one page is relocated": 1 3 10, [(0, 1), (1, 2), (2, 3), (0, 4), (2, 5)] => 0, (5, 1, 1), [4, 2, 5];
+        "the only erase fails": 1 3 1, [(0, 1), (1, 2), (0, 3), (1, 4), (2, 5), (0, 6), (1, 7)] => 1, (6, 0, 1), [6, 4, 5];
+        "the second block has the fewest live pages": 1 4 10, [(0, 1), (1, 2), (2, 3), (2, 4), (2, 5), (2, 6), (0, 7)] => 0, (7, 0, 1), [7, 2, 6];
+        "a page goes to the other LUN": 2 4 10, [(0, 1), (1, 2), (1, 3), (2, 4), (2, 5), (2, 6), (1, 7)] => 0, (7, 1, 1), [1, 7, 6];
+        "two sectors in turn until the device is worn out": 1 3 2, [(0, 1), (1, 2), (0, 3), (1, 4), (0, 5), (1, 6), (0, 7), (1, 8), (0, 9),
+            (1, 10), (0, 11), (1, 12), (0, 13)] => 1, (12, 0, 4), [11, 12, 0];
+    };
     for row in rows {
         check_row(&rt, row)?;
     }

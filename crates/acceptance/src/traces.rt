@@ -70,65 +70,23 @@ fn each_faulty_record_has_its_fault(rt: HostRuntime) -> Result<(), Fail> {
 }
 
 // A record of worker 7, and its op, sector and page.
-const ACCEPTED: [(&str, &str, Op, u32, Option<[u8; 8]>); 9] = [
-    (
-        "leading zeros and a quoted op",
-        "007,\"read\",002,",
-        Op::Read,
-        2,
-        None,
-    ),
-    (
-        "both cases of digits",
-        "7,write,0,aBcD",
-        Op::Write,
-        0,
-        Some([0xab, 0xcd, 0, 0, 0, 0, 0, 0]),
-    ),
-    (
-        "a write of nothing",
-        "7,write,1,",
-        Op::Write,
-        1,
-        Some([0; 8]),
-    ),
-    (
-        "16 digits",
-        "7,write,1,0102030405060708",
-        Op::Write,
-        1,
-        Some([1, 2, 3, 4, 5, 6, 7, 8]),
-    ),
-    (
-        "a write of an empty sector",
-        "7,new,2,41",
-        Op::New,
-        2,
-        Some([0x41, 0, 0, 0, 0, 0, 0, 0]),
-    ),
-    ("a trim", "7,trim,0,", Op::Trim, 0, None),
-    (
-        "numbers of seven digits",
-        "0000007,trim,0000002,",
-        Op::Trim,
-        2,
-        None,
-    ),
-    (
-        "digits behind their quotes",
-        "\"7\",\"write\",\"0\",\"41\"42",
-        Op::Write,
-        0,
-        Some([0x41, 0x42, 0, 0, 0, 0, 0, 0]),
-    ),
-    (
-        "a quote that the text's end closes",
-        "7,write,0,\"41",
-        Op::Write,
-        0,
-        Some([0x41, 0, 0, 0, 0, 0, 0, 0]),
-    ),
-];
+macro_rules! accepted {
+    ($($name:literal: $text:literal => $op:ident $sector:literal, $page:expr;)*) => {
+        [$(($name, $text, Op::$op, $sector, $page)),*]
+    };
+}
+
+const ACCEPTED: [(&str, &str, Op, u32, Option<[u8; 8]>); 9] = accepted! {
+    "leading zeros and a quoted op": "007,\"read\",002," => Read 2, None;
+    "both cases of digits": "7,write,0,aBcD" => Write 0, Some([0xab, 0xcd, 0, 0, 0, 0, 0, 0]);
+    "a write of nothing": "7,write,1," => Write 1, Some([0; 8]);
+    "16 digits": "7,write,1,0102030405060708" => Write 1, Some([1, 2, 3, 4, 5, 6, 7, 8]);
+    "a write of an empty sector": "7,new,2,41" => New 2, Some([0x41, 0, 0, 0, 0, 0, 0, 0]);
+    "a trim": "7,trim,0," => Trim 0, None;
+    "numbers of seven digits": "0000007,trim,0000002," => Trim 2, None;
+    "digits behind their quotes": "\"7\",\"write\",\"0\",\"41\"42" => Write 0, Some([0x41, 0x42, 0, 0, 0, 0, 0, 0]);
+    "a quote that the text's end closes": "7,write,0,\"41" => Write 0, Some([0x41, 0, 0, 0, 0, 0, 0, 0]);
+};
 
 // Whether a command has this page of eight bytes, or none.
 fn has_page(command: &Command<'_>, page: Option<[u8; 8]>) -> bool {

@@ -23,88 +23,17 @@ fn a_map_word_names_generation_block_and_page(rt: HostRuntime) -> Result<(), Fai
 }
 
 // The words of block 0, on a volume with two pages in a block, from its first write until it is free again; and that of a block with two readers.
-const PIN_WORDS: [(u64, PinWord); 9] = [
-    (
-        0x0,
-        PinWord {
-            readers: 0,
-            phase: Phase::Free,
-            written: 0,
-            generation: 0,
-        },
-    ),
-    (
-        0x1_1000,
-        PinWord {
-            readers: 0,
-            phase: Phase::Open,
-            written: 1,
-            generation: 0,
-        },
-    ),
-    (
-        0x2_3000,
-        PinWord {
-            readers: 0,
-            phase: Phase::Closed,
-            written: 2,
-            generation: 0,
-        },
-    ),
-    (
-        0x2_3001,
-        PinWord {
-            readers: 1,
-            phase: Phase::Closed,
-            written: 2,
-            generation: 0,
-        },
-    ),
-    (
-        0x2_7001,
-        PinWord {
-            readers: 1,
-            phase: Phase::Drained,
-            written: 2,
-            generation: 0,
-        },
-    ),
-    (
-        0x2_7000,
-        PinWord {
-            readers: 0,
-            phase: Phase::Drained,
-            written: 2,
-            generation: 0,
-        },
-    ),
-    (
-        0x2_9000,
-        PinWord {
-            readers: 0,
-            phase: Phase::Erasing,
-            written: 2,
-            generation: 0,
-        },
-    ),
-    (
-        0x1_0000_0000,
-        PinWord {
-            readers: 0,
-            phase: Phase::Free,
-            written: 0,
-            generation: 1,
-        },
-    ),
-    (
-        0x5_0002_3002,
-        PinWord {
-            readers: 2,
-            phase: Phase::Closed,
-            written: 2,
-            generation: 5,
-        },
-    ),
+// Behind each word are the readers, the phase, the pages written and the generation.
+const PIN_WORDS: [(u64, u32, Phase, u32, u32); 9] = [
+    (0x0, 0, Phase::Free, 0, 0),
+    (0x1_1000, 0, Phase::Open, 1, 0),
+    (0x2_3000, 0, Phase::Closed, 2, 0),
+    (0x2_3001, 1, Phase::Closed, 2, 0),
+    (0x2_7001, 1, Phase::Drained, 2, 0),
+    (0x2_7000, 0, Phase::Drained, 2, 0),
+    (0x2_9000, 0, Phase::Erasing, 2, 0),
+    (0x1_0000_0000, 0, Phase::Free, 0, 1),
+    (0x5_0002_3002, 2, Phase::Closed, 2, 5),
 ];
 
 // Words that no block has: with a later phase than free and no taken bit, with a phase that doesn't exist, and of a free block with a page.
@@ -112,7 +41,13 @@ const NO_PIN_WORDS: [u64; 3] = [0x2000, 0xd000, 0x1_0000];
 
 #[test]
 fn pin_words_have_readers_phase_pages_and_generation(rt: HostRuntime) -> Result<(), Fail> {
-    for (word, pin) in PIN_WORDS {
+    for (word, readers, phase, written, generation) in PIN_WORDS {
+        let pin = PinWord {
+            readers,
+            phase,
+            written,
+            generation,
+        };
         let is_same = PinWord::unpack(word) == Some(pin) && pin.pack() == word;
         expect(&rt, is_same, &pin);
     }

@@ -1,13 +1,9 @@
 -- A text that goes out piece by piece.
 use Rattle.std.proofs.Common.{◌≡◌, ◌≢◌, ℕ, List, [], ◌++◌, Option, None, Some, refl, subst, sym, ap, ◌∙◌, append_assoc, append-nil, take, drop}
 use Rattle.std.specs.Prelude.{Result, Ok, Err, IsErr, OnErr, OnOk}
-use Rattle.std.specs.Io.KnownBytes.{Appends, Keeps}
-use Rattle.std.proofs.lemmas.List.{take-append-drop}
-use Rattle.geometry.specs.History.{Begins}
-use Rattle.geometry.proofs.Histories.{Begins-refl}
-use Rattle.answers.specs.Delivery.{AppendsBeginning, IsUnderWay}
-use Rattle.answers.specs.Streams.{Passage, Stream, WritesOut}
-use Rattle.answers.specs.declared.delivery.OutputFailed.{OutputFailed}
+use Rattle.std.{specs.Io.KnownBytes.Appends, specs.Io.KnownBytes.Keeps, proofs.lemmas.List.take-append-drop}
+use Rattle.geometry.{specs.History.Begins, proofs.Histories.Begins-refl}
+use Rattle.answers.specs.{Delivery.AppendsBeginning, Delivery.IsUnderWay, Streams.Stream, Streams.WritesOut, declared.delivery.OutputFailed.OutputFailed}
 
 pub Appends-nothing : (known : Option (List ℕ)) → Appends known known []
 Appends-nothing None = tt
@@ -53,11 +49,7 @@ IsUnderWay-sent old new newer waiting text u next =
 pub IsUnderWay-more : (old new : Option (List ℕ)) (waiting text more : List ℕ) → IsUnderWay old new waiting text
     → IsUnderWay old new (waiting ++ more) (text ++ more)
 IsUnderWay-more old new waiting text more u =
-    record {
-      sent = u.sent;
-      out = u.out;
-      whole = sym (append_assoc u.sent waiting more) ∙ ap (λ front. front ++ more) u.whole;
-    }
+    record { sent = u.sent; out = u.out; whole = sym (append_assoc u.sent waiting more) ∙ ap (λ front. front ++ more) u.whole }
 
 -- with nothing waiting all is out
 pub Appends-whole : (old new : Option (List ℕ)) (text : List ℕ) → IsUnderWay old new [] text → Appends old new text

@@ -1,11 +1,9 @@
 -- Digits of sixteen values at once.
-use Rattle.std.proofs.Common.{◌≡◌, ℕ, suc, ◌+◌, ◌-◌, ◌*◌, ◌/◌, ◌%◌, ◌^◌, ◌<◌, ◌≤◌, List, [], ◌∷◌, ◌++◌, map, length, slice_index, take}
-use Rattle.std.proofs.Common.{drop, replicate, bit_and, refl, sym, ap, ap₂, ◌∙◌, subst, arith, take-add, w8, Fits}
-use Rattle.std.proofs.lemmas.List.{append_assoc, append-nil, drop_all, length-drop, take-append-drop}
-use Rattle.std.proofs.lemmas.Nat.{and_mask, and_le_r}
-use Rattle.std.proofs.lemmas.Simd.{Each1-all, Each1-weaker, Each1-zip2, Each2-splat, below_from_Fits, get_or-swz_l_below}
-use Rattle.std.proofs.lemmas.Simd.{pick_l_whole, swz_l, take_more_put_chunk, length-put_chunk}
-use Rattle.std.specs.List.{range_with_len}
+use Rattle.std.proofs.Common.{◌≡◌, ℕ, suc, ◌+◌, ◌-◌, ◌*◌, ◌/◌, ◌%◌, ◌^◌, ◌<◌, ◌≤◌, List, [], ◌∷◌, ◌++◌, map, length, slice_index, take, drop, replicate}
+use Rattle.std.proofs.Common.{bit_and, refl, sym, ap, ap₂, ◌∙◌, subst, arith, take-add, w8, Fits}
+use Rattle.std.proofs.lemmas.{List.append_assoc, List.append-nil, List.drop_all, List.length-drop, List.take-append-drop, Nat.and_mask, Nat.and_le_r}
+use Rattle.std.proofs.lemmas.Simd.{Each1-all, Each1-weaker, Each1-zip2, Each2-splat, below_from_Fits, get_or-swz_l_below, pick_l_whole, swz_l}
+use Rattle.std.{proofs.lemmas.Simd.take_more_put_chunk, proofs.lemmas.Simd.length-put_chunk, specs.List.range_with_len}
 use borrow.Rule.Slice.PartMut.{put_mid}
 use lib.Lanes.{zip2, pick_l, put_chunk, chunk, Each1}
 use Rattle.hex.specs.Hex.{encode_with, encode_lower, lower_digits}

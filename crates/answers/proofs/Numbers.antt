@@ -1,12 +1,9 @@
 -- Numbers two and four digits at a time.
-use Rattle.std.proofs.Common.{◌≡◌, ℕ, ◌+◌, ◌*◌, ◌/◌, ◌%◌, ◌^◌, ◌<◌, ◌≤◌, true, List, [], ◌∷◌, ◌++◌, length, get_or, set}
-use Rattle.std.proofs.Common.{take, refl, ap, sym, ◌∙◌, arith, eqb, eqb-true, subst, length-set}
-use Rattle.std.proofs.lemmas.Bool.{agree_below_at}
-use Rattle.std.proofs.lemmas.Fmt.{decimal_digit}
+use Rattle.std.proofs.Common.{◌≡◌, ℕ, ◌+◌, ◌*◌, ◌/◌, ◌%◌, ◌^◌, ◌<◌, ◌≤◌, true, List, [], ◌∷◌, ◌++◌, length, get_or, set, take, refl, ap, sym, ◌∙◌, arith, eqb}
+use Rattle.std.proofs.{Common.eqb-true, Common.subst, Common.length-set, lemmas.Bool.agree_below_at, lemmas.Fmt.decimal_digit}
 use Rattle.std.specs.Fmt.{decimal}
 use Rattle.itoa.proofs.Decimal.{decimal_two, decimal_pair, decimal_four}
-use Rattle.answers.specs.Placed.{Placed, two_digits, four_digits}
-use Rattle.answers.proofs.Places.{Placed-byte, Placed-then}
+use Rattle.answers.{specs.Placed.Placed, specs.Placed.two_digits, specs.Placed.four_digits, proofs.Places.Placed-byte, proofs.Places.Placed-then}
 use Rattle.answers.specs.declared.text.TheConstants.{PAIRS}
 
 -- the table has the digits

@@ -1,24 +1,17 @@
 -- Texts put at places of one buffer, one after another.
-use Rattle.std.proofs.Common.{◌≡◌, ℕ, Bool, true, false, refl, ◌+◌, ◌<◌, ◌≤◌, List, [], ◌∷◌, ◌++◌, length, set, take, drop, ap, sym, ◌∙◌, arith}
-use Rattle.std.proofs.Common.{append_assoc, length-set, length-take-le, length-drop, take-add, take-take, take_at, drop_at, subst}
-use Rattle.std.proofs.lemmas.List.{take_more_set}
-use Rattle.std.proofs.lemmas.Simd.{take_more_put_chunk, length-put_chunk}
-use Rattle.std.proofs.lemmas.Slice.{take-put_mid}
+use Rattle.std.proofs.Common.{◌≡◌, ℕ, Bool, true, false, refl, ◌+◌, ◌<◌, ◌≤◌, List, [], ◌∷◌, ◌++◌, length, set, take, drop, ap, sym, ◌∙◌, arith, append_assoc}
+use Rattle.std.proofs.Common.{length-set, length-take-le, length-drop, take-add, take-take, take_at, drop_at, subst}
+use Rattle.std.proofs.lemmas.{List.take_more_set, Simd.take_more_put_chunk, Simd.length-put_chunk, Slice.take-put_mid}
+use Rattle.std.specs.{Prelude.if◌then◌else◌, Fmt.decimal}
 use borrow.Rule.Slice.PartMut.{put_mid, same_len_mid}
 use lib.Lanes.{put_chunk}
 use mir.Val.{bool_byte}
-use Rattle.std.specs.Prelude.{if◌then◌else◌}
-use Rattle.std.specs.Fmt.{decimal}
 use Rattle.answers.specs.Placed.{Placed}
 
 -- a second text begins where the first one ended
 pub Placed-then : {a b c xs ys : List ℕ} {i j k : ℕ} → Placed a b i xs j → Placed b c j ys k → Placed a c i (xs ++ ys) k
 Placed-then {a} {b} {c} {xs} {ys} {i} p q =
-    record {
-      bytes = q.bytes ∙ ap (λ l. l ++ ys) p.bytes ∙ append_assoc (take i a) xs ys;
-      within = q.within;
-      len = q.len ∙ p.len;
-    }
+    record { bytes = q.bytes ∙ ap (λ l. l ++ ys) p.bytes ∙ append_assoc (take i a) xs ys; within = q.within; len = q.len ∙ p.len }
 
 -- one byte
 pub Placed-byte : (a : List ℕ) (i y : ℕ) → i < length a → Placed a (set a i y) i (y ∷ []) (i + 1)

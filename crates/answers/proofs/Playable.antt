@@ -1,20 +1,12 @@
 -- A command that passed the checks of its record can be played: its sector is there, and a write has a page.
 use Rattle.std.proofs.Common.{◌≡◌, ℕ, ◌+◌, ◌-◌, ◌<◌, ◌⊎◌, inl, inr, ⊎_elim, List, [], ◌∷◌, length, replicate, refl, subst, sym, ap, ◌∙◌, arith, length-append}
-use Rattle.std.specs.Prelude.{Result, Ok, Err}
-use Rattle.std.specs.List.{All}
-use Rattle.std.proofs.Math.ListN.{get_or}
-use Rattle.std.proofs.lemmas.List.{length-map, length-replicate, get_or-map}
-use Rattle.std.proofs.lemmas.Bool.Decides.{nat_tests}
-use Rattle.hex.specs.Hex.{decode_of}
-use Rattle.hex.specs.declared.error.FromHexError.{FromHexError}
-use Rattle.geometry.specs.Geometry.{sectors_of, page_bytes_of}
-use Rattle.geometry.specs.declared.geometry.Geometry.{Geometry}
-use Rattle.trace.specs.Page.{page_with}
+use Rattle.std.specs.{Prelude.Result, Prelude.Ok, Prelude.Err, List.All}
+use Rattle.std.proofs.{Math.ListN.get_or, lemmas.List.length-map, lemmas.List.length-replicate, lemmas.List.get_or-map, lemmas.Bool.Decides.nat_tests}
+use Rattle.hex.specs.{Hex.decode_of, declared.error.FromHexError.FromHexError}
+use Rattle.geometry.specs.{Geometry.sectors_of, Geometry.page_bytes_of, declared.geometry.Geometry.Geometry}
+use Rattle.trace.specs.{Page.page_with, declared.commands.Command.Command, declared.commands.Op.Op, declared.fault.TraceFaultKind.TraceFaultKind}
 use Rattle.trace.specs.Trace.{◌>>=◌, number_below, op_of, page_of, page_of_bytes, command_of, checked, workers_of, records_of, AreCommands}
-use Rattle.trace.specs.declared.commands.Command.{Command}
-use Rattle.trace.specs.declared.commands.Op.{Op}
 use Rattle.trace.specs.declared.commands.Op.TheVariants as op
-use Rattle.trace.specs.declared.fault.TraceFaultKind.{TraceFaultKind}
 use Rattle.trace.specs.declared.fault.TraceFaultKind.TheVariants as fault
 use Rattle.answers.specs.Playable.{IsPlayable}
 

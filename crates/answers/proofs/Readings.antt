@@ -1,11 +1,8 @@
 -- What the commands of a text say of the bytes that a reader held.
-use Rattle.std.proofs.Common.{◌≡◌, List, ℕ, Option, None, Some, subst}
+use Rattle.std.proofs.{Common.◌≡◌, Common.List, Common.ℕ, Common.Option, Common.None, Common.Some, Common.subst, lemmas.Result.IfOk-weaker}
 use Rattle.std.specs.Prelude.{Result, Ok, IfOk, IfSome}
-use Rattle.std.proofs.lemmas.Result.{IfOk-weaker}
 use Rattle.geometry.specs.declared.geometry.Geometry.{Geometry}
-use Rattle.trace.specs.Trace.{commands_of}
-use Rattle.trace.specs.declared.commands.Command.{Command}
-use Rattle.trace.specs.declared.fault.TraceFault.{TraceFault}
+use Rattle.trace.specs.{Trace.commands_of, declared.commands.Command.Command, declared.fault.TraceFault.TraceFault}
 
 -- the commands of the text are those of the bytes
 told : (held : Option (List ℕ)) (text : List ℕ) (geo : Geometry) (commands : List Command) → IfSome held (λ bytes. text ≡ bytes)

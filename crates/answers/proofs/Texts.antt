@@ -1,10 +1,7 @@
 -- One command more: the history and the text grow by its own part.
 use Rattle.std.proofs.Common.{◌≡◌, ℕ, ◌+◌, Bool, List, [], ◌∷◌, ◌++◌, Some, zero, suc, sym, ap, ◌∙◌, add-zero, zero-add, append_assoc, append-nil, arith}
-use Rattle.std.specs.Prelude.{slice_get}
-use Rattle.std.specs.List.{flat_map, range_with_len, fold}
-use Rattle.std.specs.Option.{option_map_or}
-use Rattle.std.proofs.lemmas.List.Concat.{flat_map-append}
-use Rattle.std.proofs.lemmas.List.Sums.{fold-append}
+use Rattle.std.specs.{Prelude.slice_get, List.flat_map, List.range_with_len, List.fold, Option.option_map_or}
+use Rattle.std.proofs.lemmas.List.{Concat.flat_map-append, Sums.fold-append}
 use Rattle.geometry.specs.History.{step, after, held, Begins}
 use Rattle.trace.specs.declared.commands.Command.{Command}
 use Rattle.answers.specs.Answers.{at_place, calls_of, history_before, line_at, lines_before, line_text, answer_of}

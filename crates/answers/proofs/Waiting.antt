@@ -1,9 +1,7 @@
 -- What waits after its first bytes were removed.
 use Rattle.std.proofs.Common.{◌≡◌, ℕ, ◌+◌, ◌-◌, ◌≤◌, List, length, take, drop, ap, sym, ◌∙◌, arith, length-drop}
+use Rattle.std.{proofs.lemmas.List.drop-take, proofs.lemmas.List.Edits.take-paste, specs.List.copy_within}
 use lib.Seq.{paste}
-use Rattle.std.proofs.lemmas.List.{drop-take}
-use Rattle.std.proofs.lemmas.List.Edits.{take-paste}
-use Rattle.std.specs.List.{copy_within}
 
 -- bytes in the middle are moved to the front
 pub moved_front : (xs : List ℕ) (used count : ℕ) → count ≤ used → used ≤ length xs

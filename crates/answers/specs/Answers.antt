@@ -1,15 +1,10 @@
 -- The answers of a trace's commands: one line each, over the array of sectors and its history.
 use Rattle.std.specs.Prelude.{ℕ, ◌+◌, Bool, List, [], ◌++◌, length, codes, Option, None, Some, slice_get, decimal, if◌then◌else◌}
-use Rattle.std.specs.Option.{option_map_or, option_to_list}
-use Rattle.std.specs.List.{flat_map, range_with_len}
-use Rattle.geometry.specs.Sectors.{Sector, was_of}
-use Rattle.geometry.specs.History.{Call, Write, WriteNew, Trim, held}
-use Rattle.geometry.specs.declared.answer.Was.{Was}
+use Rattle.std.specs.{Option.option_map_or, Option.option_to_list, List.flat_map, List.range_with_len}
+use Rattle.geometry.specs.{Sectors.Sector, Sectors.was_of, History.Call, History.Write, History.WriteNew, History.Trim, History.held, declared.answer.Was.Was}
 use Rattle.geometry.specs.declared.answer.Was.TheVariants as was
 use Rattle.hex.specs.Hex.{encode_lower}
-use Rattle.trace.specs.Trace.{name_of}
-use Rattle.trace.specs.declared.commands.Command.{Command}
-use Rattle.trace.specs.declared.commands.Op.{Op}
+use Rattle.trace.specs.{Trace.name_of, declared.commands.Command.Command, declared.commands.Op.Op}
 use Rattle.trace.specs.declared.commands.Op.TheVariants as op
 use Rattle.answers.specs.declared.broom_line.BroomLine.{BroomLine}
 
@@ -57,8 +52,7 @@ answer_of refusal refused op.Meet sector = codes "met"
 
 -- a line of the output
 abbrev pub line_text : ℕ → Op → ℕ → List ℕ → List ℕ
-line_text line op sector answer =
-    decimal line ++ codes "," ++ name_of op ++ codes "," ++ decimal sector ++ codes "," ++ answer ++ codes "\n"
+line_text line op sector answer = decimal line ++ codes "," ++ name_of op ++ codes "," ++ decimal sector ++ codes "," ++ answer ++ codes "\n"
 
 -- the line of the command at an index: it is answered at the history before it. Lines count from 1
 abbrev pub line_at : List ℕ → ℕ → (ℕ → Bool) → List Command → ℕ → List ℕ
@@ -117,5 +111,4 @@ end_text = codes "end\n"
 
 -- the last line of a run of one thread: what its device programmed, copied and erased
 abbrev pub totals_text : ℕ → ℕ → ℕ → List ℕ
-totals_text programs copies erases =
-    codes "end," ++ decimal programs ++ codes "," ++ decimal copies ++ codes "," ++ decimal erases ++ codes "\n"
+totals_text programs copies erases = codes "end," ++ decimal programs ++ codes "," ++ decimal copies ++ codes "," ++ decimal erases ++ codes "\n"

@@ -1,6 +1,5 @@
 -- How much of a text reached a writer. A text is known by what it has to be for the bytes that were read.
-use Rattle.std.specs.Prelude.{◌≡◌, ℕ, List, ◌++◌, Option}
-use Rattle.std.specs.Io.KnownBytes.{Appends}
+use Rattle.std.specs.{Prelude.◌≡◌, Prelude.ℕ, Prelude.List, Prelude.◌++◌, Prelude.Option, Io.KnownBytes.Appends}
 use Rattle.geometry.specs.History.{Begins}
 
 -- the known bytes of a writer grew by a beginning of this text

@@ -1,7 +1,6 @@
 -- Values below 16 and their digits.
-use Rattle.std.specs.Prelude.{ℕ, List, slice_index, ◌<◌}
+use Rattle.std.specs.{Prelude.ℕ, Prelude.List, Prelude.slice_index, Prelude.◌<◌, Simd.Lanes.Each1}
 use Rattle.hex.specs.Hex.{lower_digits}
-use Rattle.std.specs.Simd.Lanes.{Each1}
 
 -- the digit of a value
 abbrev pub digit_of : ℕ → ℕ

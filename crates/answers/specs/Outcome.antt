@@ -1,15 +1,10 @@
 -- What a fault of a run means.
 use Rattle.std.specs.Prelude.{◌≡◌, ◌≢◌, ℕ, List, IfSome, Ok, Err, false, IsTrue}
 use Rattle.std.specs.Io.KnownBytes.{IsAtEnd}
-use Rattle.geometry.specs.Geometry.{hosts_of}
-use Rattle.geometry.specs.declared.geometry.Geometry.{Geometry}
-use Rattle.trace.specs.Trace.{commands_of, is_of_record}
-use Rattle.trace.specs.Loading.{TookOneTooMany}
-use Rattle.trace.specs.declared.commands.Command.{Command}
-use Rattle.trace.specs.declared.fault.TraceFault.{TraceFault}
+use Rattle.geometry.specs.{Geometry.hosts_of, declared.geometry.Geometry.Geometry}
+use Rattle.trace.specs.{Trace.commands_of, Trace.is_of_record, Loading.TookOneTooMany, declared.commands.Command.Command, declared.fault.TraceFault.TraceFault}
 use Rattle.trace.specs.declared.fault.TraceFaultKind.TheVariants as fault
-use Rattle.answers.specs.Streams.{Passage, TellsPart}
-use Rattle.answers.specs.declared.fault.RunFault.{RunFault}
+use Rattle.answers.specs.{Streams.Passage, Streams.TellsPart, declared.fault.RunFault.RunFault}
 use Rattle.answers.specs.declared.fault.RunFault.TheVariants as run
 
 -- a trace that was not played: its first fault, or why it could not be read
@@ -31,11 +26,8 @@ pub record ReadsCommands (geo : Geometry) (input : Passage) : Type 0 where
 -- ran out, the system refused the threads of a run by workers, or the writer failed. Only with `Output` was anything written, and that is a
 -- beginning of a text that is right for the bytes read
 abbrev pub ExplainsRun : (Geometry → List ℕ → List ℕ → Type 0) → Geometry → Passage → Passage → RunFault → Type 0
-ExplainsRun IsTextOf geo input output (run.Trace found) =
-    ExplainsTrace found geo input × (output.after ≡ output.before)
-ExplainsRun IsTextOf geo input output run.Memory =
-    ReadsCommands geo input × (output.after ≡ output.before)
-ExplainsRun IsTextOf geo input output run.Threads =
-    (hosts_of geo ≢ 0) × ReadsCommands geo input × (output.after ≡ output.before)
+ExplainsRun IsTextOf geo input output (run.Trace found) = ExplainsTrace found geo input × (output.after ≡ output.before)
+ExplainsRun IsTextOf geo input output run.Memory = ReadsCommands geo input × (output.after ≡ output.before)
+ExplainsRun IsTextOf geo input output run.Threads = (hosts_of geo ≢ 0) × ReadsCommands geo input × (output.after ≡ output.before)
 ExplainsRun IsTextOf geo input output run.Output =
     ReadsCommands geo input × (output.after.failures ≢ output.before.failures) × TellsPart (IsTextOf geo) input.before output

@@ -1,9 +1,7 @@
 -- What a command needs to be played.
 use Rattle.std.specs.Prelude.{◌≡◌, ◌<◌, length}
-use Rattle.geometry.specs.Geometry.{sectors_of, page_bytes_of}
-use Rattle.geometry.specs.declared.geometry.Geometry.{Geometry}
-use Rattle.trace.specs.Trace.{workers_of}
-use Rattle.trace.specs.declared.commands.Command.{Command}
+use Rattle.geometry.specs.{Geometry.sectors_of, Geometry.page_bytes_of, declared.geometry.Geometry.Geometry}
+use Rattle.trace.specs.{Trace.workers_of, declared.commands.Command.Command}
 use Rattle.trace.specs.declared.commands.Op.TheVariants as op
 
 -- a command that a device of this geometry can play: its worker and its sector exist, and a write of either kind has a page

@@ -16,12 +16,8 @@ reply_text reply.Page digits = digits
 
 -- whether a write was refused because the device is worn out
 abbrev pub is_worn_reply : Reply → Bool
-is_worn_reply reply.Empty = false
-is_worn_reply reply.Written = false
 is_worn_reply reply.Worn = true
-is_worn_reply reply.Full = false
-is_worn_reply reply.Met = false
-is_worn_reply reply.Page = false
+is_worn_reply _ = false
 
 -- the reply that says what a sector was
 abbrev pub reply_of : Was → Reply

@@ -1,8 +1,6 @@
-ghost use Rattle.std.specs.Prelude.{◌≡◌, ◌≢◌, ◌≤◌, drop, length, OnOk, OnErr};
-ghost use Rattle.std.specs.Io.KnownBytes.{Appends};
+ghost use Rattle.std.specs.Prelude.{◌≡◌, ◌≢◌, ◌≤◌, drop, length};
 ghost use Rattle.trace.specs.Watched.{failures_of, inner_of};
-ghost use Rattle.answers.specs.Delivery.{IsUnderWay};
-ghost use Rattle.answers.specs.Streams.{WritesOut, over};
+ghost use Rattle.answers.specs.{Delivery.IsUnderWay, Streams.WritesOut, Streams.over};
 
 use std::io::Write;
 use trace::Watched;

@@ -1,8 +1,6 @@
 //! Laws of what a short text is and of what waits to be written. Each function has no code: its clauses say what a definition is on small values.
 ghost use Rattle.std.specs.Prelude.{◌≡◌, ℕ, List, [], ◌∷◌, codes};
-ghost use Rattle.answers.specs.Lines.{page_digits_of, waiting_of};
-ghost use Rattle.answers.specs.Placed.{short_of};
-ghost use Rattle.answers.specs.declared.lines.Lines.{Lines};
+ghost use Rattle.answers.specs.{Lines.page_digits_of, Lines.waiting_of, Placed.short_of, declared.lines.Lines.Lines};
 
 /// The text of which the first bytes count, and the others are ignored.
 pub fn texts_of_a_buffer()

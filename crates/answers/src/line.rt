@@ -2,8 +2,7 @@
 ghost use Rattle.std.specs.Prelude.{◌≡◌, ◌+◌, ◌*◌, ◌≤◌, ◌++◌, codes, length};
 ghost use Rattle.hex.specs.Hex.{encode_lower};
 ghost use Rattle.answers.specs.Answers.{broom_line, broom_names, collection_line, collection_names, end_text, line_text, totals_text, wear_line, wear_names};
-ghost use Rattle.answers.specs.Placed.{Placed};
-ghost use Rattle.answers.specs.Replies.{reply_text};
+ghost use Rattle.answers.specs.{Placed.Placed, Replies.reply_text};
 ghost use Rattle.answers.specs.declared.reply.Reply.TheVariants as replies;
 
 use crate::broom_line::BroomLine;

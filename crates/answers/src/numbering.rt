@@ -1,8 +1,6 @@
 //! The numbers of lines. They grow by one from line to line, so the digits before the last four are kept.
 ghost use Rattle.std.specs.Prelude.{◌≡◌, ◌+◌, ◌/◌, ◌%◌, ◌<◌, ◌≤◌, [], ◌∷◌, ◌++◌, length, decimal};
-ghost use Rattle.answers.specs.Placed.{Placed, short_of};
-ghost use Rattle.answers.specs.declared.numbering.TheConstants.{STEP};
-ghost use Rattle.answers.specs.declared.text.TheConstants.{SHORT_BYTES};
+ghost use Rattle.answers.specs.{Placed.Placed, Placed.short_of, declared.numbering.TheConstants.STEP, declared.text.TheConstants.SHORT_BYTES};
 
 use crate::text::{NUMBER_BYTES, SHORT_BYTES, Short, put_first, put_four, put_number, put_short};
 

@@ -1,14 +1,10 @@
 ghost use Rattle.std.specs.Prelude.{◌≡◌, ◌≢◌, ◌*◌, ◌-◌, ◌≤◌, [], ◌++◌, drop, length, IfOk, OnOk, OnErr};
-ghost use Rattle.std.specs.Io.KnownBytes.{Appends};
 ghost use Rattle.geometry.specs.Geometry.{page_bytes_of};
 ghost use Rattle.hex.specs.Hex.{encode_lower};
 ghost use Rattle.trace.specs.Watched.{failures_of, inner_of};
 ghost use Rattle.answers.specs.Answers.{broom_line, broom_names, collection_line, collection_names, end_text, line_text, totals_text, wear_line, wear_names};
-ghost use Rattle.answers.specs.Delivery.{AppendsBeginning, IsUnderWay};
-ghost use Rattle.answers.specs.Lines.{page_digits_of, waiting_of};
-ghost use Rattle.answers.specs.Replies.{reply_text};
-ghost use Rattle.answers.specs.Streams.{WritesOut, over};
-ghost use Rattle.answers.specs.declared.line.TheConstants.{PIECE_BYTES};
+ghost use Rattle.answers.specs.{Delivery.AppendsBeginning, Delivery.IsUnderWay, Lines.page_digits_of, Lines.waiting_of, Replies.reply_text};
+ghost use Rattle.answers.specs.{Streams.WritesOut, Streams.over, declared.line.TheConstants.PIECE_BYTES};
 ghost use Rattle.answers.specs.declared.reply.Reply.TheVariants as replies;
 
 use crate::broom_line::BroomLine;

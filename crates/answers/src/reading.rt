@@ -1,10 +1,6 @@
-ghost use Rattle.std.specs.Prelude.{◌≡◌, All, IfErr, IfOk, IfSome, Ok, OnOk};
-ghost use Rattle.std.specs.Io.KnownBytes.{IsAtEnd};
-ghost use Rattle.trace.specs.Trace.{commands_of};
-ghost use Rattle.trace.specs.Watched.{failures_of, inner_of};
-ghost use Rattle.answers.specs.Outcome.{ExplainsTrace};
-ghost use Rattle.answers.specs.Playable.{IsPlayable};
-ghost use Rattle.answers.specs.Streams.{over};
+ghost use Rattle.std.specs.{Prelude.◌≡◌, Prelude.All, Prelude.IfErr, Prelude.IfOk, Prelude.IfSome, Prelude.Ok, Prelude.OnOk, Io.KnownBytes.IsAtEnd};
+ghost use Rattle.trace.specs.{Trace.commands_of, Watched.failures_of, Watched.inner_of};
+ghost use Rattle.answers.specs.{Outcome.ExplainsTrace, Playable.IsPlayable, Streams.over};
 
 use geometry::Geometry;
 use std::alloc::Global;

@@ -1,88 +1,51 @@
 //! The words of the lines, each with the byte behind it.
 ghost use Rattle.std.specs.Prelude.{◌≡◌, ◌≤◌, [], ◌++◌, codes};
 ghost use Rattle.trace.specs.Trace.{name_of};
-ghost use Rattle.answers.specs.Answers.{outcome_text};
-ghost use Rattle.answers.specs.Placed.{short_of};
-ghost use Rattle.answers.specs.Replies.{reply_text};
+ghost use Rattle.answers.specs.{Answers.outcome_text, Placed.short_of, Replies.reply_text};
 
 use crate::reply::Reply;
 use crate::text::{SHORT_BYTES, Short};
 use trace::Op;
 
-static READ: Short = Short {
-    bytes: *b"read,\0\0\0\0\0\0\0\0\0\0\0",
-    len: 5,
-};
+// A word of this length: of 16 bytes, so that it is stored at once.
+macro_rules! short {
+    ($bytes:literal, $len:literal) => {
+        Short {
+            bytes: *$bytes,
+            len: $len,
+        }
+    };
+}
 
-static WRITE: Short = Short {
-    bytes: *b"write,\0\0\0\0\0\0\0\0\0\0",
-    len: 6,
-};
+static READ: Short = short!(b"read,\0\0\0\0\0\0\0\0\0\0\0", 5);
 
-static NEW: Short = Short {
-    bytes: *b"new,\0\0\0\0\0\0\0\0\0\0\0\0",
-    len: 4,
-};
+static WRITE: Short = short!(b"write,\0\0\0\0\0\0\0\0\0\0", 6);
 
-static TRIM: Short = Short {
-    bytes: *b"trim,\0\0\0\0\0\0\0\0\0\0\0",
-    len: 5,
-};
+static NEW: Short = short!(b"new,\0\0\0\0\0\0\0\0\0\0\0\0", 4);
 
-static MEET: Short = Short {
-    bytes: *b"meet,\0\0\0\0\0\0\0\0\0\0\0",
-    len: 5,
-};
+static TRIM: Short = short!(b"trim,\0\0\0\0\0\0\0\0\0\0\0", 5);
 
-static EMPTY: Short = Short {
-    bytes: *b"empty\n\0\0\0\0\0\0\0\0\0\0",
-    len: 6,
-};
+static MEET: Short = short!(b"meet,\0\0\0\0\0\0\0\0\0\0\0", 5);
 
-static WRITTEN: Short = Short {
-    bytes: *b"written\n\0\0\0\0\0\0\0\0",
-    len: 8,
-};
+static EMPTY: Short = short!(b"empty\n\0\0\0\0\0\0\0\0\0\0", 6);
 
-static WORN: Short = Short {
-    bytes: *b"worn\n\0\0\0\0\0\0\0\0\0\0\0",
-    len: 5,
-};
+static WRITTEN: Short = short!(b"written\n\0\0\0\0\0\0\0\0", 8);
 
-static FULL: Short = Short {
-    bytes: *b"full\n\0\0\0\0\0\0\0\0\0\0\0",
-    len: 5,
-};
+static WORN: Short = short!(b"worn\n\0\0\0\0\0\0\0\0\0\0\0", 5);
 
-static MET: Short = Short {
-    bytes: *b"met\n\0\0\0\0\0\0\0\0\0\0\0\0",
-    len: 4,
-};
+static FULL: Short = short!(b"full\n\0\0\0\0\0\0\0\0\0\0\0", 5);
 
-static LINE_END: Short = Short {
-    bytes: *b"\n\0\0\0\0\0\0\0\0\0\0\0\0\0\0\0",
-    len: 1,
-};
+static MET: Short = short!(b"met\n\0\0\0\0\0\0\0\0\0\0\0\0", 4);
 
-pub(crate) static END: Short = Short {
-    bytes: *b"end\n\0\0\0\0\0\0\0\0\0\0\0\0",
-    len: 4,
-};
+static LINE_END: Short = short!(b"\n\0\0\0\0\0\0\0\0\0\0\0\0\0\0\0", 1);
 
-pub(crate) static END_COMMA: Short = Short {
-    bytes: *b"end,\0\0\0\0\0\0\0\0\0\0\0\0",
-    len: 4,
-};
+pub(crate) static END: Short = short!(b"end\n\0\0\0\0\0\0\0\0\0\0\0\0", 4);
 
-static FREED: Short = Short {
-    bytes: *b"freed\n\0\0\0\0\0\0\0\0\0\0",
-    len: 6,
-};
+pub(crate) static END_COMMA: Short = short!(b"end,\0\0\0\0\0\0\0\0\0\0\0\0", 4);
 
-static RETIRED: Short = Short {
-    bytes: *b"retired\n\0\0\0\0\0\0\0\0",
-    len: 8,
-};
+static FREED: Short = short!(b"freed\n\0\0\0\0\0\0\0\0\0\0", 6);
+
+static RETIRED: Short = short!(b"retired\n\0\0\0\0\0\0\0\0", 8);
 
 /// What a collection's victim is after its erase.
 pub(crate) fn outcome_word(retired: bool) -> &'static Short

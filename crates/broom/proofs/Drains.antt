@@ -6,7 +6,8 @@ use Rattle.geometry.specs.{Geometry.blocks_of, Geometry.pages_of, PinWords.FitsP
 use Rattle.geometry.specs.{Greedy.IsClosed, Limits.Numbers, History.Begins, History.Call}
 use Rattle.geometry.specs.declared.pin_word.{Phase.TheVariants.Closed, Phase.TheVariants.Drained, PinWord.PinWord}
 use Rattle.geometry.proofs.Histories.{Begins-trans}
-use Rattle.flash_rule.specs.{declared.facts.Cycle.Cycle, declared.facts.Owned.Owned, declared.view.View.View, Views.AreOfHosts, BroomPlays.IsLastLoaded}
+use Rattle.flash_rule.specs.declared.{facts.Cycle.Cycle, facts.Owned.Owned, facts.Source.Source, view.View.View}
+use Rattle.flash_rule.specs.{Views.AreOfHosts, BroomPlays.IsLastLoaded}
 use Rattle.flash_table.specs.{declared.flash.Flash.Flash, declared.pass.OpenBlock.OpenBlock, Owning.reclaimed_as}
 use Rattle.flash_table.specs.declared.broom_seat.{BroomBlocks.BroomBlocks, BroomSeat.BroomSeat, ReclaimedBlock.ReclaimedBlock}
 use Rattle.flash_table.specs.declared.broom_seat.Reclaiming.TheVariants.{Nothing, Draining}
@@ -115,63 +116,29 @@ module _ (f : Flash) (r : Broom) (b : ℕ) (ready : IsReady f r) (marked : IsClo
           ceded = ceded;
         }
         all =
-            let c : Cycle = record { block = b; generation = q.generation } in
             let x : View = broom_view u in
-            let e1 : broom_view w
-            ≡ record (broom_view t) {
+            let c : Cycle = record { block = b; generation = q.generation } in
+            let ended : View → ℕ → Option Source → Cycle → View = λ y clear source cycle.
+            record y {
               seen = x.seen;
               named = x.named;
               owns = owned;
               work = x.work;
               programs = x.programs;
-              cleared = x.cleared;
-              source = x.source;
-              moves = (broom_view t).moves + copied;
-              drains = (broom_view t).drains ++ c ∷ [];
+              cleared = clear;
+              source = source;
+              moves = y.moves + copied;
+              drains = y.drains ++ cycle ∷ [];
               ceded = ceded;
-            } =
+            } in
+            let relocated : broom_view w ≡ ended (broom_view t) x.cleared x.source c =
             drained ∙ (λ i. record (went.changed i) { owns = owned; drains = (went.changed i).drains ++ c ∷ []; ceded = ceded }) in
-            let e2 : broom_view w
-            ≡ record v {
-              seen = x.seen;
-              named = x.named;
-              owns = owned;
-              work = x.work;
-              programs = x.programs;
-              cleared = x.cleared;
-              source = x.source;
-              moves = v.moves + copied;
-              drains = v.drains ++ c ∷ [];
-              ceded = ceded;
-            } =
-            e1 ∙ (λ i. record (claimed i) {
-              seen = x.seen;
-              named = x.named;
-              owns = owned;
-              work = x.work;
-              programs = x.programs;
-              cleared = x.cleared;
-              source = x.source;
-              moves = (claimed i).moves + copied;
-              drains = (claimed i).drains ++ c ∷ [];
-              ceded = ceded;
-            }) in
-            e2
-            ∙ (λ i. record v {
-              seen = x.seen;
-              named = x.named;
-              owns = owned;
-              work = x.work;
-              programs = x.programs;
-              cleared = (cleared ∙ written_is) i;
-              source = (bare ∙ sym none) i;
-              moves = v.moves + copied;
-              drains = v.drains ++ record { block = b; generation = generation_is i } ∷ [];
-              ceded = ceded;
-            })
+            relocated
+            ∙ ((λ i. ended (claimed i) x.cleared x.source c)
+            ∙ (λ i. ended v ((cleared ∙ written_is) i) ((bare ∙ sym none) i) (record { block = b; generation = generation_is i })))
 
         -- no state was loaded
-        pub drained_loaded : (broom_view w).loaded ≡ v.loaded
+        drained_loaded : (broom_view w).loaded ≡ v.loaded
         drained_loaded = ap (λ (x : View). x.loaded) all
 
         -- its pages, with the claim behind and the drain ahead, and what was given up
@@ -198,7 +165,7 @@ module _ (f : Flash) (r : Broom) (b : ℕ) (ready : IsReady f r) (marked : IsClo
               gave,
             )
 
-        pub did_drain : DidDrainAgain v (own_blocks r.seat) r.states.items b copied (broom_view w) (own_blocks w)
+        did_drain : DidDrainAgain v (own_blocks r.seat) r.states.items b copied (broom_view w) (own_blocks w)
         did_drain =
             let e = all in
             let seen : (broom_view t).seen ≡ v.seen = ap (λ (y : View). y.seen) claimed in
@@ -224,7 +191,7 @@ module _ (f : Flash) (r : Broom) (b : ℕ) (ready : IsReady f r) (marked : IsClo
                   });
             }
 
-        pub drained_rested : IsBroomOf f w → IsRested f w
+        drained_rested : IsBroomOf f w → IsRested f w
         drained_rested now =
             let h = ready.rested in
             record {
@@ -239,6 +206,10 @@ module _ (f : Flash) (r : Broom) (b : ℕ) (ready : IsReady f r) (marked : IsClo
               whole = ap (λ (y : View). y.whole) drained ∙ (ap (λ (y : View). y.whole) went.changed ∙ (ap (λ (y : View). y.whole) claimed ∙ h.whole));
               alone = ap (λ (y : View). y.guest) drained ∙ (ap (λ (y : View). y.guest) went.changed ∙ (ap (λ (y : View). y.guest) claimed ∙ h.alone));
             }
+
+        pub drained_so : DidDrainAgain v (own_blocks r.seat) r.states.items b copied (broom_view w) (own_blocks w) × ((broom_view w).loaded ≡ v.loaded)
+            × (IsBroomOf f w → IsRested f w)
+        drained_so = (did_drain, drained_loaded, drained_rested)
 
 -- ---- a drain of a survey's victim is a drain
 module _ (v : View) (b : ℕ) (r after : Broom) (chosen : Chosen v b r) (x : BroomBlocks) (same : blocks_of_broom r ≡ x) where

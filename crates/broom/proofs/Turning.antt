@@ -1,29 +1,33 @@
 -- The parts of a turn, put together.
-use Rattle.std.proofs.Common.{◌≡◌, ℕ, refl, subst}
+use Rattle.std.proofs.Common.{◌≡◌, ◌≢◌, ℕ, refl, sym, subst}
 use Rattle.broom.specs.{declared.broom.Broom.Broom, declared.answer.Drain.Drain, declared.answer.Erase.Erase, Told.Unmarks, Erasing.EraseTold}
-use Rattle.broom.specs.Handing.{HandsNothing, HandedOn, Relieved, Fetched, FetchedAndHandedOn, DrainedAndHandedOn, TurnTold, EraseOneTold}
+use Rattle.broom.specs.Handing.{HandsNothing, HandedOn, Relieved, Fetched, FetchedAndHandedOn, DrainedAfterPut, DrainedBy, TurnTold, EraseOneTold}
 use Rattle.broom.specs.declared.answer.Drain.TheVariants as drain
 use Rattle.broom.specs.declared.answer.Erase.TheVariants as erase
+use Rattle.broom.specs.declared.turns.Choice.{Choice}
+use Rattle.broom.specs.declared.turns.Choice.TheVariants as choice
 
--- no block was drained
-module _ (Told : Broom → Drain → Broom → Type 0) (never : (b x : Broom) → Told b drain.QueueFull x → ⊥) where
-  pub drained_none : (limit : ℕ) (before relieved after : Broom) (answer : Drain) → ((block copied : ℕ) → answer ≡ drain.Drained block copied → ⊥)
-      → Relieved before relieved → Told relieved answer after → HandsNothing relieved after
-      → TurnTold Told limit before answer after
-  drained_none limit before relieved after (drain.Drained block copied) none first told apart = absurd (none block copied refl)
-  drained_none limit before relieved after drain.NothingToGain none first told apart =
-      record { relieved = relieved; first = first; drain = told; apart = apart }
-  drained_none limit before relieved after drain.NoSpare none first told apart = record { relieved = relieved; first = first; drain = told; apart = apart }
-  drained_none limit before relieved after drain.Lost none first told apart = record { relieved = relieved; first = first; drain = told; apart = apart }
-  drained_none limit before relieved after drain.QueueFull none first told apart = absurd (never relieved after told)
+-- a drain doesn't use the queue
+never : (c : Choice) (b x : Broom) → DrainedBy c b drain.QueueFull x → ⊥
+never choice.Survey b x told = told.0
+never choice.Next b x told = told
+never choice.Dead b x told = told
 
--- a block was drained, and was handed on
-pub drained_one : (Told : Broom → Drain → Broom → Type 0) (limit : ℕ) (before relieved drained after : Broom) (block copied : ℕ) (answer : Drain)
-    → answer ≡ drain.Drained block copied → Relieved before relieved → Told relieved answer drained → HandsNothing relieved drained
-    → HandedOn limit drained block after → DrainedAndHandedOn Told limit before block copied after
-drained_one Told limit before relieved drained after block copied answer is first told apart handed =
-    let did = subst (λ (a : Drain). Told relieved a drained) is told in
-    record { drained = drained; drain = record { relieved = relieved; first = first; drain = did; apart = apart }; handed = handed }
+-- a drain, whose block was handed on if it gave one
+module _ (c : Choice) (limit : ℕ) (before relieved drained after : Broom) (first : Relieved before relieved) (apart : HandsNothing relieved drained) where
+  kept : (answer : Drain) → DrainedBy c relieved answer drained → after ≡ drained → DrainedAfterPut (DrainedBy c) before answer after
+  kept answer told same =
+      subst (DrainedAfterPut (DrainedBy c) before answer) (sym same) (record { relieved = relieved; first = first; drain = told; apart = apart })
+
+  pub turned : (answer : Drain) → DrainedBy c relieved answer drained
+      → ((block copied : ℕ) → answer ≡ drain.Drained block copied → HandedOn limit drained block after)
+      → (((block copied : ℕ) → answer ≢ drain.Drained block copied) → after ≡ drained) → TurnTold (DrainedBy c) limit before answer after
+  turned (drain.Drained block copied) told handed none =
+      record { drained = drained; drain = record { relieved = relieved; first = first; drain = told; apart = apart }; handed = handed block copied refl }
+  turned drain.NothingToGain told handed none = kept drain.NothingToGain told (none (λ block copied is. cc))
+  turned drain.NoSpare told handed none = kept drain.NoSpare told (none (λ block copied is. cc))
+  turned drain.Lost told handed none = kept drain.Lost told (none (λ block copied is. cc))
+  turned drain.QueueFull told handed none = absurd (never c relieved drained told)
 
 -- the block that was fetched had no readers
 pub erased_one : (limit : ℕ) (before fetched after : Broom) (block : ℕ) (answer : Erase) → (answer ≡ erase.Pinned → ⊥) → Fetched before block fetched

@@ -8,6 +8,8 @@ use Rattle.broom.specs.declared.answer.Drain.{Drain}
 use Rattle.broom.specs.declared.answer.Drain.TheVariants as drain
 use Rattle.broom.specs.declared.answer.Erase.{Erase}
 use Rattle.broom.specs.declared.answer.Erase.TheVariants as erase
+use Rattle.broom.specs.declared.turns.Choice.{Choice}
+use Rattle.broom.specs.declared.turns.Choice.TheVariants as choice
 use Rattle.broom.specs.Dead.{DeadTold}
 use Rattle.broom.specs.Told.{DrainTold, NextTold, SurveyLeft, Unmarks}
 use Rattle.broom.specs.Erasing.{EraseTold}
@@ -98,17 +100,23 @@ TurnTold Told limit before drain.NoSpare after = DrainedAfterPut Told before dra
 TurnTold Told limit before drain.Lost after = DrainedAfterPut Told before drain.Lost after
 TurnTold Told limit before drain.QueueFull after = Stuck limit before after
 
--- what each result of a turn that drains means; its drain leaves its survey
+-- what each result of a drain means, by the choice of its block; one by a new survey leaves that survey
+abbrev pub DrainedBy : Choice → Broom → Drain → Broom → Type 0
+DrainedBy choice.Survey before answer after = DrainTold before answer after × SurveyLeft before answer after
+DrainedBy choice.Next before answer after = NextTold before answer after
+DrainedBy choice.Dead before answer after = DeadTold before answer after
+
+-- what each result of a turn that drains means
 abbrev pub DrainOneTold : ℕ → Broom → Drain → Broom → Type 0
-DrainOneTold limit before answer after = TurnTold (λ b given x. DrainTold b given x × SurveyLeft b given x) limit before answer after
+DrainOneTold = TurnTold (DrainedBy choice.Survey)
 
 -- what each result of a turn that drains by the last survey means
 abbrev pub DrainNextOneTold : ℕ → Broom → Drain → Broom → Type 0
-DrainNextOneTold limit before answer after = TurnTold NextTold limit before answer after
+DrainNextOneTold = TurnTold (DrainedBy choice.Next)
 
 -- what each result of a turn that drains a block without live pages means
 abbrev pub DrainDeadOneTold : ℕ → Broom → Drain → Broom → Type 0
-DrainDeadOneTold limit before answer after = TurnTold DeadTold limit before answer after
+DrainDeadOneTold = TurnTold (DrainedBy choice.Dead)
 
 -- A block was fetched. Then the broom made an erase of it with this result, after which the block isn't marked any more, and did nothing
 -- else

@@ -17,7 +17,7 @@ use geometry::{Phase, PinWord};
 /// more. It calls its gate before the claim. `NoSpare` means that the block has a live page, or isn't closed any more.
 pub fn drain_dead<G: Gate>(flash: &Flash, broom: &mut Broom, gate: &mut G) -> Drain
     requires { IsReady flash.now broom.old }
-    ensures told { DeadTold broom.old result broom.new }
+    ensures drained_dead { DeadTold broom.old result broom.new }
     ensures ready { IsReady flash.now broom.new }
     ensures queue { HandsNothing broom.old broom.new }
     ensures block { IsBelow (blocks_of (geometry_of flash.now)) result }
@@ -35,7 +35,7 @@ pub fn drain_dead<G: Gate>(flash: &Flash, broom: &mut Broom, gate: &mut G) -> Dr
 fn drain_inspected<G: Gate>(flash: &Flash, broom: &mut Broom, block: u32, gate: &mut G) -> Drain
     requires ready { IsReady flash.now broom.old }
     requires block { block < blocks_of (geometry_of flash.now) }
-    ensures told { InspectedTold broom.old block result broom.new }
+    ensures inspected { InspectedTold broom.old block result broom.new }
     ensures marks { Unmarks broom.old block broom.new }
     ensures ready { IsReady flash.now broom.new }
     ensures queue { HandsNothing broom.old broom.new }
@@ -62,7 +62,7 @@ fn inspect(flash: &Flash, seat: &mut BroomSeat, block: u32, state: PinWord) -> b
     requires seat { IsBroomOf flash.now seat.old }
     requires block { block < blocks_of (geometry_of flash.now) }
     requires loaded { HasLoadedClosed (broom_view seat.old) block state }
-    ensures told { InspectionEnds (broom_view seat.old) block state result (broom_view seat.new) }
+    ensures looked { InspectionEnds (broom_view seat.old) block state result (broom_view seat.new) }
     ensures seat { IsBroomOf flash.now seat.new }
     ensures blocks { own_blocks seat.new ≡ own_blocks seat.old }
 {

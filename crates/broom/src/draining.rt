@@ -17,7 +17,7 @@ use flash_table::{Flash, Gate, Point};
 /// before each exchange of a map word.
 pub fn drain<G: Gate>(flash: &Flash, broom: &mut Broom, gate: &mut G) -> Drain
     requires { IsReady flash.now broom.old }
-    ensures told { DrainTold broom.old result broom.new }
+    ensures drained { DrainTold broom.old result broom.new }
     ensures left { SurveyLeft broom.old result broom.new }
     ensures ready { IsReady flash.now broom.new }
     ensures queue { HandsNothing broom.old broom.new }
@@ -36,7 +36,7 @@ pub fn drain<G: Gate>(flash: &Flash, broom: &mut Broom, gate: &mut G) -> Drain
 /// the broom has neither drained nor loaded since, the one with the fewest live pages. It calls its gate where `drain` does.
 pub fn drain_next<G: Gate>(flash: &Flash, broom: &mut Broom, gate: &mut G) -> Drain
     requires { IsReady flash.now broom.old }
-    ensures told { NextTold broom.old result broom.new }
+    ensures drained_next { NextTold broom.old result broom.new }
     ensures ready { IsReady flash.now broom.new }
     ensures queue { HandsNothing broom.old broom.new }
     ensures block { IsBelow (blocks_of (geometry_of flash.now)) result }
@@ -55,7 +55,7 @@ fn drain_marked<G: Gate>(flash: &Flash, broom: &mut Broom, block: u32, gate: &mu
     requires ready { IsReady flash.now broom.old }
     requires spare { is_some (blocks_of_broom broom.old).spare ≡ true }
     requires marked { IsClosed (marks_of broom.old) block }
-    ensures told { MarkedTold broom.old block result broom.new }
+    ensures drained_marked { MarkedTold broom.old block result broom.new }
     ensures marks { Unmarks broom.old block broom.new }
     ensures ready { IsReady flash.now broom.new }
     ensures queue { HandsNothing broom.old broom.new }

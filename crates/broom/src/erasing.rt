@@ -20,7 +20,7 @@ use geometry::{MapWord, Phase};
 pub fn erase<G: Gate>(flash: &Flash, broom: &mut Broom, block: u32, gate: &mut G) -> Erase
     requires broom { IsReady flash.now broom.old }
     requires block { block < blocks_of (geometry_of flash.now) }
-    ensures told { EraseTold broom.old block result broom.new }
+    ensures erased { EraseTold broom.old block result broom.new }
     ensures marks { Unmarks broom.old block broom.new }
     ensures ready { IsReady flash.now broom.new }
     ensures queue { HandsNothing broom.old broom.new }
@@ -46,12 +46,12 @@ pub fn erase<G: Gate>(flash: &Flash, broom: &mut Broom, block: u32, gate: &mut G
     Erase::Erased { block, kept }
 }
 
-// Sets all words of the block that the broom erases to all ones, page after page with its stamp.
-fn wipe_all(flash: &Flash, seat: &mut BroomSeat)
+/// Sets all words of the block that the broom erases to all ones, page after page with its stamp.
+pub fn wipe_all(flash: &Flash, seat: &mut BroomSeat)
     requires seat { IsBroomOf flash.now seat.old }
     requires erasing { (o : ReclaimedBlock) × IsErasing flash.now seat.old o }
     requires none { (broom_view seat.old).wiped ≡ 0 }
-    ensures told { broom_view seat.new ≡ record (broom_view seat.old) { wiped = words_in_block (device flash.now) } }
+    ensures wiped { broom_view seat.new ≡ record (broom_view seat.old) { wiped = words_in_block (device flash.now) } }
     ensures seat { IsBroomOf flash.now seat.new }
     ensures blocks { own_blocks seat.new ≡ own_blocks seat.old }
 {
@@ -74,7 +74,7 @@ fn wipe_all(flash: &Flash, seat: &mut BroomSeat)
 fn renew(flash: &Flash, seat: &mut BroomSeat) -> bool
     requires seat { IsBroomOf flash.now seat.old }
     requires wiped { (o : ReclaimedBlock) × CanLiveOn flash.now seat.old o }
-    ensures told { (o : ReclaimedBlock) → (own_blocks seat.old).reclaiming ≡ reclaiming.Erasing o
+    ensures renewed { (o : ReclaimedBlock) → (own_blocks seat.old).reclaiming ≡ reclaiming.Erasing o
         → MatchBool result (Kept (broom_view seat.old) (own_blocks seat.old) o (broom_view seat.new) (own_blocks seat.new))
         (Freed (broom_view seat.old) (own_blocks seat.old) o (broom_view seat.new) (own_blocks seat.new)) }
     ensures seat { IsBroomOf flash.now seat.new }

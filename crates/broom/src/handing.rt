@@ -1,8 +1,10 @@
 //! How a broom passes its drained blocks on: by its place in the queue, or set aside if the queue is full.
-ghost use Rattle.std.specs.Prelude.{◌≡◌, ◌<◌, ◌≤◌, ◌^◌, None, IfSome, MatchBool, MatchOption};
+ghost use Rattle.std.specs.Prelude.{◌≡◌, ◌≢◌, ℕ, ◌<◌, ◌≤◌, ◌^◌, None, IfSome, MatchBool, MatchOption};
 ghost use Rattle.erase_queue.specs.Queue.{limit_of};
-ghost use Rattle.broom.specs.Handing.{IsQueued, HandedOn, Relieved, Stuck, Fetched, FoundNone, IsElse, aside_of};
+ghost use Rattle.broom.specs.Handing.{IsBelow, IsQueued, HandedOn, Relieved, Stuck, Fetched, FoundNone, IsElse, aside_of};
+ghost use Rattle.broom.specs.declared.answer.Drain.TheVariants as drain;
 
+use crate::answer::Drain;
 use crate::broom::Broom;
 use erase_queue::EraseQueue;
 use std::sync::Wait;
@@ -12,7 +14,7 @@ pub(crate) fn hand_on(queue: &EraseQueue, rt: &impl Wait, broom: &mut Broom, blo
     requires queued { IsQueued queue.now broom.old }
     requires aside { aside_of broom.old ≡ None }
     requires block { block < limit_of queue.now }
-    ensures told { HandedOn (limit_of queue.now) broom.old block broom.new }
+    ensures handed { HandedOn (limit_of queue.now) broom.old block broom.new }
     ensures rest { IsElse broom.old broom.new }
     ensures queued { IsQueued queue.now broom.new }
 {
@@ -21,10 +23,25 @@ pub(crate) fn hand_on(queue: &EraseQueue, rt: &impl Wait, broom: &mut Broom, blo
     }
 }
 
+// Hands on the block that a drain gave, if it gave one.
+pub(crate) fn pass_on(queue: &EraseQueue, rt: &impl Wait, broom: &mut Broom, answer: Drain)
+    requires queued { IsQueued queue.now broom.old }
+    requires aside { aside_of broom.old ≡ None }
+    requires block { IsBelow (limit_of queue.now) answer }
+    ensures drained { (block copied : ℕ) → answer ≡ drain.Drained block copied → HandedOn (limit_of queue.now) broom.old block broom.new }
+    ensures none { ((block copied : ℕ) → answer ≢ drain.Drained block copied) → broom.new ≡ broom.old }
+    ensures rest { IsElse broom.old broom.new }
+    ensures queued { IsQueued queue.now broom.new }
+{
+    if let Drain::Drained { block, .. } = answer {
+        hand_on(queue, rt, broom, block);
+    }
+}
+
 // Puts what is set aside into the queue. Returns false if the queue is full.
 pub(crate) fn relieve(queue: &EraseQueue, rt: &impl Wait, broom: &mut Broom) -> bool
     requires { IsQueued queue.now broom.old }
-    ensures told { MatchBool result (Relieved broom.old broom.new) (Stuck (limit_of queue.now) broom.old broom.new) }
+    ensures relieved { MatchBool result (Relieved broom.old broom.new) (Stuck (limit_of queue.now) broom.old broom.new) }
     ensures rest { IsElse broom.old broom.new }
     ensures queued { IsQueued queue.now broom.new }
 {
@@ -42,7 +59,7 @@ pub(crate) fn relieve(queue: &EraseQueue, rt: &impl Wait, broom: &mut Broom) -> 
 pub(crate) fn fetch(queue: &EraseQueue, rt: &impl Wait, broom: &mut Broom) -> Option<u32>
     requires queued { IsQueued queue.now broom.old }
     requires limit { limit_of queue.now ≤ 2 ^ 32 }
-    ensures told { MatchOption result (FoundNone broom.old broom.new) (λ block. Fetched broom.old block broom.new) }
+    ensures fetched { MatchOption result (FoundNone broom.old broom.new) (λ block. Fetched broom.old block broom.new) }
     ensures block { IfSome result (λ block. block < limit_of queue.now) }
     ensures rest { IsElse broom.old broom.new }
     ensures queued { IsQueued queue.now broom.new }

@@ -23,7 +23,7 @@ fn found(named: Option<MapWord>, page: MapWord) -> bool
 fn live_sector(flash: &Flash, seat: &mut BroomSeat, page: MapWord) -> Option<u32>
     requires next { (x : ReclaimedBlock) × Sweeps flash.now seat.old x × ((page ≡ victim_page x page.page) × (page.page < x.written)) }
     requires cleared { page.page ≡ (broom_view seat.old).cleared }
-    ensures told { FoundTold (broom_view seat.old) page result (broom_view seat.new) }
+    ensures found { FoundTold (broom_view seat.old) page result (broom_view seat.new) }
     ensures sweeps { (x : ReclaimedBlock) → Sweeps flash.now seat.old x → Sweeps flash.now seat.new x }
     ensures blocks { own_blocks seat.new ≡ own_blocks seat.old }
 {
@@ -42,7 +42,7 @@ fn live_sector(flash: &Flash, seat: &mut BroomSeat, page: MapWord) -> Option<u32
 
 // Makes the spare the destination, if there is none.
 fn open_destination(seat: &mut BroomSeat)
-    ensures told { Opened seat.old seat.new }
+    ensures opened { Opened seat.old seat.new }
     ensures broom { (f : Flash) → IsBroomOf f seat.old → IsBroomOf f seat.new }
 {
     if seat.blocks().destination.is_none() {
@@ -55,7 +55,7 @@ fn copy_page(flash: &Flash, seat: &mut BroomSeat, page: MapWord, sector: u32) ->
     requires sweeps { (x : ReclaimedBlock) × Sweeps flash.now seat.old x × ((page ≡ victim_page x page.page) × (page.page < x.written)) }
     requires destination { (o : OpenBlock) × ((own_blocks seat.old).destination ≡ Some o) }
     requires source { (value : List ℕ) × ((broom_view seat.old).source ≡ Some (record { page = page; stamp = sector; value = Some value })) }
-    ensures told { CopyTold (broom_view seat.old) (own_blocks seat.old).destination page sector result (broom_view seat.new) }
+    ensures copied { CopyTold (broom_view seat.old) (own_blocks seat.old).destination page sector result (broom_view seat.new) }
     ensures blocks { HasOneMore (own_blocks seat.old) (own_blocks seat.new) }
     ensures sweeps { (x : ReclaimedBlock) → Sweeps flash.now seat.old x → IsSweeping flash.now (pages_of (geometry_of flash.now) + 1) seat.new x }
 {
@@ -83,7 +83,7 @@ fn copy_page(flash: &Flash, seat: &mut BroomSeat, page: MapWord, sector: u32) ->
 fn close_if_full(flash: &Flash, seat: &mut BroomSeat)
     requires sweeps { (x : ReclaimedBlock) × IsSweeping flash.now (pages_of (geometry_of flash.now) + 1) seat.old x }
     requires destination { (o : OpenBlock) × ((own_blocks seat.old).destination ≡ Some o) }
-    ensures told { Tidied (pages_of (geometry_of flash.now)) (broom_view seat.old) (own_blocks seat.old) (broom_view seat.new) (own_blocks seat.new) }
+    ensures tidied { Tidied (pages_of (geometry_of flash.now)) (broom_view seat.old) (own_blocks seat.old) (broom_view seat.new) (own_blocks seat.new) }
     ensures sweeps { (x : ReclaimedBlock) → IsSweeping flash.now (pages_of (geometry_of flash.now) + 1) seat.old x → Sweeps flash.now seat.new x }
 {
     let Some(destination) = seat.blocks().destination else {
@@ -99,7 +99,7 @@ fn clear_page<G: Gate>(flash: &Flash, seat: &mut BroomSeat, page: MapWord, gate:
     requires next { (x : ReclaimedBlock) × Sweeps flash.now seat.old x × ((page ≡ victim_page x page.page) × (page.page < x.written)) }
     requires cleared { page.page ≡ (broom_view seat.old).cleared }
     requires room { 0 < room_left (pages_of (geometry_of flash.now)) (own_blocks seat.old) }
-    ensures told { ClearTold (pages_of (geometry_of flash.now)) seat.old page (count_if result) seat.new }
+    ensures page { ClearTold (pages_of (geometry_of flash.now)) seat.old page (count_if result) seat.new }
     ensures sweeps { (x : ReclaimedBlock) → Sweeps flash.now seat.old x → Sweeps flash.now seat.new x }
 {
     let Some(sector) = live_sector(flash, seat, page) else {
@@ -118,7 +118,7 @@ pub(crate) fn relocate<G: Gate>(flash: &Flash, seat: &mut BroomSeat, gate: &mut 
     requires sweeps { (x : ReclaimedBlock) × Sweeps flash.now seat.old x × (x.written ≤ room_left (pages_of (geometry_of flash.now)) (own_blocks seat.old)) }
     requires cleared { (broom_view seat.old).cleared ≡ 0 }
     requires source { (broom_view seat.old).source ≡ None }
-    ensures told { Relocated (broom_view seat.old) result (broom_view seat.new) }
+    ensures relocated { Relocated (broom_view seat.old) result (broom_view seat.new) }
     ensures emptied { (x : ReclaimedBlock) → Sweeps flash.now seat.old x → HasEmptied (pages_of (geometry_of flash.now)) x seat.old result seat.new }
     ensures cleared { (x : ReclaimedBlock) → Sweeps flash.now seat.old x → (broom_view seat.new).cleared ≡ x.written }
     ensures source { (broom_view seat.new).source ≡ None }

@@ -12,7 +12,7 @@ use flash_table::{BroomSeat, Flash};
 /// If a broom has no spare, makes the lowest free block its spare. Returns whether the broom has a spare now.
 pub fn restock(flash: &Flash, broom: &mut Broom) -> bool
     requires broom { IsReady flash.now broom.old }
-    ensures told { RestockTold broom.old result broom.new }
+    ensures restocked { RestockTold broom.old result broom.new }
     ensures ready { IsReady flash.now broom.new }
     ensures queue { HandsNothing broom.old broom.new }
     ensures survey { KeepsSurvey broom.old broom.new }
@@ -27,7 +27,7 @@ pub fn restock(flash: &Flash, broom: &mut Broom) -> bool
 fn take_lowest(flash: &Flash, seat: &mut BroomSeat) -> bool
     requires seat { IsBroomOf flash.now seat.old }
     requires none { (own_blocks seat.old).spare ≡ None }
-    ensures told { SearchTold (broom_view seat.old) (own_blocks seat.old) result (broom_view seat.new) (own_blocks seat.new) }
+    ensures searched { SearchTold (broom_view seat.old) (own_blocks seat.old) result (broom_view seat.new) (own_blocks seat.new) }
     ensures seat { IsBroomOf flash.now seat.new }
 {
     for block in 0..flash.geometry().blocks() {

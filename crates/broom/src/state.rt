@@ -16,7 +16,7 @@ use geometry::PinWord;
 pub fn load_state(flash: &Flash, broom: &mut Broom, block: u32) -> PinWord
     requires broom { IsReady flash.now broom.old }
     requires block { block < blocks_of (geometry_of flash.now) }
-    ensures told { StateLoaded broom.old block result broom.new }
+    ensures loaded { StateLoaded broom.old block result broom.new }
     ensures range { IsInRange (device flash.now) result }
     ensures ready { IsReady flash.now broom.new }
     ensures queue { HandsNothing broom.old broom.new }
@@ -32,7 +32,7 @@ pub fn load_state(flash: &Flash, broom: &mut Broom, block: u32) -> PinWord
 /// Loads the state of each block, in order, and counts the blocks by their phases. The broom keeps its last survey, as by a single load.
 pub fn count_blocks(flash: &Flash, broom: &mut Broom) -> BlockCounts
     requires { IsReady flash.now broom.old }
-    ensures told { (states : List PinWord) × AllLoaded (device flash.now) broom.old states broom.new × (result ≡ counts_in states) }
+    ensures all_loaded { (states : List PinWord) × AllLoaded (device flash.now) broom.old states broom.new × (result ≡ counts_in states) }
     ensures ready { IsReady flash.now broom.new }
     ensures queue { HandsNothing broom.old broom.new }
 {

@@ -34,7 +34,7 @@ fn load_states(flash: &Flash, seat: &mut BroomSeat, states: &mut [PinWord], clos
     requires seat { IsBroomOf flash.now seat.old }
     requires states { length states.old ≡ blocks_of (geometry_of flash.now) }
     requires closed { length closed.old ≡ blocks_of (geometry_of flash.now) }
-    ensures told { StatesLoaded (device flash.now) (broom_view seat.old) states.new closed.new (broom_view seat.new) }
+    ensures loaded { StatesLoaded (device flash.now) (broom_view seat.old) states.new closed.new (broom_view seat.new) }
     ensures seat { IsBroomOf flash.now seat.new }
     ensures blocks { own_blocks seat.new ≡ own_blocks seat.old }
 {
@@ -52,7 +52,7 @@ fn count_pages(flash: &Flash, seat: &mut BroomSeat, states: &[PinWord], counts: 
     requires callers { AreOfHosts (broom_view seat.old).numbers (broom_view seat.old).seen }
     requires states { length states.now ≡ blocks_of (geometry_of flash.now) }
     requires counts { length counts.old ≡ blocks_of (geometry_of flash.now) }
-    ensures told { PagesCounted (broom_view seat.old) states.now counts.new (broom_view seat.new) }
+    ensures counted { PagesCounted (broom_view seat.old) states.now counts.new (broom_view seat.new) }
     ensures seat { IsBroomOf flash.now seat.new }
     ensures blocks { own_blocks seat.new ≡ own_blocks seat.old }
 {
@@ -71,7 +71,7 @@ fn count_pages(flash: &Flash, seat: &mut BroomSeat, states: &[PinWord], counts: 
 // Surveys the device, and chooses the block to be drained, if there is something to gain.
 pub(crate) fn choose(flash: &Flash, broom: &mut Broom) -> Option<u32>
     requires { IsReady flash.now broom.old }
-    ensures told { Chooses (view_of_broom broom.old) result broom.new }
+    ensures chosen { Chooses (view_of_broom broom.old) result broom.new }
     ensures marked { IfSome result (λ block. IsClosed (marks_of broom.new) block) }
     ensures ready { IsReady flash.now broom.new }
     ensures blocks { blocks_of_broom broom.new ≡ blocks_of_broom broom.old }
@@ -87,7 +87,7 @@ pub(crate) fn choose(flash: &Flash, broom: &mut Broom) -> Option<u32>
 // Chooses the block to drain next by the last survey, if there is something to gain. It ranks the blocks if the survey is new.
 pub(crate) fn choose_next(flash: &Flash, broom: &mut Broom) -> Option<u32>
     requires { IsReady flash.now broom.old }
-    ensures told { MatchOption result (GainsNothingNext broom.old) (IsNext broom.old) }
+    ensures next { MatchOption result (GainsNothingNext broom.old) (IsNext broom.old) }
     ensures marked { IfSome result (IsClosed (marks_of broom.old)) }
     ensures rest { HasOnlyRanked broom.old broom.new }
     ensures ready { IsReady flash.now broom.new }
@@ -100,7 +100,7 @@ pub(crate) fn choose_next(flash: &Flash, broom: &mut Broom) -> Option<u32>
 fn gains(flash: &Flash, broom: &Broom, victim: Option<usize>) -> Option<u32>
     requires ready { IsReady flash.now broom.now }
     requires next { victim ≡ next_of broom.now }
-    ensures told { MatchOption result (GainsNothingNext broom.now) (IsNext broom.now) }
+    ensures next { MatchOption result (GainsNothingNext broom.now) (IsNext broom.now) }
     ensures marked { IfSome result (IsClosed (marks_of broom.now)) }
 {
     let Some(victim) = victim else {

@@ -4,21 +4,31 @@ ghost use Rattle.geometry.specs.Geometry.{blocks_of};
 ghost use Rattle.erase_queue.specs.Queue.{limit_of};
 ghost use Rattle.flash_table.specs.Flash.{geometry_of};
 ghost use Rattle.broom.specs.Ready.{IsReady};
-ghost use Rattle.broom.specs.Handing.{IsQueued, DrainOneTold, DrainNextOneTold, DrainDeadOneTold, EraseOneTold};
+ghost use Rattle.broom.specs.Handing.{HandsNothing, IsBelow, IsQueued, DrainedBy, TurnTold, DrainOneTold, EraseOneTold};
 
 use crate::answer::{Drain, Erase};
 use crate::broom::Broom;
 use crate::dead::drain_dead;
 use crate::draining::{drain, drain_next};
 use crate::erasing::erase;
-use crate::handing::{fetch, hand_on, relieve};
+use crate::handing::{fetch, hand_on, pass_on, relieve};
 use erase_queue::EraseQueue;
 use flash_table::{Flash, Gate};
 use std::sync::Wait;
 
+/// Which block a turn drains.
+#[derive(Clone, Copy)]
+pub enum Choice {
+    /// The one that `drain` chooses.
+    Survey,
+    /// The one that `drain_next` chooses.
+    Next,
+    /// The one that `drain_dead` chooses.
+    Dead,
+}
+
 /// Drains a block and puts it into the queue, or sets it aside if the queue is full. A block that is already set aside is put first; if there is no
 /// room for it, nothing is drained.
-#[tactic(auto, using(crate::proofs::Keeping::still_at, crate::proofs::Keeping::still_queued))]
 pub fn drain_one<G: Gate>(
     flash: &Flash,
     queue: &EraseQueue,
@@ -29,73 +39,51 @@ pub fn drain_one<G: Gate>(
     requires limit { limit_of queue.now ≡ blocks_of (geometry_of flash.now) }
     requires ready { IsReady flash.now broom.old }
     requires queued { IsQueued queue.now broom.old }
-    ensures told { DrainOneTold (limit_of queue.now) broom.old result broom.new }
+    ensures drained_one { DrainOneTold (limit_of queue.now) broom.old result broom.new }
     ensures ready { IsReady flash.now broom.new }
     ensures queued { IsQueued queue.now broom.new }
 {
-    if !relieve(queue, rt, broom) {
-        return Drain::QueueFull;
-    }
-    let answer = drain(flash, broom, gate);
-    let Drain::Drained { block, copied } = answer else {
-        return answer;
-    };
-    hand_on(queue, rt, broom, block);
-    Drain::Drained { block, copied }
+    drain_chosen(flash, queue, rt, broom, Choice::Survey, gate)
 }
 
-/// Drains the next block by the survey that the broom made last, and puts it into the queue or sets it aside as `drain_one` does.
+/// A turn as `drain_one` makes it, with this choice of the block.
 #[tactic(auto, using(crate::proofs::Keeping::still_at, crate::proofs::Keeping::still_queued))]
-pub fn drain_next_one<G: Gate>(
+pub fn drain_chosen<G: Gate>(
     flash: &Flash,
     queue: &EraseQueue,
     rt: &impl Wait,
     broom: &mut Broom,
+    choice: Choice,
     gate: &mut G,
 ) -> Drain
     requires limit { limit_of queue.now ≡ blocks_of (geometry_of flash.now) }
     requires ready { IsReady flash.now broom.old }
     requires queued { IsQueued queue.now broom.old }
-    ensures told { DrainNextOneTold (limit_of queue.now) broom.old result broom.new }
+    ensures drained_one { TurnTold (DrainedBy choice) (limit_of queue.now) broom.old result broom.new }
     ensures ready { IsReady flash.now broom.new }
     ensures queued { IsQueued queue.now broom.new }
 {
     if !relieve(queue, rt, broom) {
         return Drain::QueueFull;
     }
-    let answer = drain_next(flash, broom, gate);
-    let Drain::Drained { block, copied } = answer else {
-        return answer;
-    };
-    hand_on(queue, rt, broom, block);
-    Drain::Drained { block, copied }
+    let answer = drain_by(flash, broom, choice, gate);
+    pass_on(queue, rt, broom, answer);
+    answer
 }
 
-/// Drains a block without live pages as `drain_dead` does, and puts it into the queue or sets it aside as `drain_one` does.
-#[tactic(auto, using(crate::proofs::Keeping::still_at, crate::proofs::Keeping::still_queued))]
-pub fn drain_dead_one<G: Gate>(
-    flash: &Flash,
-    queue: &EraseQueue,
-    rt: &impl Wait,
-    broom: &mut Broom,
-    gate: &mut G,
-) -> Drain
-    requires limit { limit_of queue.now ≡ blocks_of (geometry_of flash.now) }
-    requires ready { IsReady flash.now broom.old }
-    requires queued { IsQueued queue.now broom.old }
-    ensures told { DrainDeadOneTold (limit_of queue.now) broom.old result broom.new }
+// Drains the block of this choice.
+fn drain_by<G: Gate>(flash: &Flash, broom: &mut Broom, choice: Choice, gate: &mut G) -> Drain
+    requires { IsReady flash.now broom.old }
+    ensures drained_by { DrainedBy choice broom.old result broom.new }
     ensures ready { IsReady flash.now broom.new }
-    ensures queued { IsQueued queue.now broom.new }
+    ensures queue { HandsNothing broom.old broom.new }
+    ensures block { IsBelow (blocks_of (geometry_of flash.now)) result }
 {
-    if !relieve(queue, rt, broom) {
-        return Drain::QueueFull;
+    match choice {
+        Choice::Survey => drain(flash, broom, gate),
+        Choice::Next => drain_next(flash, broom, gate),
+        Choice::Dead => drain_dead(flash, broom, gate),
     }
-    let dead = drain_dead(flash, broom, gate);
-    let Drain::Drained { block, copied } = dead else {
-        return dead;
-    };
-    hand_on(queue, rt, broom, block);
-    Drain::Drained { block, copied }
 }
 
 /// Erases the block that is set aside or, if there is none, the first one of the queue. A block that has readers is put back at the end of the
@@ -111,7 +99,7 @@ pub fn erase_one<G: Gate>(
     requires limit { limit_of queue.now ≡ blocks_of (geometry_of flash.now) }
     requires ready { IsReady flash.now broom.old }
     requires queued { IsQueued queue.now broom.old }
-    ensures told { EraseOneTold (limit_of queue.now) broom.old result broom.new }
+    ensures erased_one { EraseOneTold (limit_of queue.now) broom.old result broom.new }
     ensures ready { IsReady flash.now broom.new }
     ensures queued { IsQueued queue.now broom.new }
 {

@@ -1,16 +1,10 @@
 -- The blocks of the storage after a page is added or a block's state changes.
-use Rattle.std.proofs.Common.{◌≡◌, ◌≢◌, ℕ, ◌+◌, ◌*◌, ◌<◌, ◌≤◌, List, [], ◌∷◌, ◌++◌, length, get_or, map, set}
-use Rattle.std.proofs.Common.{sym, ap, ◌∙◌, arith, get_or-set_same, get_or-set_other}
+use Rattle.std.proofs.Common.{◌≡◌, ◌≢◌, ℕ, ◌+◌, ◌*◌, ◌<◌, ◌≤◌, List, [], ◌∷◌, ◌++◌, length, get_or, map, set, sym, ap, ◌∙◌, arith, get_or-set_same}
+use Rattle.std.proofs.{Common.get_or-set_other, lemmas.List.same_lists, lemmas.Nat.same_from_place, lemmas.Nat.mul-add-lt, Math.Nat.mul-le-mul_right}
 use Rattle.std.specs.List.{range_with_len}
-use Rattle.std.proofs.lemmas.List.{same_lists}
 use Rattle.std.proofs.lemmas.List.FromFn.{length-map-range_with_len, get_or-map-range_with_len, map-range_with_len_more}
-use Rattle.std.proofs.lemmas.Nat.{same_from_place, mul-add-lt}
-use Rattle.std.proofs.Math.Nat.{mul-le-mul_right}
-use Rattle.die.specs.declared.block_state.BlockState.{BlockState}
-use Rattle.die.specs.Pages.{Page, Block, programmed, page_at, erased_page}
-use Rattle.die.specs.Slots.{slot, PutsSlot}
-use Rattle.die.specs.Storage.{stored, block_in}
-use Rattle.die.specs.Sound.{unused}
+use Rattle.die.specs.{declared.block_state.BlockState.BlockState, Pages.Page, Pages.Block, Pages.programmed, Pages.page_at, Pages.erased_page, Sound.unused}
+use Rattle.die.specs.{Slots.slot, Slots.PutsSlot, Storage.stored, Storage.block_in}
 
 -- two lists made from functions that agree below their length are one
 pub map_range_same : {X : Type 0} (f g : ℕ → X) (n : ℕ) → ((k : ℕ) → k < n → f k ≡ g k) → map f (range_with_len 0 n) ≡ map g (range_with_len 0 n)
@@ -23,8 +17,7 @@ map_range_same f g n same =
 pub length-pages : (n pages : ℕ) (bytes stamps : List ℕ) (states : List BlockState) (b : ℕ)
     → length (block_in n pages bytes stamps states b).pages ≡ (get_or states b unused).next
 unfolding block_in
-length-pages n pages bytes stamps states b =
-    length-map-range_with_len (λ p. stored n bytes stamps (b * pages + p)) 0 (get_or states b unused).next
+length-pages n pages bytes stamps states b = length-map-range_with_len (λ p. stored n bytes stamps (b * pages + p)) 0 (get_or states b unused).next
 
 -- a programmed page of a block is what stands at its place
 pub page_at-stored : (n pages : ℕ) (bytes stamps : List ℕ) (states : List BlockState) (b p : ℕ) → p < (get_or states b unused).next

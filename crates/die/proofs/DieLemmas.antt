@@ -1,19 +1,11 @@
 -- What a die keeps true, and its blocks after a command, in the terms of its fields.
-use Rattle.std.proofs.Common.{◌≡◌, ◌≢◌, inl, inr, map, eqb, ℕ, ◌+◌, ◌*◌, ◌<◌, ◌≤◌, List, length, get_or, set, false, sym}
-use Rattle.std.proofs.Common.{ap, ◌∙◌, refl, arith, subst, get_or-set_same, get_or-set_other}
-use Rattle.std.proofs.lemmas.List.{get_or_read}
+use Rattle.std.proofs.Common.{◌≡◌, ◌≢◌, inl, inr, map, eqb, ℕ, ◌+◌, ◌*◌, ◌^◌, ◌<◌, ◌≤◌, List, length, get_or, set, false, sym, ap, ◌∙◌, refl, arith, subst}
+use Rattle.std.proofs.{Common.get_or-set_same, Common.get_or-set_other, lemmas.List.get_or_read, lemmas.Bool.cases_eq, lemmas.Bool.eqb-false}
 use Rattle.std.specs.List.{range_with_len}
-use Rattle.std.proofs.lemmas.Bool.{cases_eq, eqb-false}
-use Rattle.geometry.specs.declared.geometry.Geometry.{Geometry}
-use Rattle.geometry.specs.declared.page_addr.PageAddr.{PageAddr}
+use Rattle.geometry.specs.declared.{geometry.Geometry.Geometry, page_addr.PageAddr.PageAddr}
 use Rattle.geometry.specs.Geometry.{blocks_of, pages_of, page_bytes_of, endurance_of}
-use Rattle.die.specs.declared.block_state.BlockState.{BlockState}
-use Rattle.die.specs.declared.die.Die.{Die}
-use Rattle.die.specs.Die.{block_of, ChangesBlock, IsUsable, IsNext}
-use Rattle.die.specs.Pages.{Page, Block, programmed, erased, page_at}
-use Rattle.die.specs.Storage.{stored, block_in}
-use Rattle.die.specs.Slots.{PutsSlot}
-use Rattle.die.specs.Sound.{IsSound, unused}
+use Rattle.die.specs.{declared.block_state.BlockState.BlockState, declared.die.Die.Die, Die.block_of, Die.ChangesBlock, Die.IsUsable, Die.IsNext, Sound.IsSound}
+use Rattle.die.specs.{Pages.Page, Pages.Block, Pages.programmed, Pages.erased, Pages.page_at, Storage.stored, Storage.block_in, Slots.PutsSlot, Sound.unused}
 use Rattle.die.proofs.BlockLemmas.{length-pages, page_at-stored, Adds, others-added, block-added, block_in-same}
 
 -- the state that the die keeps of a block
@@ -70,6 +62,10 @@ counted s = record s { next = s.next + 1 }
 -- the next page of a usable block is the one that its state counts
 pub next-state : (d : Die) (at : PageAddr) → IsNext d at → at.page ≡ (state_of d at.block).next
 next-state d at is = is.next ∙ length-block d at.block
+
+-- a page is counted without overflow
+pub next_small : (d : Die) (at : PageAddr) {s : BlockState} → IsNext d at → s ≡ state_of d at.block → s.next + 1 < 2 ^ 32
+next_small d at is e = omega (arith, ap (λ (t : BlockState). t.next) e, next-state d at is, is.within, d.geometry.in_limits.pages_high)
 
 -- one more page may be counted
 pub sound-counted : (d : Die) (at : PageAddr) (s : BlockState) → IsNext d at → s ≡ state_of d at.block

@@ -1,12 +1,8 @@
 -- Writing one place of the storage: what it holds then, and that the other places keep what they hold.
-use Rattle.std.proofs.Common.{◌≡◌, ℕ, ◌+◌, ◌-◌, ◌*◌, ◌<◌, ◌≤◌, inl, inr, List, ◌++◌, length, take, drop, get_or, sym, ap, ◌∙◌}
-use Rattle.std.proofs.Common.{arith, length-append, length-take, length-drop, get_or-take, get_or-drop}
-use Rattle.std.proofs.lemmas.List.{same_lists, take_at, drop_at, append_assoc, length-take-le, get_or-append_right}
-use Rattle.std.proofs.lemmas.List.{take_all, take-append-le, drop-append-le, drop-drop}
-use Rattle.std.proofs.Math.Seq.{paste}
-use Rattle.std.proofs.lemmas.List.{get_or_append_left}
-use Rattle.std.proofs.Math.Nat.{mul-le-mul_right}
-use Rattle.std.proofs.lemmas.Bool.{cases_lt, cases_order}
+use Rattle.std.proofs.Common.{◌≡◌, ℕ, ◌+◌, ◌-◌, ◌*◌, ◌<◌, ◌≤◌, inl, inr, List, ◌++◌, length, take, drop, get_or, sym, ap, ◌∙◌, arith, length-append}
+use Rattle.std.proofs.{Common.length-take, Common.length-drop, Common.get_or-take, Common.get_or-drop, Math.Seq.paste, Math.Nat.mul-le-mul_right}
+use Rattle.std.proofs.lemmas.List.{same_lists, take_at, drop_at, append_assoc, length-take-le, get_or-append_right, take_all, take-append-le, drop-append-le}
+use Rattle.std.proofs.lemmas.{List.drop-drop, List.get_or_append_left, Bool.cases_lt, Bool.cases_order}
 use Rattle.die.specs.Slots.{slot, PutsSlot}
 
 -- a list whose part from `at` on, n long, is replaced by the front of s

@@ -1,11 +1,8 @@
 -- What a die shows: its geometry and its blocks, and how a command changes one of them.
 use Rattle.std.specs.Prelude.{◌≡◌, ℕ, ◌+◌, ◌%◌, ◌^◌, ◌≢◌, ◌<◌, false, length}
-use Rattle.geometry.specs.declared.geometry.Geometry.{Geometry}
-use Rattle.geometry.specs.declared.page_addr.PageAddr.{PageAddr}
+use Rattle.geometry.specs.declared.{geometry.Geometry.Geometry, page_addr.PageAddr.PageAddr}
 use Rattle.geometry.specs.Geometry.{blocks_of, pages_of, page_bytes_of}
-use Rattle.die.specs.declared.die.Die.{Die}
-use Rattle.die.specs.Pages.{Block, new_block}
-use Rattle.die.specs.Storage.{block_in}
+use Rattle.die.specs.{declared.die.Die.Die, Pages.Block, Pages.new_block, Storage.block_in}
 
 -- the numbers of the die
 abbrev pub geometry_of : Die → Geometry

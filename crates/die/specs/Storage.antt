@@ -1,10 +1,6 @@
 -- How the die's blocks are stored.
-use Rattle.std.specs.Prelude.{ℕ, ◌+◌, ◌*◌, List, map, slice_index, slice_index_or}
-use Rattle.std.specs.List.{range_with_len}
-use Rattle.die.specs.declared.block_state.BlockState.{BlockState}
-use Rattle.die.specs.Pages.{Page, Block}
-use Rattle.die.specs.Slots.{slot}
-use Rattle.die.specs.Sound.{unused}
+use Rattle.std.specs.{Prelude.ℕ, Prelude.◌+◌, Prelude.◌*◌, Prelude.List, Prelude.map, Prelude.slice_index, Prelude.slice_index_or, List.range_with_len}
+use Rattle.die.specs.{declared.block_state.BlockState.BlockState, Pages.Page, Pages.Block, Slots.slot, Sound.unused}
 
 -- the page at an index: its bytes in the list of all bytes, and its stamp in the list of all stamps
 unfoldable pub stored : ℕ → List ℕ → List ℕ → ℕ → Page

@@ -1,4 +1,4 @@
-ghost use Rattle.std.specs.Prelude.{◌≡◌, ℕ, ◌+◌, ◌*◌, ◌<◌, ◌≤◌, ◌↔◌, IsTrue, IfOk, length, vec_len, slice_index_or, if◌then◌else◌, ◌==◌};
+ghost use Rattle.std.specs.Prelude.{◌≡◌, ℕ, ◌+◌, ◌*◌, ◌<◌, ◌≤◌, IfOk, length, slice_index_or, if◌then◌else◌, ◌==◌};
 ghost use Rattle.geometry.specs.Geometry.{blocks_of, pages_of, page_bytes_of, endurance_of, lun_of};
 ghost use Rattle.die.specs.Sound.{IsSound, unused};
 

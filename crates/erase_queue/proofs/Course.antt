@@ -1,18 +1,15 @@
 -- Each step of a pass keeps the rule of the queue.
-use Rattle.std.proofs.Common.{◌≡◌, ◌≢◌, ℕ, zero, suc, ◌+◌, ◌<◌, ◌≤◌, ⊎_elim, Bool, true, false, List, [], ◌∷◌, ◌++◌, Some}
-use Rattle.std.proofs.Common.{length, set, slice_get, sym, refl, ap, ◌∙◌, subst, append_assoc, arith}
+use Rattle.std.proofs.Common.{◌≡◌, ◌≢◌, ℕ, zero, suc, ◌+◌, ◌<◌, ◌≤◌, ⊎_elim, Bool, true, false, List, [], ◌∷◌, ◌++◌, Some, length, set, slice_get, sym, refl}
+use Rattle.std.proofs.Common.{ap, ◌∙◌, subst, append_assoc, arith}
 use mathlib.Core.Option.{some, some-injective, some-ne-none}
 use lib.ListN.{get_elem?}
-use Rattle.crossbeam_queue.specs.Fifo.{Pushes, Pops, Forks, Learns}
-use Rattle.crossbeam_queue.proofs.Lists.{at_set, at_snoc}
-use Rattle.geometry.specs.History.{Begins}
-use Rattle.geometry.proofs.Histories.{Begins-refl, Begins-push, Begins-trans}
-use Rattle.erase_queue.specs.declared.sight.Role.TheVariants.{Counter, Dealer, User}
-use Rattle.erase_queue.specs.declared.sight.Sight.{Sight}
-use Rattle.erase_queue.specs.Moves.{DidPut, DidTake, Stand}
+use Rattle.crossbeam_queue.{specs.Fifo.Pushes, specs.Fifo.Pops, specs.Fifo.Forks, specs.Fifo.Learns, proofs.Lists.at_set, proofs.Lists.at_snoc}
+use Rattle.geometry.{specs.History.Begins, proofs.Histories.Begins-refl, proofs.Histories.Begins-push, proofs.Histories.Begins-trans}
+use Rattle.erase_queue.specs.declared.sight.{Role.Role, Sight.Sight}
+use Rattle.erase_queue.specs.declared.sight.Role.TheVariants.{Counter, Dealer, Gone, User}
+use Rattle.erase_queue.{specs.Moves.DidPut, specs.Moves.DidTake, specs.Moves.Stand, proofs.Places.owned_snoc, proofs.Places.owned_grow}
 use Rattle.erase_queue.specs.Rule.{Course, LawfulSight, Lawful, Ruled, counter, counted, dealer, user_of, gone}
-use Rattle.erase_queue.proofs.Places.{none_some, get_last, get_behind, length_last, replaced, replaced_else, no_shorter}
-use Rattle.erase_queue.proofs.Places.{own_stay, own_grow, owned_set, owned_snoc, owned_grow}
+use Rattle.erase_queue.proofs.Places.{none_some, get_last, get_behind, length_last, replaced, replaced_else, no_shorter, own_stay, own_grow, owned_set}
 
 -- One course goes on to another: numbers were put or taken, and each place is whose it was
 record GoesOn (g g' : Course) : Type 0 where
@@ -38,6 +35,20 @@ sight_stays g g' pass v on old =
       own_puts = own_stay (length g.puts) (length g'.puts) g.putter g'.putter pass v.own_puts short on.putter old.own_puts;
       own_takes = own_stay g.taken g'.taken g.taker g'.taker pass v.own_takes le on.taker old.own_takes;
     }
+
+-- a pass that has seen nothing and owns nothing is lawful by its role
+unused : (g : Course) (pass limit : ℕ) (role : Role) → (role ≡ Counter → (pass ≡ 0) × (g.counting ≡ true) × (limit ≡ g.limit))
+    → (role ≡ Dealer → (g.counting ≡ false) × (limit ≡ g.limit)) → (role ≡ User → (g.counting ≡ false) × (limit ≡ g.limit))
+    → LawfulSight g pass (record { role = role; limit = limit; puts = []; takes = 0; own_puts = []; own_takes = [] })
+unused g pass limit role counts deals uses = record {
+  counts = counts;
+  deals = deals;
+  uses = uses;
+  puts = (g.puts, refl);
+  takes = omega arith;
+  own_puts = λ j k e. absurd (none_some k e);
+  own_takes = λ j k e. absurd (none_some k e);
+}
 
 -- what holds of the pass that was changed and of the others holds of all
 each_set : (F : ℕ → Sight → Type 0) (views : List Sight) (pass : ℕ) (w : Sight) → F pass w
@@ -188,15 +199,7 @@ abbrev first_course : Course
 first_course = record { counting = true; limit = 0; puts = []; taken = 0; putter = λ k. (0, 0); taker = λ k. (0, 0) }
 
 first_sight : LawfulSight first_course 0 (counter 0)
-first_sight = record {
-  counts = λ is. (refl, refl, refl);
-  deals = λ is. absurd (cc);
-  uses = λ is. absurd (cc);
-  puts = ([], refl);
-  takes = omega arith;
-  own_puts = λ j k e. absurd (none_some k e);
-  own_takes = λ j k e. absurd (none_some k e);
-}
+first_sight = unused first_course 0 0 Counter (λ is. (refl, refl, refl)) (λ is. absurd (cc)) (λ is. absurd (cc))
 
 pub begins : Ruled [] (counter 0 ∷ [])
 begins = (
@@ -212,27 +215,11 @@ begins = (
 
 -- a pass that makes no more steps is lawful at any place
 gone_sight : (g : Course) (pass : ℕ) → LawfulSight g pass gone
-gone_sight g pass = record {
-  counts = λ is. absurd (cc);
-  deals = λ is. absurd (cc);
-  uses = λ is. absurd (cc);
-  puts = (g.puts, refl);
-  takes = omega arith;
-  own_puts = λ j k e. absurd (none_some k e);
-  own_takes = λ j k e. absurd (none_some k e);
-}
+gone_sight g pass = unused g pass 0 Gone (λ is. absurd (cc)) (λ is. absurd (cc)) (λ is. absurd (cc))
 
 -- and one that was just dealt
 user_sight : (g : Course) (v : Sight) → (g.counting ≡ false) × (v.limit ≡ g.limit) → (pass : ℕ) → LawfulSight g pass (user_of v)
-user_sight g v of pass = record {
-  counts = λ is. absurd (cc);
-  deals = λ is. absurd (cc);
-  uses = λ is. of;
-  puts = (g.puts, refl);
-  takes = omega arith;
-  own_puts = λ j k e. absurd (none_some k e);
-  own_takes = λ j k e. absurd (none_some k e);
-}
+user_sight g v of pass = unused g pass v.limit User (λ is. absurd (cc)) (λ is. absurd (cc)) (λ is. of)
 
 -- where the limit is still being fixed, every pass but the first is gone, and so is lawful whatever the limit becomes
 others_wait : (g : Course) (counting : Bool) (limit pass j : ℕ) (u : Sight) → pass ≡ 0 → g.counting ≡ true → j ≢ pass → LawfulSight g j u

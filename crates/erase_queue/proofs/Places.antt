@@ -1,14 +1,12 @@
 -- Lists that grow at the end, a function with one value replaced, and the passes of a list with one of them changed.
-use Rattle.std.proofs.Common.{◌≡◌, ◌≢◌, ℕ, zero, suc, ◌+◌, ◌<◌, ◌≤◌, ◌⊎◌, inl, inr, ⊎_elim, ◌==◌, eq-eqb, ne_eqb, if◌then◌else◌, List, []}
-use Rattle.std.proofs.Common.{◌∷◌, ◌++◌, None, Some, length, set, slice_get, sym, refl, ap, ◌∙◌, subst, arith}
-use mathlib.Core.Logic.{dite}
-use mathlib.Core.Option.{some, some-injective, some-ne-none}
+use Rattle.std.proofs.Common.{◌≡◌, ◌≢◌, ℕ, zero, suc, ◌+◌, ◌<◌, ◌≤◌, ◌⊎◌, inl, inr, ⊎_elim, ◌==◌, eq-eqb, ne_eqb, if◌then◌else◌, List, [], ◌∷◌, ◌++◌, None}
+use Rattle.std.proofs.Common.{Some, length, set, slice_get, sym, refl, ap, ◌∙◌, subst, arith}
+use mathlib.Core.{Logic.dite, Option.some, Option.some-injective, Option.some-ne-none}
 use native.Mathlib.Decide.{ℕ_discrete}
 use lib.ListN.{get_elem?}
 use Rattle.crossbeam_queue.proofs.Lists.{at_longer, set_else}
 use Rattle.geometry.specs.History.{Begins}
-use Rattle.erase_queue.specs.declared.sight.Sight.{Sight}
-use Rattle.erase_queue.specs.Rule.{AreOwn, AreOwned}
+use Rattle.erase_queue.specs.{declared.sight.Sight.Sight, Rule.AreOwn, Rule.AreOwned}
 
 pub some_same : {X : Type 0} (x y : X) → Some x ≡ Some y → x ≡ y
 some_same x y e = cc

@@ -1,12 +1,8 @@
 -- What contracts name of a queue and of its passes.
 use Rattle.std.specs.Prelude.{◌≡◌, ℕ, ◌+◌, ◌%◌, ◌^◌}
 use Rattle.crossbeam_queue.specs.Passes as port
-use Rattle.erase_queue.specs.declared.queue.EraseQueue.{EraseQueue}
-use Rattle.erase_queue.specs.declared.pass.QueuePass.{QueuePass}
-use Rattle.erase_queue.specs.declared.sight.Role.TheVariants.{User}
-use Rattle.erase_queue.specs.declared.sight.Sight.{Sight}
-use Rattle.erase_queue.specs.Moves.{DidPut, DidTake, StoodSome}
-use Rattle.erase_queue.specs.Rule.{counter, user_of}
+use Rattle.erase_queue.specs.declared.{queue.EraseQueue.EraseQueue, pass.QueuePass.QueuePass, sight.Role.TheVariants.User, sight.Sight.Sight}
+use Rattle.erase_queue.specs.{Moves.DidPut, Moves.DidTake, Moves.StoodSome, Rule.counter, Rule.user_of}
 
 -- the bound of the queue's numbers, and how many of them it has room for
 abbrev pub limit_of : EraseQueue → ℕ

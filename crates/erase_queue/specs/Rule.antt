@@ -4,8 +4,7 @@ use mathlib.Core.Option.{some}
 use lib.ListN.{get_elem?}
 use Rattle.geometry.specs.History.{Begins}
 use Rattle.erase_queue.specs.declared.sight.Role.TheVariants.{Counter, Dealer, User, Gone}
-use Rattle.erase_queue.specs.declared.sight.Sight.{Sight}
-use Rattle.erase_queue.specs.Moves.{AreBelow}
+use Rattle.erase_queue.specs.{declared.sight.Sight.Sight, Moves.AreBelow}
 
 -- All that the queue did: the bound of the numbers, and whether that is still being fixed; all numbers put, in order, and how many of them
 -- were taken. For each place of either list, the pass whose own it is, with its index among that pass's own places

@@ -1,8 +1,7 @@
 ghost use Rattle.std.specs.Prelude.{◌≡◌, ◌<◌, IfOk, IfSome, All, length, MatchBool, MatchOption};
-ghost use Rattle.crossbeam_queue.specs.Passes.{view, IsPassOf as IsPortOf, ruled_capacity};
-ghost use Rattle.erase_queue.specs.Moves.{DidPut, FoundFull};
+ghost use Rattle.crossbeam_queue.specs.Passes.{view, IsPassOf as IsPortOf};
+ghost use Rattle.erase_queue.specs.{Moves.DidPut, Moves.FoundFull, Rule.dealer, Rule.counter};
 ghost use Rattle.erase_queue.specs.Queue.{limit_of, sight_of, IsPassOf, IsNewPass, WasPut, WasFull, WasTaken, WasEmpty};
-ghost use Rattle.erase_queue.specs.Rule.{dealer, counter};
 
 use crate::pass::QueuePass;
 use crate::rule::{Begin, CountUp, Deal, Numbers, Put, Take};
@@ -63,7 +62,7 @@ impl EraseQueue {
     pub fn put(&self, rt: &impl Wait, pass: &mut QueuePass, block: usize) -> bool
         requires block { block < limit_of self.now }
         requires pass { IsPassOf self.now pass.old }
-        ensures told { MatchBool result (WasPut pass.old block pass.new) (WasFull (limit_of self.now) pass.old pass.new) }
+        ensures put { MatchBool result (WasPut pass.old block pass.new) (WasFull (limit_of self.now) pass.old pass.new) }
         ensures pass { IsPassOf self.now pass.new }
     {
         let stands = self.push(rt, pass, block);
@@ -77,7 +76,7 @@ impl EraseQueue {
     fn push(&self, rt: &impl Wait, pass: &mut QueuePass, block: usize) -> bool
         requires block { block < limit_of self.now }
         requires pass { IsPassOf self.now pass.old }
-        ensures told { MatchBool result (DidPut (sight_of pass.old) block (sight_of pass.new))
+        ensures pushed { MatchBool result (DidPut (sight_of pass.old) block (sight_of pass.new))
             (FoundFull (sight_of pass.old) (limit_of self.now) (sight_of pass.new)) }
         ensures pass { IsPassOf self.now pass.new }
         ensures counts { pass.new ≡ record pass.old { port = pass.new.port } }
@@ -90,7 +89,7 @@ impl EraseQueue {
     #[tactic(auto, using(crate::proofs::Course::puts, crate::proofs::Course::takes, crate::proofs::Course::learns))]
     pub fn take(&self, rt: &impl Wait, pass: &mut QueuePass) -> Option<usize>
         requires { IsPassOf self.now pass.old }
-        ensures told { MatchOption result (WasEmpty pass.old pass.new) (λ block. WasTaken pass.old block pass.new) }
+        ensures taken { MatchOption result (WasEmpty pass.old pass.new) (λ block. WasTaken pass.old block pass.new) }
         ensures block { IfSome result (λ block. block < limit_of self.now) }
         ensures pass { IsPassOf self.now pass.new }
     {

@@ -1,6 +1,5 @@
 //! The rule that a queue is made with, and what its steps record. These types are for the proofs alone.
-ghost use Rattle.erase_queue.specs.Rule.{Ruled, counter, counted, gone, dealer, user_of};
-ghost use Rattle.erase_queue.specs.Moves.{DidPut, DidTake, Stand};
+ghost use Rattle.erase_queue.specs.{Rule.Ruled, Rule.counter, Rule.counted, Rule.gone, Rule.dealer, Rule.user_of, Moves.DidPut, Moves.DidTake, Moves.Stand};
 
 use crate::sight::Sight;
 use crossbeam_queue::RuledArrayQueue;

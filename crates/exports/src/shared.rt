@@ -18,7 +18,8 @@ ghost use Rattle.volume.specs.Undisturbed.{IsUndisturbed};
 ghost use Rattle.exports.specs.Codes.{as_number, got_by, written_by, was_by, drain_code, drain_by, erase_by, restock_code, stocked_by};
 ghost use Rattle.exports.specs.Blocks.{BlockReported, block_code, counts_code, counts_report};
 ghost use Rattle.exports.specs.Tallies.{tally_of};
-ghost use Rattle.exports.specs.Handles.{seat_of};
+ghost use Rattle.exports.specs.Handles.{seat_of, CallsWith, ReturnsAtBoth};
+ghost use Rattle.exports.specs.declared.reports.Drained.{Drained};
 ghost use Rattle.exports.specs.Holding.{by_holder, holder_code, hold_code, HoldCalled, HolderCalled, ReleaseCalled};
 ghost use Rattle.exports.specs.Holding.{copy_code, copied, word_code, word_read, page_report};
 ghost use Rattle.exports.specs.Shared.{numbers_of, sweeper_volume, by_host, host_code, sweeper_code, HostCalled, BroomCalled, seen_of, read_code, read_buffer};
@@ -259,17 +260,10 @@ pub extern "C" fn mintlintel_broom_drain(
     ensures block { result ≢ DONE → block.new ≡ block.old }
     ensures moved { result ≢ DONE → moved.new ≡ moved.old }
 {
-    let mut drained = Drained {
-        block: *block,
-        moved: *moved,
-    };
-    let code = handle.on_with(alloc, &mut drained, |seat, out| match seat {
+    drained(alloc, handle, block, moved, |seat, out| match seat {
         Seat::Sweeper(sweeper) => sweeper.drain(out),
         _ => WRONG_KIND,
-    });
-    *block = drained.block;
-    *moved = drained.moved;
-    code
+    })
 }
 
 /// Drains the next block by the survey that the broom made last. With 0 its number and how many pages moved are written.
@@ -289,17 +283,10 @@ pub extern "C" fn mintlintel_broom_drain_next(
     ensures block { result ≢ DONE → block.new ≡ block.old }
     ensures moved { result ≢ DONE → moved.new ≡ moved.old }
 {
-    let mut drained = Drained {
-        block: *block,
-        moved: *moved,
-    };
-    let code = handle.on_with(alloc, &mut drained, |seat, out| match seat {
+    drained(alloc, handle, block, moved, |seat, out| match seat {
         Seat::Sweeper(sweeper) => sweeper.drain_next(out),
         _ => WRONG_KIND,
-    });
-    *block = drained.block;
-    *moved = drained.moved;
-    code
+    })
 }
 
 /// Surveys the device, and drains the closed block with the fewest live pages if it has none: no page moves, so no spare is needed. With 0 its
@@ -320,17 +307,10 @@ pub extern "C" fn mintlintel_broom_drain_dead(
     ensures block { result ≢ DONE → block.new ≡ block.old }
     ensures moved { result ≢ DONE → moved.new ≡ moved.old }
 {
-    let mut drained = Drained {
-        block: *block,
-        moved: *moved,
-    };
-    let code = handle.on_with(alloc, &mut drained, |seat, out| match seat {
+    drained(alloc, handle, block, moved, |seat, out| match seat {
         Seat::Sweeper(sweeper) => sweeper.drain_dead(out),
         _ => WRONG_KIND,
-    });
-    *block = drained.block;
-    *moved = drained.moved;
-    code
+    })
 }
 
 /// Erases a drained block that nobody reads.
@@ -364,6 +344,28 @@ pub extern "C" fn mintlintel_broom_restock(alloc: Global, handle: &mut Handle) -
         Seat::Sweeper(sweeper) => sweeper.restock(),
         _ => WRONG_KIND,
     })
+}
+
+// A call that drains. If a block was drained, its number and how many pages moved are written.
+fn drained<F: FnOnce(&mut Seat, &mut Drained) -> u32>(
+    alloc: Global,
+    handle: &mut Handle,
+    block: &mut u32,
+    moved: &mut u32,
+    call: F,
+) -> u32
+    requires { F.IsAlwaysCallable call }
+    ensures { CallsWith {O = Drained} (seat_of handle.old) (record { block = block.old; moved = moved.old }) result (seat_of handle.new)
+        (record { block = block.new; moved = moved.new }) (λ x o code y p. ReturnsAtBoth F.FnOnce call x o code y p) }
+{
+    let mut drained = Drained {
+        block: *block,
+        moved: *moved,
+    };
+    let code = handle.on_with(alloc, &mut drained, call);
+    *block = drained.block;
+    *moved = drained.moved;
+    code
 }
 
 // A host holds the page of a sector, and becomes a holder. It is `Away` meanwhile.

@@ -1,20 +1,16 @@
 -- The states of all blocks follow from what the seats own, gave up and have pinned; so each step on a pin word can leave one word alone.
-use Rattle.flash_rule.proofs.Words.{◌≡◌, ◌≢◌, ℕ, zero, suc, ◌<◌, inl, inr, ⊎_elim, Bool, true, false, List, length, set, slice_get, sym, refl, ap, ◌∙◌, arith}
-use Rattle.flash_rule.proofs.Words.{get_or, get_or-set_same, some, get_elem?, Allows, at_set, set_else, Numbers, pin_word, pin_index, PinWord, Owned, Pin, View}
-use Rattle.flash_rule.proofs.Words.{one_if, pin_is_on, pins_on, owned_at, World, is_owned, rank, entry_of, IsReached, IsUnused, IsCededBy, IsCeded, Lawful}
-use Rattle.flash_rule.proofs.Words.{Ruled, Sitter, Forces, ◌+◌, ◌^◌, ◌-◌, [], ◌∷◌, ◌++◌, Some, subst, none, dite, ℕ_discrete, step, freed_added, kept_added}
-use Rattle.flash_rule.proofs.Words.{MapWord, Free, Open, READER, PAGE_WRITTEN, NEXT_PHASE, TAKEN, is_broom, is_player, with_owned, Intact, LawfulKind, Took}
-use Rattle.flash_rule.proofs.Words.{Tested, test_told, Pinned, take_told, pin_told, unpin_told, count_told, close_told, claim_told, drain_told, condemn_told}
-use Rattle.flash_rule.proofs.Words.{freed_told, kept_told, retired_told}
-use Rattle.flash_rule.proofs.Points.{phase_of, of_rank, total_set, player_live, broom_live, phase_or_not, seat_set}
-use Rattle.flash_rule.proofs.{Places.pin_within, OwnSteps.worker, Ruling.owner_numbers, Still.pass_numbers}
+use Rattle.flash_rule.proofs.Words.{◌≡◌, ◌≢◌, ℕ, ◌<◌, ⊎_elim, Bool, true, false, List, length, set, sym, refl, ap, ◌∙◌, arith, get_or, get_or-set_same, some}
+use Rattle.flash_rule.proofs.Words.{get_elem?, Allows, at_set, set_else, Numbers, pin_word, pin_index, PinWord, Owned, Pin, View, one_if, pin_is_on, pins_on}
+use Rattle.flash_rule.proofs.Words.{owned_at, World, is_owned, entry_of, IsReached, IsUnused, IsCededBy, IsCeded, Lawful, Ruled, Sitter, Forces, ◌^◌, ◌-◌, Some}
+use Rattle.flash_rule.proofs.Words.{subst, none, step, freed_added, kept_added, READER, PAGE_WRITTEN, NEXT_PHASE, TAKEN, is_broom, is_player, LawfulKind}
+use Rattle.flash_rule.proofs.Words.{Tested, test_told, take_told, pin_told, unpin_told, count_told, close_told, claim_told, drain_told, condemn_told}
+use Rattle.flash_rule.proofs.{Words.freed_told, Words.kept_told, Words.retired_told, Points.total_set, Points.player_live, Points.broom_live, Points.seat_set}
+use Rattle.flash_rule.proofs.{Places.pin_within, OwnSteps.worker, Ruling.owner_numbers, Still.pass_numbers, ReaderSteps.pin_allowed, ReaderSteps.unpin_allowed}
 use Rattle.flash_rule.proofs.Steps.{test_allowed, take_allowed, count_allowed, close_allowed}
-use Rattle.flash_rule.proofs.ReaderSteps.{intact_or_not, pin_allowed, unpin_allowed}
 use Rattle.flash_rule.proofs.ReclaimAllowed.{claim_allowed, condemn_allowed, drain_allowed, freed_allowed, kept_allowed, retired_allowed}
 use Rattle.std.proofs.Common.{bit_or}
 use Rattle.flash_rule.specs.Forced.{plus, to_next_phase, TestLeaves, TakeSets, PinAdds, UnpinTakesOff, CountAdds, CloseAdds, ClaimExchanges, DrainAdds}
 use Rattle.flash_rule.specs.Forced.{CondemnExchanges, FreeAdds, KeepAdds, RetireAdds}
-use Rattle.geometry.proofs.PinBits as bits
 
 -- Two views of one seat own and gave up the same blocks, and have the same pinned
 pub record Alike (w u : View) : Type 0 where
@@ -33,26 +29,7 @@ pub record SameBlock (p q : PinWord) : Type 0 where
 
 -- two states that have each got as far as the other are one
 each_reached : (b : ℕ) (p q : PinWord) → IsReached (entry_of b p) q → IsReached (entry_of b q) p → SameBlock p q
-each_reached b p q (inl later) (inl earlier) = absurd (omega arith)
-each_reached b p q (inl later) (inr same) = let e = same.0 in absurd (omega arith)
-each_reached b p q (inr same) (inl earlier) = let e = same.0 in absurd (omega arith)
-each_reached b p q (inr there) (inr here) =
-    let low = there.1 in
-    let high = here.1 in
-    let less = there.2 in
-    let more = here.2 in
-    let ranks : rank p.phase ≡ rank q.phase = omega arith in
-    record { phase = sym (of_rank p.phase) ∙ (ap phase_of ranks ∙ of_rank q.phase); generation = there.0; written = omega arith }
-
--- a block as the device was made comes before each state of it
-unused_first : (b : ℕ) (p q : PinWord) → IsUnused p → IsReached (entry_of b p) q
-unused_first b p q u = by_generation q.generation refl where
-  low : rank p.phase ≡ 0
-  low = ap rank u.free
-
-  by_generation : (n : ℕ) → q.generation ≡ n → IsReached (entry_of b p) q
-  by_generation zero is = let g = u.generation in let w = u.written in let r = low in inr (g ∙ sym is, omega arith, omega arith)
-  by_generation (suc n) is = let g = u.generation in inl (omega arith)
+each_reached b p q there here = grind arith
 
 -- ---- two ruled tables whose seats own and gave up the same blocks
 abbrev Tied : List View → List View → Type 0
@@ -69,12 +46,11 @@ module _ (z : Numbers) (g h : World) (vs us : List View) (one : Lawful z g vs) (
 
   left_reached : is_owned (g.pins b).phase ≡ false → IsReached (entry_of b (g.pins b)) (h.pins b)
   left_reached nobodys =
-      ⊎_elim (λ (unused : IsUnused (g.pins b)). unused_first b (g.pins b) (h.pins b) unused)
+      ⊎_elim (λ (unused : IsUnused (g.pins b)). grind (arith, unused))
       (λ (left : IsCeded vs (entry_of b (g.pins b))).
       let by = left.2 in
       let t = tied left.0 by.view by.seat in
-      let there : IsCededBy us left.0 left.1 (entry_of b (g.pins b)) =
-      record { view = t.0; seat = t.1; entry = sym (ap (λ (l : List Owned). slice_get l left.1) t.3) ∙ by.entry } in
+      let there : IsCededBy us left.0 left.1 (entry_of b (g.pins b)) = grind arith in
       (two.ceded.reached left.0 left.1 (entry_of b (g.pins b)) there).1)
       (one.ceded.left b low nobodys)
 
@@ -102,8 +78,7 @@ tied_sets vs id v w u at owns ceded j x is =
 
 -- one seat changes, to views that are alike: each block is in one state, with its readers
 pub state_same : (z : Numbers) (g h : World) (vs : List View) (id : ℕ) (v w u : View) → get_elem? vs id ≡ some v → Lawful z g (set vs id w)
-    → Lawful z h (set vs id u) → Alike w u
-    → (b : ℕ) → b < z.blocks → g.pins b ≡ h.pins b
+    → Lawful z h (set vs id u) → Alike w u → (b : ℕ) → b < z.blocks → g.pins b ≡ h.pins b
 state_same z g h vs id v w u at one two alike b low =
     let same = block_same z g h (set vs id w) (set vs id u) one two (tied_sets vs id v w u at alike.owns alike.ceded)
     (tied_sets vs id v u w at (sym alike.owns) (sym alike.ceded)) b low in
@@ -137,47 +112,11 @@ both u v w e f = alike_same v w (e ∙ sym f)
 
 -- what a load before a take fixes: the seat owns, gave up and has pinned what it did before, whatever it found
 tested_alike : (v : View) (b n : ℕ) (w : View) → Tested v b n w → Alike w v
-tested_alike v b n w h =
-    ⊎_elim
-    (λ (free : h.state.phase ≡ Free). alike_same w v (h.free free))
-    (λ (not : ¬ (h.state.phase ≡ Free)).
-    let e = h.denied not in
-    record { owns = ap (λ (x : View). x.owns) e; ceded = ap (λ (x : View). x.ceded) e; pin = ap (λ (x : View). x.pin) e })
-    (phase_or_not h.state.phase Free)
-
--- what a take and a pin fix, in the state that they found
-took_alike : (v : View) (b n : ℕ) (w u : View) → Took v b n w → Took v b n u → Alike w u
-took_alike v b n w u one two =
-    let same : one.state ≡ two.state = bits.pin_same one.state two.state one.fits two.fits (sym one.found ∙ two.found) in
-    ⊎_elim
-    (λ (free : one.state.phase ≡ Free).
-    let other : two.state.phase ≡ Free = sym (ap (λ (p : PinWord). p.phase) same) ∙ free in
-    alike_same w u (one.free free
-    ∙ ((λ i. record v {
-      taken = v.taken + 1;
-      owns = with_owned (record { block = b; phase = Open; generation = (same i).generation; written = 0 }) v.owns;
-    }) ∙ sym (two.free other))))
-    (λ (not : ¬ (one.state.phase ≡ Free)).
-    both (record v { denied = v.denied ++ b ∷ [] }) w u (one.denied not) (two.denied (λ e. not (ap (λ (p : PinWord). p.phase) same ∙ e))))
-    (phase_or_not one.state.phase Free)
-
-pinned_alike : (v : View) (m : MapWord) (value : List ℕ) (n : ℕ) (w u : View) → Pinned v m value n w → Pinned v m value n u → Alike w u
-pinned_alike v m value n w u one two =
-    let same : one.state ≡ two.state = bits.pin_same one.state two.state one.fits two.fits (sym one.found ∙ two.found) in
-    record {
-      owns = ap (λ (x : View). x.owns) one.changed ∙ sym (ap (λ (x : View). x.owns) two.changed);
-      ceded = ap (λ (x : View). x.ceded) one.changed ∙ sym (ap (λ (x : View). x.ceded) two.changed);
-      pin = ⊎_elim
-          (λ (is : Intact one.state m.generation). (one.accepted is).0 ∙ sym (two.accepted (subst (λ (p : PinWord). Intact p m.generation) same is)).0)
-          (λ (not : ¬ Intact one.state m.generation). (one.stray not).0
-          ∙ sym (two.stray (λ is. not (subst (λ (p : PinWord). Intact p m.generation) (sym same) is))).0)
-          (intact_or_not one.state m.generation);
-    }
+tested_alike v b n w h = grind arith
 
 -- and what an exchange fixes, by the word that it found
 exchanged_alike : (n old : ℕ) (won lost w u : View) → (n ≡ old → (w ≡ won) × (u ≡ won)) → (¬ (n ≡ old) → (w ≡ lost) × (u ≡ lost)) → Alike w u
-exchanged_alike n old won lost w u wins loses =
-    dite (ℕ_discrete n old) (λ is. both won w u (wins is).0 (wins is).1) (λ not. both lost w u (loses not).0 (loses not).1)
+exchanged_alike n old won lost w u wins loses = grind arith
 
 -- a step of a seat that has the table's numbers, on the word of a block of the table
 module _ (z : Numbers) (slots id : ℕ) (me : Sitter) (b : ℕ) (f : ℕ → ℕ) (told : ℕ → Sitter → Type 0) where
@@ -198,7 +137,7 @@ module _ (z : Numbers) (slots id : ℕ) (me : Sitter) (b : ℕ) (f : ℕ → ℕ
       forced_at
       (λ g vs law at.
       let h = law.views id me.0 at in
-      (owner_numbers z me.0 o h.kind own, subst (λ c. c < z.blocks) same (h.holding.owned o.block o own).low))
+      (owner_numbers h.kind own, subst (λ c. c < z.blocks) same (h.holding.owned o.block o own).low))
       (λ _ at n w u one two. alike_same w.0 u.0 (fixes at n w u one two)) allowed
 
 -- ---- the laws
@@ -219,33 +158,33 @@ takes_forced z slots id me x y b player low =
     (λ g vs law at. ((law.views id me.0 at).kind.numbers (player_live me.0.role player), low))
     (λ numbers at n w u one two.
     let below : b < me.0.numbers.blocks = subst (λ (n : Numbers). b < n.blocks) (sym numbers) low in
-    took_alike me.0 b n w.0 u.0 (one.1 b below at) (two.1 b below at))
+    (grind (arith, one.1 b below at, two.1 b below at)))
     (λ _. take_allowed z slots id me b player low)
 
 pub pins_forced : PinAdds
 pins_forced z slots id me x y m value pass is low =
     forced_at z slots id me m.block (plus READER) (pin_told (step slots (pin_index z m.block) x y none) me)
-    (λ g vs law at. (pass_numbers z me.0 (law.views id me.0 at).kind pass, low))
-    (λ _ at n w u one two. pinned_alike me.0 m value n w.0 u.0 (one.1 m value is at) (two.1 m value is at))
+    (λ g vs law at. (pass_numbers (law.views id me.0 at).kind pass, low))
+    (λ _ at n w u one two. grind (arith, one.1 m value is at, two.1 m value is at))
     (λ _. pin_allowed z slots id me m value pass is low)
 
 pub unpins_forced : UnpinTakesOff
 unpins_forced z slots id me x y b pass on low =
     forced_at z slots id me b (plus (2 ^ 64 - READER)) (unpin_told (step slots (pin_index z b) x y none) me)
-    (λ g vs law at. (pass_numbers z me.0 (law.views id me.0 at).kind pass, low))
+    (λ g vs law at. (pass_numbers (law.views id me.0 at).kind pass, low))
     (λ _ at n w u one two. alike_same w.0 u.0 (one.1 b on at ∙ sym (two.1 b on at)))
-    (λ kind. unpin_allowed z slots id me b pass on low (pass_numbers z me.0 kind pass))
+    (λ kind. unpin_allowed z slots id me b pass on low (pass_numbers kind pass))
 
 pub counts_forced : CountAdds
 counts_forced z slots id me x y o work can =
     forced_of z slots id me o.block (plus PAGE_WRITTEN) (count_told (step slots (pin_index z o.block) x y none) me) o refl can.own
     (λ at n w u one two. one.1 o work can at ∙ sym (two.1 o work can at))
-    (λ kind. count_allowed z slots id me o work (ap is_player (worker z me.0 work kind can.is).1) (owner_numbers z me.0 o kind can.own) can)
+    (λ kind. count_allowed z slots id me o work (ap is_player (worker kind can.is).1) (owner_numbers kind can.own) can)
 
 pub closes_forced : CloseAdds
 closes_forced z slots id me x y o can =
     forced_of z slots id me o.block (plus NEXT_PHASE) (close_told (step slots (pin_index z o.block) x y none) me) o refl can.own
-    (λ at n w u one two. one.1 o can at ∙ sym (two.1 o can at)) (λ kind. close_allowed z slots id me o (owner_numbers z me.0 o kind can.own) can)
+    (λ at n w u one two. one.1 o can at ∙ sym (two.1 o can at)) (λ kind. close_allowed z slots id me o (owner_numbers kind can.own) can)
 
 pub drains_forced : DrainAdds
 drains_forced z slots id me x y o can =

@@ -1,18 +1,13 @@
 -- The calls of each host in a history that only grows: where no host has made a call in between, two histories are one.
-use Rattle.flash_rule.proofs.Words.{◌≡◌, ℕ, ◌<◌, eq-eqb, ne_eqb, List, [], ◌∷◌, ◌++◌, length, sym, refl, ap, ◌∙◌, subst, arith, length-append, All-nil, dite}
-use Rattle.flash_rule.proofs.Words.{ℕ_discrete, Call, Begins, caller, calls_of}
-use Rattle.std.proofs.Common.{append-nil}
-use Rattle.std.specs.Prelude.{All}
+use Rattle.flash_rule.proofs.Words.{◌≡◌, ℕ, ◌<◌, eq-eqb, List, [], ◌∷◌, ◌++◌, length, sym, refl, ap, ◌∙◌, subst, arith, length-append, All-nil}
+use Rattle.flash_rule.proofs.Words.{Call, Begins, caller, calls_of}
+use Rattle.std.{proofs.Common.append-nil, specs.Prelude.All}
 use Rattle.std.proofs.lemmas.List.{append_cancel_left, nil_from_length, Elements.All-head, Elements.All-tail, Elements.All-cons}
 
 -- a pass's calls in two parts of a history
 pub calls_of-append : (t : ℕ) (h k : List Call) → calls_of t (h ++ k) ≡ calls_of t h ++ calls_of t k
-calls_of-append t [] k = refl
-calls_of-append t (c ∷ h) k =
-    let there = calls_of-append t h k in
-    dite (ℕ_discrete (caller c) t)
-    (λ same. rw (eq-eqb (caller c) t same) (ap (λ l. c ∷ l) there))
-    (λ other. rw (ne_eqb (caller c) t other) there)
+calls_of-append t [] k = grind arith
+calls_of-append t (c ∷ h) k = grind (arith, calls_of-append t h k)
 
 -- a pass's calls grow with the history
 pub calls_grow : (t : ℕ) (h k : List Call) → Begins h k → Begins (calls_of t h) (calls_of t k)
@@ -21,11 +16,7 @@ calls_grow t h k b = (calls_of t b.0, sym (calls_of-append t h b.0) ∙ ap (call
 -- a list between two that are equal is that list
 pub between : {X : Type 0} (k l m : List X) → Begins k l → Begins l m → k ≡ m → l ≡ k
 between k l m a b same =
-    let first = ap (length {A = _}) a.1 in
-    let second = ap (length {A = _}) b.1 in
-    let whole = ap (length {A = _}) same in
-    let none : a.0 ≡ [] = nil_from_length a.0 (omega (arith, length-append k a.0, length-append l b.0)) in
-    sym a.1 ∙ (ap (λ x. k ++ x) none ∙ append-nil k)
+    grind (arith, nil_from_length, length-append, append-nil, ap (length {A = _}) a.1, ap (length {A = _}) b.1, ap (length {A = _}) same)
 
 -- what a pass has called by the first and by the last of three histories, it has called by the one in the middle
 pub squeezed : (t : ℕ) (h k l mine : List Call) → Begins h k → Begins k l → calls_of t h ≡ mine → calls_of t l ≡ mine → calls_of t k ≡ mine

@@ -1,15 +1,14 @@
 -- The table at the start meets the rule.
-use Rattle.flash_rule.proofs.Words.{◌≡◌, ℕ, zero, suc, ◌*◌, ◌+◌, ◌-◌, ◌<◌, ◌≤◌, inl, eq-eqb, ne_eqb, true, false, List, [], ◌∷◌, ◌++◌, None, Some, length}
-use Rattle.flash_rule.proofs.Words.{replicate, slice_get, sym, refl, ap, ◌∙◌, subst, arith, length-append, length-replicate, All-nil, get_or, if◌then◌else◌}
-use Rattle.flash_rule.proofs.Words.{some, some-injective, some-ne-none, dite, ℕ_discrete, dec_lt, get_elem?, Numbers, pin_index, page_index, PinWord, Free}
-use Rattle.flash_rule.proofs.Words.{Open, Owned, View, owned_at, caller, World, Fits, is_owned, blank_word, IsCededBy, drained_of, LawfulCeded, LawfulBlock}
+use Rattle.flash_rule.proofs.Words.{◌≡◌, ℕ, zero, suc, ◌*◌, ◌+◌, ◌-◌, ◌<◌, ◌≤◌, inl, eq-eqb, ne_eqb, false, List, [], ◌∷◌, ◌++◌, None, Some, length, replicate}
+use Rattle.flash_rule.proofs.Words.{slice_get, sym, refl, ap, ◌∙◌, subst, arith, length-append, length-replicate, All-nil, get_or, if◌then◌else◌, some}
+use Rattle.flash_rule.proofs.Words.{some-injective, some-ne-none, dite, ℕ_discrete, dec_lt, get_elem?, Numbers, pin_index, page_index, PinWord, Free, Open}
+use Rattle.flash_rule.proofs.Words.{Owned, View, owned_at, caller, World, Fits, is_owned, blank_word, IsCededBy, drained_of, LawfulCeded, LawfulBlock}
 use Rattle.flash_rule.proofs.Words.{LawfulOwned, LawfulView, Lawful, Ruled, spare, spares, Dealer}
-use Rattle.flash_rule.proofs.{Owning.none_some, Owning.some_same, Owning.nothing, Places.row_within}
+use Rattle.flash_rule.proofs.{Owning.none_some, Owning.nothing, Places.row_within, Points.clash}
 use Rattle.flash_rule.proofs.Splitting.{kind_fresh, knowledge_fresh, holding_unnamed}
 use Rattle.std.specs.Prelude.{nat_lt}
 use Rattle.atomic_table.specs.Table.{opening}
-use Rattle.geometry.proofs.Histories.{held_at_first}
-use Rattle.geometry.specs.{Limits.IsWithinLimits, PinWords.phase_bits}
+use Rattle.geometry.{proofs.Histories.held_at_first, specs.Limits.IsWithinLimits, specs.PinWords.phase_bits}
 use Rattle.flash_rule.specs.Seats.{dealer, opening_words}
 use Rattle.std.proofs.lemmas.{Bool.Decides.nat_tests, List.get_or_append_left, List.get_or-append-add, List.get_or-replicate}
 
@@ -25,9 +24,7 @@ same_all n x k low = get_or-replicate n k x 0 low
 spare_is : (n from b : ℕ) (o : Owned) → owned_at b (spares n from) ≡ Some o → (from ≤ b) × (b < from + n) × (spare b ≡ o)
 spare_is zero from b o is = absurd (none_some o is)
 spare_is (suc n) from b o is = dite (ℕ_discrete from b)
-    (λ same.
-    let here : owned_at b (spares (suc n) from) ≡ Some (spare from) = rw (eq-eqb from b same) refl in
-    let e : spare from ≡ o = some_same (spare from) o (sym here ∙ is) in (omega arith, omega arith, ap spare (sym same) ∙ e))
+    (grind arith)
     (λ other.
     let there : owned_at b (spares (suc n) from) ≡ owned_at b (spares n (from + 1)) = rw (ne_eqb from b other) refl in
     let r = spare_is n (from + 1) b o (sym there ∙ is) in
@@ -42,8 +39,7 @@ spare_at (suc n) from b low high = dite (ℕ_discrete from b)
 
 module _ (z : Numbers) (limits : IsWithinLimits z) where
   enough : z.brooms ≤ z.blocks
-  enough = dite (ℕ_discrete z.hosts 0) (λ none. let e = limits.lone none in omega arith)
-      (λ some_host. let e = limits.shared_blocks (omega arith) in omega arith)
+  enough = grind arith
 
   opening_pin : ℕ → PinWord
   opening_pin b = record { readers = 0; phase = if nat_lt b (z.blocks - z.brooms) then Free else Open; written = 0; generation = 0 }
@@ -129,7 +125,7 @@ module _ (z : Numbers) (limits : IsWithinLimits z) where
         free = λ _. p.1;
         rest = λ _ q from below i most. refl;
         owner = λ owned. dite (dec_lt b (z.blocks - z.brooms))
-            (λ below. let no : true ≡ false = sym owned ∙ ap is_owned (phase_low b below) in absurd (cc))
+            (λ below. clash owned (ap is_owned (phase_low b below)))
             (λ above. (dealer z, spare b, refl, spare_at z.brooms (z.blocks - z.brooms) b (omega arith) (omega arith)));
       }
 
@@ -174,13 +170,12 @@ module _ (z : Numbers) (limits : IsWithinLimits z) where
         drained = λ id v is. let e = the_dealer id v is in ap (λ (x : View). x.drains) (sym e) ∙ ap (λ (x : View). drained_of x.ceded) e;
         left = λ b low nobodys. dite (dec_lt b (z.blocks - z.brooms))
             (λ below. let p = blank_pin b in inl (record { free = phase_low b below; generation = p.2; written = p.1 }))
-            (λ above. let no : true ≡ false = sym (ap is_owned (phase_high b above)) ∙ nobodys in absurd (cc));
+            (λ above. clash (ap is_owned (phase_high b above)) nobodys);
         owners = λ id v is _. ap (λ (x : View). x.ceded) (sym (the_dealer id v is));
       }
     where
       the_dealer : (id : ℕ) (v : View) → get_elem? (dealer z ∷ []) id ≡ some v → dealer z ≡ v
-      the_dealer zero v is = some-injective (dealer z) v is
-      the_dealer (suc id) v is = absurd (some-ne-none v (sym is))
+      the_dealer id v is = grind arith
 
       no_entry : (id k : ℕ) (o : Owned) → IsCededBy (dealer z ∷ []) id k o → ⊥
       no_entry id k o h = nothing k o (ap (λ (x : View). slice_get x.ceded k) (the_dealer id h.view h.seat) ∙ h.entry)

@@ -5,16 +5,14 @@ use Rattle.flash_rule.proofs.Words.{Owned, Cycle, Name, Work, View, is_player, p
 use Rattle.flash_rule.proofs.Words.{is_nameable, is_still, half_cycle, age_of, IsBlank, blank_word, rank, LawfulCeded, IsCurrent, is_pass, IsProgrammed}
 use Rattle.flash_rule.proofs.Words.{IsFilling, LawfulBlock, LawfulOwned, LawfulView, Lawful, IsDealt, PinOnward, ListsOnward, Onward, ⊎_elim, None, length}
 use Rattle.flash_rule.proofs.Words.{slice_get, Begins, Closed, Player, may_own, without, put_name, Programs, LawfulKind, LawfulWork, next_page, Source}
-use Rattle.flash_rule.proofs.Words.{LawfulSource, ReclaimsOne}
-use Rattle.flash_rule.proofs.Points.{player_may_own, put_here, put_else, put_all, total_set, player_same, idle_or_player, may_own_else, name_here, name_else}
-use Rattle.flash_rule.proofs.Points.{name_all, seat_set}
-use Rattle.flash_rule.proofs.Owning.{with_here, with_else, owned_else, one_with_open, holding_with, kind_as, kind_with, knowledge_as, source_with, work_with}
-use Rattle.flash_rule.proofs.Owning.{owns_none_else, some_same, none_some, without_else, one_without, get_last, put3, put3_here, put3_else, blocks_apart}
-use Rattle.flash_rule.proofs.Owning.{open_victim, knowledge_with, owned_with, entry_gone, entry_set}
-use Rattle.flash_rule.proofs.Frames.{counted, knowledge_kept, lists_stay, assembled, block_kept, named_kept}
-use Rattle.flash_rule.proofs.{Ceding.ceded_owned, Ceding.ceded_last, Still.stays_onward, Still.pin_stays, Still.still}
+use Rattle.flash_rule.proofs.Words.{Bool, Untouched}
+use Rattle.flash_rule.proofs.{Words.LawfulSource, Words.ReclaimsOne, Owning.put3_here, Owning.put3_else, Ceding.ceded_owned, Ceding.ceded_last}
+use Rattle.flash_rule.proofs.Owning.{blocks_apart, open_victim, with_here, with_else, owned_else, one_with_open, source_with, work_with, Seated, view_of}
+use Rattle.flash_rule.proofs.Owning.{owned_with, entry_gone, entry_set, owns_none_else, some_same, none_some, without_else, one_without, get_last, put3}
+use Rattle.flash_rule.proofs.Points.{put_here, put_else, put_all, total_set, player_same, may_own_else, name_else, name_all, seat_set, clash}
+use Rattle.flash_rule.{proofs.Still.stays_onward, proofs.Still.pin_stays, proofs.Still.still, specs.Plays.IsSettled}
+use Rattle.flash_rule.proofs.Frames.{knowledge_kept, lists_stay, assembled, block_kept, named_kept}
 use Rattle.std.proofs.lemmas.List.{append-nil}
-use Rattle.flash_rule.specs.Plays.{IsSettled}
 pub use Rattle.flash_rule.proofs.Points.{player_of}
 
 -- who programmed and erased what, and what each one did, in order
@@ -50,20 +48,14 @@ pub block_owned : (z : Numbers) (g : World) (id b : ℕ) (q : PinWord) (d : Deed
     → (o.phase ≡ Victim → (p s : ℕ) → p < cleared → s < z.sectors → ¬ (g.map s ≡ Some (record { generation = o.generation; block = b; page = p })))
     → (o.phase ≡ Erasing → (p i : ℕ) → p < z.pages → i ≤ z.words → p * (z.words + 1) + i < wiped → g.pages b p i ≡ blank_word)
     → LawfulOwned z (turned g b q id d) id doing cleared wiped b o
-block_owned z g id b q d doing cleared wiped o block low owned same rest dead clean =
-    let here : put g.pins b q b ≡ q = put_here g.pins b q in
-    record {
-      block = block;
-      low = low;
-      owner = put_here g.owner b id;
-      owned = owned;
-      phase = ap (λ (p : PinWord). p.phase) here ∙ same.0;
-      generation = ap (λ (p : PinWord). p.generation) here ∙ same.1;
-      written = ap (λ (p : PinWord). p.written) here ∙ same.2;
-      rest = rest;
-      dead = dead;
-      clean = clean;
-    }
+block_owned z g id b q d doing cleared wiped o block low owned same rest dead clean = grind arith
+
+-- a block in these phases stays as it was, if it does where it is this one
+turned_owned : (z : Numbers) (g : World) (id b : ℕ) (q : PinWord) (owner : ℕ) (d : Deeds) (phases : Phase → Bool)
+    → (g.owner b ≢ id → phases (g.pins b).phase ≡ true → (owner ≡ g.owner b) × (q.phase ≡ (g.pins b).phase) × (q.generation ≡ (g.pins b).generation)
+    × (q.written ≡ (g.pins b).written))
+    → (c : ℕ) → ¬ (g.owner c ≡ id) → phases (g.pins c).phase ≡ true → Untouched g (turned g b q owner d) c
+turned_owned z g id b q owner d phases mine c other is = grind arith
 
 -- ONE PIN WORD CHANGES. The new state is onward of the old one, and as it was but for readers if another seat owns the block
 pub pin_turns : (z : Numbers) (g : World) (id b : ℕ) (q : PinWord) (owner : ℕ) (d : Deeds) → PinOnward (g.pins b) q
@@ -78,13 +70,7 @@ pin_turns z g id b q owner d on mine programmed erased lists =
       calls = λ t _. refl;
       seat = λ n dealt. (refl, dealt);
       pins = λ c _. put_all g.pins b q (λ c p. PinOnward (g.pins c) p) on (λ c _. pin_stays (g.pins c)) c;
-      owned = λ c low other owned.
-          let whose = put_all g.owner b owner (λ j x. g.owner j ≢ id → is_owned (g.pins j).phase ≡ true → x ≡ g.owner j) (λ o w. (mine o w).0)
-          (λ j _ _ _. refl) c other owned in
-          let state = put_all g.pins b q (λ j p. g.owner j ≢ id → is_owned (g.pins j).phase ≡ true
-          → (p.phase ≡ (g.pins j).phase) × (p.generation ≡ (g.pins j).generation) × (p.written ≡ (g.pins j).written))
-          (λ o w. let m = mine o w in (m.1, m.2, m.3)) (λ j _ _ _. (refl, refl, refl)) c other owned in
-          record { owner = whose; phase = state.0; generation = state.1; written = state.2; pages = λ p i. refl };
+      owned = λ c _. turned_owned z g id b q owner d is_owned mine c;
       pages = λ c p i _ _ _. refl;
       named = λ s m is. inl is;
       programmer = programmed;
@@ -102,8 +88,8 @@ pub pin_moves : (z : Numbers) (g : World) (id b : ℕ) (q : PinWord) (owner : �
 pin_moves z g id b q owner on mine =
     pin_turns z g id b q owner (deeds g) on mine (λ m _. refl) (λ c n _. refl) (λ n _. lists_stay g (moved g b q owner) id n refl refl)
 
-module _ (z : Numbers) (g : World) (vs : List View) (id : ℕ) (v w : View) (b : ℕ) (q : PinWord) (owner : ℕ) (d : Deeds) (law : Lawful z g vs)
-    (at : get_elem? vs id ≡ some v) where
+module _ {z : Numbers} {g : World} {vs : List View} {id : ℕ} {v : View} (sat : Seated z g vs id v) (w : View) (b : ℕ)
+    (q : PinWord) (owner : ℕ) (d : Deeds) where
   -- the rule after a change of one pin word; a page of this block that a map word names stays where one may name it
   pub pin_turned : Onward z g (turned g b q owner d) id id → LawfulView z (turned g b q owner d) id w
       → ((s : ℕ) (m : MapWord) → s < z.sectors → g.map s ≡ Some m → m.block ≡ b → IsCurrent z g s m
@@ -114,18 +100,18 @@ module _ (z : Numbers) (g : World) (vs : List View) (id : ℕ) (v w : View) (b :
       → weight z w ≡ weight z v → LawfulCeded z (put g.pins b q) (set vs id w) → Lawful z (turned g b q owner d) (set vs id w)
   pin_turned on own nameable here counted keeps weighs ceded =
       let g' = turned g b q owner d in
-      assembled z g g' vs id v w law at on own
-      (λ s low. named_kept z g g' s (law.sectors s low) refl refl (λ m is current.
+      assembled sat on own
+      (λ s low. named_kept (sat.law.sectors s low) refl refl (λ m is current.
       put_all g.pins b q (λ j p. j ≡ m.block → (p.generation ≡ (g.pins j).generation) × (is_nameable p.phase ≡ true) × ((g.pins j).written ≤ p.written)
       × ((k i : ℕ) → k < (g.pins j).written → g.pages j k i ≡ g.pages j k i))
       (λ same. let n = nameable s m low is (sym same) current in (n.0, n.1, n.2, λ k i _. refl))
       (λ j _ same. (refl, ap (λ k. is_nameable (g.pins k).phase) same ∙ current.phase, omega arith, λ k i _. refl)) m.block refl))
-      law.callers
+      sat.law.callers
       (λ c low. dite (ℕ_discrete c b)
       (λ same. subst (λ j. LawfulBlock z g' (set vs id w) j) (sym same) here)
-      (λ unlike. block_kept z g g' vs id v w c at (law.blocks c low) (put_else g.pins b q c unlike) (put_else g.owner b owner c unlike) (λ p i. refl)
+      (λ unlike. block_kept sat w (sat.law.blocks c low) (put_else g.pins b q c unlike) (put_else g.owner b owner c unlike) (λ _ p i. refl)
       (counted c unlike) (keeps c unlike)))
-      law.strangers weighs law.dealt ceded
+      sat.law.strangers weighs sat.law.dealt ceded
 
   -- the same where the block stays nameable if it was
   pub pin_turned_nameable : Onward z g (turned g b q owner d) id id → LawfulView z (turned g b q owner d) id w
@@ -142,19 +128,7 @@ module _ (z : Numbers) (g : World) (vs : List View) (id : ℕ) (v w : View) (b :
       → (q.phase ≡ Free → q.written ≡ 0) → (is_still q.phase ≡ true → (p : ℕ) → q.written ≤ p → p < z.pages → IsBlank z (g.pages b p))
       → (is_owned q.phase ≡ true → (u : View) × (o : Owned) × (get_elem? (set vs id w) owner ≡ some u) × (owned_at b u.owns ≡ Some o))
       → LawfulBlock z (turned g b q owner d) (set vs id w) b
-  block_turned low readers written generation free rest owned =
-      let block = law.blocks b low in
-      let here : put g.pins b q b ≡ q = put_here g.pins b q in
-      record {
-        readers = (let e = ap (λ (p : PinWord). p.readers) here in let r = block.readers in let t = total_set (pins_on b) vs id v w at in omega arith);
-        written = subst (λ (p : PinWord). p.written ≤ z.pages) (sym here) written;
-        generation = subst (λ (p : PinWord). p.generation < z.endurance) (sym here) generation;
-        free = subst (λ (p : PinWord). p.phase ≡ Free → p.written ≡ 0) (sym here) free;
-        rest = subst (λ (p : PinWord). is_still p.phase ≡ true → (k : ℕ) → p.written ≤ k → k < z.pages → IsBlank z (g.pages b k)) (sym here) rest;
-        owner = subst (λ (x : PinWord × ℕ). is_owned x.0.phase ≡ true
-            → (u : View) × (o : Owned) × (get_elem? (set vs id w) x.1 ≡ some u) × (owned_at b u.owns ≡ Some o))
-            (λ i. (sym here i, sym (put_here g.owner b owner) i)) owned;
-      }
+  block_turned low readers written generation free rest owned = grind (arith, put_here, total_set)
 
 -- ---- a block turns: it gets another state, and its seat has it, another entry of it, or no longer
 -- What the seat lists as programmed and erased is all that its player did, which is behind what it had done, while others' lists stay
@@ -209,16 +183,7 @@ pub record IsTurn (z : Numbers) (g : World) (id : ℕ) (v w : View) (b : ℕ) (q
 pub phase_onward : (p : PinWord) (f : Phase) → half_cycle p.phase ≤ half_cycle f → (0 < p.readers → is_intact p.phase ≡ true → is_intact f ≡ true)
     → (is_intact f ≡ true → ¬ (p.phase ≡ Free) → is_intact p.phase ≡ true) → ¬ (f ≡ Free) → (is_shut p.phase ≡ true → is_shut f ≡ true)
     → PinOnward p (record p { phase = f })
-phase_onward p f ages held was taken shut =
-    record {
-      generation = omega arith;
-      age = omega arith;
-      written = λ _. omega arith;
-      held = λ some is. (refl, held some is);
-      was = λ _ is not. was is not;
-      free = λ _ is. absurd (taken is);
-      shut = λ _ is. shut is;
-    }
+phase_onward p f ages held was taken shut = grind arith
 
 -- a turn by which nothing is programmed or erased
 pub none_listed : (z : Numbers) (g : World) (id : ℕ) (v w : View) (b : ℕ) (q : PinWord) → LawfulKind z v → (is_player v.role ≡ false → w.work ≡ None)
@@ -235,36 +200,22 @@ none_listed z g id v w b q kind idle programs erases =
     }
 
 -- a seat that gives a block up owns its others
-pub given_up : (z : Numbers) (g' : World) (id : ℕ) (v w : View) (b : ℕ) → LawfulKind z v → IsOwning z g' id v (record w { owns = without b v.owns }) b
-given_up z g' id v w b kind =
-    record {
-      there = λ c unlike. without_else b c v.owns unlike;
-      here = λ e is. absurd (entry_gone b e v.owns is);
-      opens = λ _ e is. absurd (entry_gone b e v.owns is);
-      owns_none = λ is. ap (λ l. without b l) (kind.owns_none is);
-      reclaims = one_without b v.owns kind.reclaims;
-    }
+pub given_up : {z : Numbers} {g' : World} {id : ℕ} {v : View} (w : View) {b : ℕ} → LawfulKind z v → IsOwning z g' id v (record w { owns = without b v.owns }) b
+given_up {v = v} w {b} kind = grind (arith, without_else, entry_gone, one_without)
 
 -- and one that gets a block, or keeps it in another state, owns it and the others
-pub got : (z : Numbers) (g' : World) (id : ℕ) (v w : View) (o : Owned) → LawfulOwned z g' id w.work w.cleared w.wiped o.block o
+pub got : {z : Numbers} {g' : World} {id : ℕ} {v : View} (w : View) {o : Owned} → LawfulOwned z g' id w.work w.cleared w.wiped o.block o
     → (is_pass v.role ≡ true → o.phase ≡ Open) → ¬ (may_own v.role ≡ false) → ReclaimsOne (with_owned o v.owns)
     → IsOwning z g' id v (record w { owns = with_owned o v.owns }) o.block
-got z g' id v w o fresh opened owner reclaims =
-    record {
-      there = λ c unlike. with_else o c v.owns unlike;
-      here = λ e is. subst (λ (y : Owned). LawfulOwned z g' id w.work w.cleared w.wiped o.block y) (entry_set o e v.owns is) fresh;
-      opens = λ pass e is. sym (ap (λ (y : Owned). y.phase) (entry_set o e v.owns is)) ∙ opened pass;
-      owns_none = λ is. absurd (owner is);
-      reclaims = reclaims;
-    }
+got {z} {g'} {id} {v} w {o} fresh opened owner reclaims = grind (arith, with_else, entry_set)
 
-module _ (z : Numbers) (g : World) (vs : List View) (id : ℕ) (v w : View) (b : ℕ) (q : PinWord) (d : Deeds) (law : Lawful z g vs)
-    (at : get_elem? vs id ≡ some v) where
+module _ {z : Numbers} {g : World} {vs : List View} {id : ℕ} {v : View} (sat : Seated z g vs id v) (w : View) (b : ℕ)
+    (q : PinWord) (d : Deeds) where
   -- the page that is being filled is in another block, if this one isn't open
   pub work_else : ¬ ((g.pins b).phase ≡ Open) → ((c : ℕ) → c ≢ b → owned_at c w.owns ≡ owned_at c v.owns) → (x : Work) → v.work ≡ Some x
       → LawfulWork z (turned g b q id d) w.owns x
   work_else shut there x is =
-      let holds = (law.views id v at).holding in
+      let holds = (view_of sat).holding in
       let k = holds.work x is in
       let unlike : x.page.block ≢ b =
       λ same. shut (ap (λ j. (g.pins j).phase) (sym same) ∙ ((holds.owned x.page.block k.entry k.own).phase ∙ k.opened)) in
@@ -287,12 +238,12 @@ module _ (z : Numbers) (g : World) (vs : List View) (id : ℕ) (v w : View) (b :
   pub turns : b < z.blocks → LawfulCeded z (put g.pins b q) (set vs id turner) → IsTurn z g id v w b q d
       → Lawful z (turned g b q id d) (set vs id turner)
   turns low given t =
-      let h = law.views id v at in
+      let h = view_of sat in
       let holds = h.holding in
       let g' : World = turned g b q id d in
       let on : Onward z g g' id id =
       pin_turns z g id b q id d t.onward (λ other is. absurd (t.alone other is)) t.listing.programmer t.listing.eraser t.listing.lists in
-      let knows = knowledge_kept z g g' id id on v (λ c is below. counted vs law id v at c is below) h.knowledge in
+      let knows = knowledge_kept on sat in
       let elsewhere : (c : ℕ) (e : Owned) → c ≢ b → owned_at c v.owns ≡ Some e → LawfulOwned z g' id w.work w.cleared w.wiped c e = λ c e unlike has.
       let k = holds.owned c e has in
       let fewer = t.no_more.cleared in
@@ -301,34 +252,30 @@ module _ (z : Numbers) (g : World) (vs : List View) (id : ℕ) (v w : View) (b :
       (λ s m is _. inl is) (t.no_more.filling c e has)
       (owned_with k (refl, refl, refl) refl k.rest (λ victim p s below. k.dead victim p s (omega arith))
       (λ erasing p i below most under. k.clean erasing p i below most (omega arith))) in
-      let own : LawfulView z g' id turner = record {
-        kind = kind_with h.kind refl
-            (λ is c e has. dite (ℕ_discrete c b) (λ same. t.owning.opens is e (ap (λ j. owned_at j w.owns) (sym same) ∙ has))
-            (λ unlike. h.kind.opens is c e (sym (t.owning.there c unlike) ∙ has)))
-            (λ is. let n = t.listing.idle is in (n.0, (h.kind.idle is).1, n.1, n.2)) t.owning.owns_none t.owning.reclaims;
-        knowledge = knowledge_with turner knows refl knows.seen knows.pin knows.known
-            (λ n is. t.listing.programs n is (knows.programs n is)) (λ n is. t.listing.erases n is (knows.erases n is));
-        holding = holding_with holds refl refl holds.calls (λ n is. t.listing.listed n is (holds.lists n is))
-            (λ c e has. dite (ℕ_discrete c b)
-            (λ same. subst (λ j. LawfulOwned z g' id w.work w.cleared w.wiped j e) (sym same)
-            (t.owning.here e (ap (λ j. owned_at j w.owns) (sym same) ∙ has)))
-            (λ unlike. elsewhere c e unlike (sym (t.owning.there c unlike) ∙ has)))
-            t.work
-            (λ x is.
-            let k = holds.source x is in
-            let s = t.source x is k in
-            source_with k (t.owning.there x.page.block s.0 ∙ k.own) s.1 (λ _. refl));
-      } in
-      pin_turned z g vs id v turner b q id d law at on own t.named
-      (block_turned z g vs id v turner b q id d law at low (ap (λ n. n + pins_on b v) t.state.readers) t.state.written t.state.generation t.state.free t.rest
-      (λ is. let e = t.owner is in (turner, e.0, seat_set vs id v turner at, e.1)))
+      let opens : is_pass v.role ≡ true → (c : ℕ) (e : Owned) → owned_at c w.owns ≡ Some e → e.phase ≡ Open = grind arith in
+      let idle : is_player v.role ≡ false → (w.work ≡ None) × (v.source ≡ None) × (w.programs ≡ []) × (w.erases ≡ []) = grind arith in
+      let programs : (n : Name) → v.role ≡ Player n → Programs z g' n w.programs = λ n is. t.listing.programs n is (knows.programs n is) in
+      let erases : (n : Name) → v.role ≡ Player n → Erases z g' n w.erases = λ n is. t.listing.erases n is (knows.erases n is) in
+      let lists : (n : Name) → v.role ≡ Player n → (g'.programs n ≡ w.programs) × (g'.erases n ≡ w.erases) = grind arith in
+      let owned : (c : ℕ) (e : Owned) → owned_at c w.owns ≡ Some e → LawfulOwned z g' id w.work w.cleared w.wiped c e = λ c e has.
+      dite (ℕ_discrete c b)
+      (λ same. subst (λ j. LawfulOwned z g' id w.work w.cleared w.wiped j e) (sym same)
+      (t.owning.here e (ap (λ j. owned_at j w.owns) (sym same) ∙ has)))
+      (λ unlike. elsewhere c e unlike (sym (t.owning.there c unlike) ∙ has)) in
+      let source : (x : Source) → v.source ≡ Some x → LawfulSource z g' w.owns w.cleared x = λ x is.
+      let k = holds.source x is in
+      let s = t.source x is k in source_with k (t.owning.there x.page.block s.0 ∙ k.own) s.1 (λ _. refl) in
+      let own : LawfulView z g' id turner = assumption (opens, idle, programs, erases, lists, owned, source, t, knows, h) in
+      pin_turned sat turner b q id d on own t.named
+      (block_turned sat turner b q id d low (ap (λ n. n + pins_on b v) t.state.readers) t.state.written t.state.generation t.state.free t.rest
+      (λ is. let e = t.owner is in (turner, e.0, seat_set vs id v turner sat.at, e.1)))
       (λ c _. refl) (λ c unlike e is. (e, t.owning.there c unlike ∙ is)) refl given
 
 -- ---- take
 free_not : (f : Phase) → f ≡ Free → is_owned f ≡ true → ⊥
-free_not f free is = let e : is_owned f ≡ false = ap is_owned free in let no : true ≡ false = sym is ∙ e in absurd (cc)
+free_not f free is = clash is (ap is_owned free)
 
-module _ (z : Numbers) (g : World) (vs : List View) (id : ℕ) (v : View) (b : ℕ) (law : Lawful z g vs) (at : get_elem? vs id ≡ some v)
+module _ {z : Numbers} {g : World} {vs : List View} {id : ℕ} {v : View} (sat : Seated z g vs id v) (b : ℕ)
     (player : is_player v.role ≡ true) (low : b < z.blocks) where
   abbrev pub newly_owned : Owned
   newly_owned = record { block = b; phase = Open; generation = (g.pins b).generation; written = 0 }
@@ -342,29 +289,24 @@ module _ (z : Numbers) (g : World) (vs : List View) (id : ℕ) (v : View) (b : �
   -- a block that was found free is the seat's
   pub takes : (g.pins b).phase ≡ Free → Lawful z (moved g b taken_state id) (set vs id taker)
   takes free =
-      let h = law.views id v at in
-      let block = law.blocks b low in
-      let fresh : LawfulOwned z (moved g b taken_state id) id v.work v.cleared v.wiped b newly_owned =
-      block_owned z g id b taken_state (deeds g) v.work v.cleared v.wiped newly_owned refl low refl (refl, refl, block.free free)
-      (λ _ p from below _. block.rest (ap is_still free) p (let e = block.free free in omega arith) below) (λ is. absurd (cc)) (λ is. absurd (cc)) in
-      turns z g vs id v taker b taken_state (deeds g) law at low
-      (ceded_owned z g.pins vs id v taker law.ceded at refl b taken_state refl refl refl
+      let h = view_of sat in
+      let block = sat.law.blocks b low in
+      let fresh : LawfulOwned z (moved g b taken_state id) id v.work v.cleared v.wiped b newly_owned = grind arith in
+      turns sat taker b taken_state (deeds g) low
+      (ceded_owned sat taker refl b taken_state refl refl refl
       (inr (refl, (let e : rank (g.pins b).phase ≡ 0 = ap rank free in omega arith), omega arith)))
       (record {
-        onward = phase_onward (g.pins b) Open (let e : half_cycle (g.pins b).phase ≡ 0 = ap half_cycle free in omega arith)
-            (λ _ intact. let no : true ≡ false = sym intact ∙ ap is_intact free in absurd (cc)) (λ _ not. absurd (not free)) (λ is. absurd (cc))
-            (λ is. let no : true ≡ false = sym is ∙ ap is_shut free in absurd (cc));
+        onward = grind arith;
         alone = λ _ is. free_not (g.pins b).phase free is;
         state = record { readers = refl; written = block.written; generation = block.generation; free = λ is. absurd (cc) };
         rest = λ is. absurd (cc);
         owner = λ _. (newly_owned, with_here newly_owned v.owns);
-        named = λ s m _ _ same current. let no : true ≡ false =
-            sym (ap (λ j. is_nameable (g.pins j).phase) (sym same) ∙ current.phase) ∙ ap is_nameable free in absurd (cc);
+        named = λ s m _ _ same current. clash (ap (λ j. is_nameable (g.pins j).phase) (sym same) ∙ current.phase) (ap is_nameable free);
         listing = none_listed z g id v taker b taken_state h.kind (λ is. (h.kind.idle is).0) refl refl;
-        owning = got z (moved g b taken_state id) id v taker newly_owned fresh (λ _. refl)
-            (λ is. let no : true ≡ false = sym (player_may_own v.role player) ∙ is in absurd (cc)) (one_with_open newly_owned v.owns refl h.kind.reclaims);
+        owning = got taker fresh (λ _. refl)
+            (clash (ap may_own (player_of v.role player).1)) (one_with_open newly_owned v.owns refl h.kind.reclaims);
         no_more = record { filling = λ _ _ _ _ _ f. f; cleared = omega arith; wiped = omega arith };
-        work = work_else z g vs id v taker b taken_state (deeds g) law at (λ is. let no : Free ≡ Open = sym free ∙ is in absurd (cc))
+        work = work_else sat taker b taken_state (deeds g) (λ is. let no : Free ≡ Open = sym free ∙ is in absurd (cc))
             (λ c unlike. with_else newly_owned c v.owns unlike);
         source = λ x is k. (
           (λ same.
@@ -377,23 +319,17 @@ module _ (z : Numbers) (g : World) (vs : List View) (id : ℕ) (v : View) (b : �
   -- and another one stays as it was
   pub denied : Lawful z g (set vs id (record v { denied = v.denied ++ b ∷ [] }))
   denied =
-      let h = law.views id v at in
-      still z g vs id v (record v { denied = v.denied ++ b ∷ [] }) law at
-      (record {
-        kind = kind_as h.kind refl refl (refl, refl, refl, refl);
-        knowledge = knowledge_as h.knowledge refl;
-        holding = holding_with h.holding refl refl h.holding.calls h.holding.lists h.holding.owned h.holding.work h.holding.source;
-      })
-      (λ c. refl) refl refl refl refl refl
+      let own : LawfulView z g id (record v { denied = v.denied ++ b ∷ [] }) = assumption (view_of sat) in
+      still sat own (λ c. refl) refl
 
 -- a seat with work is a player's
-pub worker : (z : Numbers) (v : View) (x : Work) → LawfulKind z v → v.work ≡ Some x → (n : Name) × (v.role ≡ Player n)
-worker z v x kind is = ⊎_elim (λ p. player_of v.role p) (λ idle. absurd (none_some x (sym (kind.idle idle).0 ∙ is))) (idle_or_player v.role)
+pub worker : {z : Numbers} {v : View} {x : Work} → LawfulKind z v → v.work ≡ Some x → (n : Name) × (v.role ≡ Player n)
+worker {v = v} {x} kind is = ⊎_elim (λ p. player_of v.role p) (λ idle. absurd (none_some x (sym (kind.idle idle).0 ∙ is))) (grind arith)
 
-module _ (z : Numbers) (g : World) (vs : List View) (id : ℕ) (v : View) (o : Owned) (law : Lawful z g vs) (at : get_elem? vs id ≡ some v)
+module _ {z : Numbers} {g : World} {vs : List View} {id : ℕ} {v : View} {o : Owned} (sat : Seated z g vs id v)
     (own : owned_at o.block v.owns ≡ Some o) (opened : o.phase ≡ Open) where
   entry : LawfulOwned z g id v.work v.cleared v.wiped o.block o
-  entry = (law.views id v at).holding.owned o.block o own
+  entry = (view_of sat).holding.owned o.block o own
 
   pub own_low : o.block < z.blocks
   own_low = entry.low
@@ -427,7 +363,7 @@ module _ (z : Numbers) (g : World) (vs : List View) (id : ℕ) (v : View) (o : O
     -- the page stands at the end of the player's list, and in no other one's
     page_listed : (n : Name) → v.role ≡ Player n → (m : Name) → IsDealt g m → ListsOnward g (count_world n) id m
     page_listed n role m _ =
-        let holds = (law.views id v at).holding in
+        let holds = (view_of sat).holding in
         let its = (holds.lists n role).0 in
         record {
           programs = name_all g.programs n (v.programs ++ x.page ∷ []) (λ k l. Begins (g.programs k) l) (x.page ∷ [], ap (λ l. l ++ x.page ∷ []) its)
@@ -438,8 +374,7 @@ module _ (z : Numbers) (g : World) (vs : List View) (id : ℕ) (v : View) (o : O
 
     -- the page is below the end of its block
     pub page_room : o.written < z.pages
-    page_room = let w = (law.views id v at).holding.work x doing in let low = w.page in let e : x.page.page ≡ (next_page o).page =
-        ap (λ (m : MapWord). m.page) page in omega arith
+    page_room = let w = (view_of sat).holding.work x doing in let low = w.page in let e : x.page.page ≡ (next_page o).page = grind arith in omega arith
 
     -- it was programmed by nobody
     not_done : (m : MapWord) → IsProgrammed (g.pins m.block) m → ¬ ((m.block ≡ o.block) × (m.page ≡ o.written) × (m.generation ≡ o.generation))
@@ -461,8 +396,7 @@ module _ (z : Numbers) (g : World) (vs : List View) (id : ℕ) (v : View) (o : O
         let written = entry.written in
         let its : IsProgrammed q (next_page o) = inr (sym entry.generation, omega arith) in
         let same_name : n ≡ n' = player_same n n' (sym role ∙ role') in
-        let whose : programmed n o.block o.written o.generation ≡ Some (n', k) =
-        put3_here g.programmer o.block o.written o.generation (Some (n, length v.programs)) ∙ λ i. Some (same_name i, sym new.0 i) in
+        let whose : programmed n o.block o.written o.generation ≡ Some (n', k) = grind (arith, put3_here) in
         subst (λ (m : MapWord). (m.block < z.blocks) × IsProgrammed (put g.pins o.block q m.block) m
         × (programmed n m.block m.page m.generation ≡ Some (n', k)))
         (sym page ∙ new.1)
@@ -470,14 +404,11 @@ module _ (z : Numbers) (g : World) (vs : List View) (id : ℕ) (v : View) (o : O
         (get_last v.programs x.page m k is)
 
     counted_block : (n : Name) → LawfulOwned z (count_world n) id v.work v.cleared v.wiped o.block more
-    counted_block n =
-        block_owned z g id o.block counted_state (count_deeds n) v.work v.cleared v.wiped more refl own_low entry.owned
-        (entry.phase, entry.generation, ap (λ k. k + 1) entry.written) (λ is p from below not. entry.rest is p (omega arith) below not)
-        entry.dead entry.clean
+    counted_block n = grind (arith, block_owned, own_low, entry)
 
     counted_work : (n : Name) → LawfulWork z (count_world n) (with_owned more v.owns) x
     counted_work n =
-        let k = (law.views id v at).holding.work x doing in
+        let k = (view_of sat).holding.work x doing in
         let page_is : x.page.page ≡ o.written = ap (λ (m : MapWord). m.page) page in
         record {
           entry = more;
@@ -493,13 +424,13 @@ module _ (z : Numbers) (g : World) (vs : List View) (id : ℕ) (v : View) (o : O
 
     pub counts_page : (n : Name) → v.role ≡ Player n → Lawful z (count_world n) (set vs id counter)
     counts_page n role =
-        let h = law.views id v at in
+        let h = view_of sat in
         let b = o.block in
-        let block = law.blocks b own_low in
+        let block = sat.law.blocks b own_low in
         let room = page_room in
         let written_is = entry.written in
-        turns z g vs id v counter b counted_state (count_deeds n) law at own_low
-        (ceded_owned z g.pins vs id v counter law.ceded at refl b counted_state refl refl (ap is_owned is_open) (inr (refl, omega arith, omega arith)))
+        turns sat counter b counted_state (count_deeds n) own_low
+        (ceded_owned sat counter refl b counted_state refl refl (ap is_owned is_open) (inr (refl, omega arith, omega arith)))
         (record {
           onward = stays_onward (g.pins b) counted_state refl refl (omega arith);
           alone = λ other _. other entry.owner;
@@ -509,22 +440,20 @@ module _ (z : Numbers) (g : World) (vs : List View) (id : ℕ) (v : View) (o : O
             generation = block.generation;
             free = λ is. let e : Open ≡ Free = sym is_open ∙ is in absurd (cc);
           };
-          rest = λ is. let e : false ≡ true = sym (ap is_still is_open) ∙ is in absurd (cc);
+          rest = λ is. clash is (ap is_still is_open);
           owner = λ _. (more, with_here more v.owns);
           named = λ s m _ _ same current. (refl, ap (λ j. is_nameable (g.pins j).phase) (sym same) ∙ current.phase, omega arith);
           listing = record {
-            programmer = λ m done. put3_else g.programmer b o.written o.generation (Some (n, length v.programs)) m.block m.page m.generation
-                (not_done m done);
+            programmer = grind (arith, put3_else, not_done);
             eraser = λ c k _. refl;
-            idle = λ is. let no : true ≡ false = sym (ap is_player role) ∙ is in absurd (cc);
+            idle = clash (ap is_player role);
             programs = program_listed n role;
             erases = λ _ _ old. old;
             lists = page_listed n role;
-            listed = λ n' role' its. subst (λ k. (listed n k ≡ counter.programs) × (g.erases k ≡ v.erases)) (player_same n n' (sym role ∙ role'))
-                (name_here g.programs n (v.programs ++ x.page ∷ []), (h.holding.lists n role).1);
+            listed = grind arith;
           };
-          owning = got z (count_world n) id v counter more (counted_block n) (λ _. opened)
-              (λ is. let no : true ≡ false = sym (ap may_own role) ∙ is in absurd (cc)) (one_with_open more v.owns opened h.kind.reclaims);
+          owning = got counter (counted_block n) (λ _. opened)
+              (clash (ap may_own role)) (one_with_open more v.owns opened h.kind.reclaims);
           no_more = record { filling = λ _ _ _ _ _ f. f; cleared = omega arith; wiped = omega arith };
           work = λ y is. subst (λ (y : Work). LawfulWork z (count_world n) (with_owned more v.owns) y) (some_same x y (sym doing ∙ is)) (counted_work n);
           source = λ y _ k. (blocks_apart v.owns o k.entry y.page.block own k.own (open_victim o k.entry opened k.victim), refl);
@@ -542,30 +471,26 @@ module _ (z : Numbers) (g : World) (vs : List View) (id : ℕ) (v : View) (o : O
 
   pub closes : IsSettled v → Lawful z (moved g o.block closed_state id) (set vs id closer)
   closes settled =
-      let h = law.views id v at in
+      let h = view_of sat in
       let b = o.block in
-      let block = law.blocks b own_low in
+      let block = sat.law.blocks b own_low in
       let phase_is = is_open in
-      let not_filling : (c : ℕ) (e : Owned) → owned_at c v.owns ≡ Some e → (p : ℕ) → e.written ≤ p → IsFilling v.work c p → ⊥ = λ c e owns p from f.
-      let P : ℕ → Type 0 = λ c. owned_at c v.owns ≡ Some e in
-      let s = settled f.work e f.is (subst P (sym f.block) owns) in
-      let l = f.page in absurd (omega arith) in
-      turns z g vs id v closer b closed_state (deeds g) law at own_low
-      (ceded_last z g.pins vs id v closer law.ceded at refl b closed_state own_low
+      let not_filling : (c : ℕ) (e : Owned) → owned_at c v.owns ≡ Some e → (p : ℕ) → e.written ≤ p → IsFilling v.work c p → ⊥ = grind arith in
+      turns sat closer b closed_state (deeds g) own_low
+      (ceded_last sat closer refl b closed_state own_low
       (inr (refl, (let e : rank (g.pins b).phase ≡ 1 = ap rank phase_is in omega arith), omega arith))
       closed_block (λ i. record { block = b; phase = Closed; generation = sym entry.generation i; written = sym entry.written i }) refl
       (sym (append-nil v.drains))
       (may_own_else v.role (λ is. owns_none_else v.owns o own (h.kind.owns_none is))))
       (record {
-        onward = phase_onward (g.pins b) Closed (let e : half_cycle (g.pins b).phase ≡ 0 = ap half_cycle phase_is in omega arith) (λ _ _. refl)
-            (λ _ _. ap is_intact phase_is) (λ is. absurd (cc)) (λ _. refl);
+        onward = grind arith;
         alone = λ other _. other entry.owner;
         state = record { readers = refl; written = block.written; generation = block.generation; free = λ is. absurd (cc) };
         rest = λ _ p from below. let m = entry.written in entry.rest opened p (omega arith) below (λ f. not_filling b o own p (omega arith) f);
         owner = λ is. absurd (cc);
         named = λ s m _ _ _ _. (refl, refl, omega arith);
         listing = none_listed z g id v closer b closed_state h.kind (λ _. refl) refl refl;
-        owning = given_up z (moved g o.block closed_state id) id v closer b h.kind;
+        owning = given_up closer h.kind;
         no_more = record { filling = λ c e owns p from f. absurd (not_filling c e owns p from f); cleared = omega arith; wiped = omega arith };
         work = λ y is. absurd (none_some y is);
         source = λ y _ k. (blocks_apart v.owns o k.entry y.page.block own k.own (open_victim o k.entry opened k.victim), refl);

@@ -1,217 +1,17 @@
 -- What a step leaves as it is to the seat that makes it, and the blocks that the seat owns, with one entry changed.
-use Rattle.flash_rule.proofs.Words.{◌≡◌, ℕ, ◌+◌, ◌*◌, ◌<◌, ◌≤◌, false, true, List, [], Option, None, Some, refl, ap, ◌∙◌, sym, subst, Numbers, PinWord, Free}
-use Rattle.flash_rule.proofs.Words.{Open, Victim, Erasing, Name, Pass, Player, Owned, Work, Source, View, is_pass, is_player, may_own, owned_at, calls_of}
-use Rattle.flash_rule.proofs.Words.{World, IsBlank, blank_word, IsFilling, ReclaimsOne, LawfulKind, LawfulKnowledge, LawfulOwned, LawfulWork, LawfulSource}
-use Rattle.flash_rule.proofs.Words.{LawfulHolding, gone, Begins, LawfulPin, Programs, Erases, age_of, ◌≢◌, zero, suc, ◌⊎◌, inl, inr, ⊎_elim, eq-eqb, ne_eqb}
-use Rattle.flash_rule.proofs.Words.{◌∷◌, ◌++◌, length, slice_get, dite, ℕ_discrete, MapWord, without, with_owned, put, is_reclaimed}
-use Rattle.flash_rule.proofs.Words.{LawfulLoads, LawfulInspection, Inspection}
-use Rattle.flash_rule.proofs.Points.{eq_self}
-use Rattle.std.specs.Prelude.{slice_index}
+use Rattle.flash_rule.proofs.Words.{◌≡◌, ℕ, ◌+◌, ◌*◌, ◌<◌, ◌≤◌, true, List, [], Option, None, Some, refl, ap, ◌∙◌, sym, subst, Numbers, PinWord, Open, Victim}
+use Rattle.flash_rule.proofs.Words.{Erasing, Owned, Work, Source, View, owned_at, World, IsBlank, blank_word, IsFilling, ReclaimsOne, LawfulOwned, LawfulWork}
+use Rattle.flash_rule.proofs.Words.{LawfulSource, ◌≢◌, zero, suc, ◌⊎◌, inl, inr, ⊎_elim, eq-eqb, ne_eqb, ◌∷◌, ◌++◌, length, slice_get, dite, ℕ_discrete}
+use Rattle.flash_rule.proofs.Words.{MapWord, without, with_owned, put, is_reclaimed, LawfulView, Lawful, get_elem?, some}
+use Rattle.flash_rule.proofs.Points.{eq_self, clash}
 
--- what is said of a view's kind, but for its blocks and work
-abbrev kind_of : View → View
-kind_of v = record gone { role = v.role; numbers = v.numbers; known = v.known; pin = v.pin; guest = v.guest; whole = v.whole }
+-- The table meets the rule, and the seat has this view
+pub record Seated (z : Numbers) (g : World) (vs : List View) (id : ℕ) (v : View) : Type 0 where
+  pub law : Lawful z g vs
+  pub at : get_elem? vs id ≡ some v
 
--- what a view knows
-abbrev known_of : View → View
-known_of v = record gone {
-  role = v.role;
-  seen = v.seen;
-  pin = v.pin;
-  known = v.known;
-  programs = v.programs;
-  erases = v.erases;
-  loaded = v.loaded;
-  inspection = v.inspection;
-  copy = v.copy;
-  older = v.older;
-}
-
--- what is said of a seat's name and badges
-abbrev badges_of : View → View
-badges_of v = record gone { role = v.role; whole = v.whole; guest = v.guest; copy = v.copy; passes = v.passes; brooms = v.brooms }
-
-abbrev pub opens_of : View → Type 0
-opens_of v = is_pass v.role ≡ true → (b : ℕ) (o : Owned) → owned_at b v.owns ≡ Some o → o.phase ≡ Open
-
-abbrev pub idle_of : View → Type 0
-idle_of v = is_player v.role ≡ false → (v.work ≡ None) × (v.source ≡ None) × (v.programs ≡ []) × (v.erases ≡ [])
-
--- the kind of a view whose blocks and work may be others
-pub kind_with : {z : Numbers} {v w : View} → LawfulKind z v → kind_of v ≡ kind_of w → opens_of w → idle_of w → (may_own w.role ≡ false → w.owns ≡ [])
-    → ReclaimsOne w.owns → LawfulKind z w
-kind_with {z} {v} {w} h same opens idle owns_none reclaims =
-    let bare : LawfulKind z (kind_of v) = record {
-      numbers = h.numbers;
-      known = h.known;
-      opens = λ _ b o is. absurd (cc);
-      unpinned = h.unpinned;
-      idle = λ _. (refl, refl, refl, refl);
-      owns_none = λ _. refl;
-      reclaims = λ b c o e is. absurd (cc);
-      host = h.host;
-    } in
-    let its : LawfulKind z (kind_of w) = subst (λ (x : View). LawfulKind z x) same bare in
-    record {
-      numbers = its.numbers;
-      known = its.known;
-      opens = opens;
-      unpinned = its.unpinned;
-      idle = idle;
-      owns_none = owns_none;
-      reclaims = reclaims;
-      host = its.host;
-    }
-
--- the kind of a pass whose pin and known ages may be others
-pub kind_reading : {z : Numbers} {v : View} (w : View) → LawfulKind z v → is_pass v.role ≡ true → length w.known ≡ z.blocks
-    → LawfulKind z (record v { seen = w.seen; looks = w.looks; pin = w.pin; known = w.known })
-kind_reading w kind pass long =
-    record {
-      numbers = kind.numbers;
-      host = kind.host;
-      known = λ _. long;
-      opens = kind.opens;
-      unpinned = λ not. let no : true ≡ false = sym pass ∙ not in absurd (cc);
-      idle = kind.idle;
-      owns_none = kind.owns_none;
-      reclaims = kind.reclaims;
-    }
-
--- what a view knows, where nothing of that changes
-pub knowledge_as : {z : Numbers} {g : World} {v w : View} → LawfulKnowledge z g v → known_of v ≡ known_of w → LawfulKnowledge z g w
-knowledge_as {z} {g} {v} {w} h same =
-    let bare : LawfulKnowledge z g (known_of v) = record {
-      seen = h.seen;
-      pin = h.pin;
-      known = h.known;
-      programs = h.programs;
-      erases = h.erases;
-      loads = h.loads;
-      inspection = h.inspection;
-      copy = h.copy;
-      older = h.older;
-      out = h.out;
-    } in
-    let k : LawfulKnowledge z g (known_of w) = subst (λ (x : View). LawfulKnowledge z g x) same bare in
-    record {
-      seen = k.seen;
-      pin = k.pin;
-      known = k.known;
-      programs = k.programs;
-      erases = k.erases;
-      loads = k.loads;
-      inspection = k.inspection;
-      copy = k.copy;
-      older = k.older;
-      out = k.out;
-    }
-
--- what a view knows, where its copies stay
-pub knowledge_with : {z : Numbers} {g : World} {v : View} (w : View) → LawfulKnowledge z g v
-    → known_of (record v { seen = w.seen; pin = w.pin; known = w.known; programs = w.programs; erases = w.erases }) ≡ known_of w → Begins w.seen g.history
-    → LawfulPin z g w.known w.pin → ((b : ℕ) → b < z.blocks → slice_index w.known b ≤ age_of (g.pins b))
-    → ((n : Name) → v.role ≡ Player n → Programs z g n w.programs) → ((n : Name) → v.role ≡ Player n → Erases z g n w.erases) → LawfulKnowledge z g w
-knowledge_with {z} {g} {v} w h same seen pin known programs erases =
-    let learnt : LawfulKnowledge z g (record v { seen = w.seen; pin = w.pin; known = w.known; programs = w.programs; erases = w.erases }) = record {
-      seen = seen;
-      pin = pin;
-      known = known;
-      programs = programs;
-      erases = erases;
-      loads = h.loads;
-      inspection = h.inspection;
-      copy = h.copy;
-      older = h.older;
-      out = h.out;
-    } in
-    knowledge_as learnt same
-
--- what a view knows that has loaded a state, or passed a sector of an inspection
-pub knowledge_noting : {z : Numbers} {g : World} {v : View} (w : View) → LawfulKnowledge z g v
-    → known_of (record v { loaded = w.loaded; inspection = w.inspection }) ≡ known_of w → LawfulLoads z g w.loaded
-    → ((x : Inspection) → w.inspection ≡ Some x → LawfulInspection z g x) → LawfulKnowledge z g w
-knowledge_noting {z} {g} {v} w h same loads inspection =
-    let learnt : LawfulKnowledge z g (record v { loaded = w.loaded; inspection = w.inspection }) = record {
-      seen = h.seen;
-      pin = h.pin;
-      known = h.known;
-      programs = h.programs;
-      erases = h.erases;
-      loads = loads;
-      inspection = inspection;
-      copy = h.copy;
-      older = h.older;
-      out = h.out;
-    } in
-    knowledge_as learnt same
-
--- the kind of a view, where nothing of it changes
-pub kind_as : {z : Numbers} {v w : View} → LawfulKind z v → kind_of v ≡ kind_of w → w.owns ≡ v.owns
-    → (w.work ≡ v.work) × (w.source ≡ v.source) × (w.programs ≡ v.programs) × (w.erases ≡ v.erases) → LawfulKind z w
-kind_as {z} {v} {w} h same owns rest =
-    let r : w.role ≡ v.role = ap (λ (x : View). x.role) (sym same) in
-    kind_with h same
-    (λ is b o own. h.opens (sym (ap is_pass r) ∙ is) b o (ap (λ l. owned_at b l) (sym owns) ∙ own))
-    (λ is. let i = h.idle (sym (ap is_player r) ∙ is) in (rest.0 ∙ i.0, rest.1 ∙ i.1, rest.2 ∙ i.2, rest.3 ∙ i.3))
-    (λ is. owns ∙ h.owns_none (sym (ap may_own r) ∙ is))
-    (subst (λ (l : List Owned). ReclaimsOne l) (sym owns) h.reclaims)
-
--- who sits where, and where the badges are
-abbrev seats_of : World → World
-seats_of g =
-    record {
-      history = [];
-      map = λ _. None;
-      pins = λ _. record { generation = 0; phase = Free; readers = 0; written = 0 };
-      pages = λ _ _ _. 0;
-      owner = λ _. 0;
-      passes = g.passes;
-      brooms = g.brooms;
-      seat = g.seat;
-      programmer = λ _ _ _. None;
-      eraser = λ _ _. None;
-      programs = λ _. [];
-      erases = λ _. [];
-      badge = g.badge;
-      carries = g.carries;
-    }
-
--- what belongs to a seat, where its name and its badges stay
-pub holding_with : {z : Numbers} {g g' : World} {id : ℕ} {v w : View} → LawfulHolding z g id v → seats_of g ≡ seats_of g' → badges_of v ≡ badges_of w
-    → ((t : ℕ) → w.role ≡ Player (Pass t) → (calls_of t g'.history ≡ w.mine) × (calls_of t w.seen ≡ w.mine))
-    → ((n : Name) → w.role ≡ Player n → (g'.programs n ≡ w.programs) × (g'.erases n ≡ w.erases))
-    → ((b : ℕ) (o : Owned) → owned_at b w.owns ≡ Some o → LawfulOwned z g' id w.work w.cleared w.wiped b o)
-    → ((x : Work) → w.work ≡ Some x → LawfulWork z g' w.owns x)
-    → ((x : Source) → w.source ≡ Some x → LawfulSource z g' w.owns w.cleared x) → LawfulHolding z g' id w
-holding_with {z} {g} {g'} {id} {v} {w} h seats badges calls lists owned work source =
-    let bare : LawfulHolding z (seats_of g) id (badges_of v) = record {
-      name = h.name;
-      calls = λ _ _. (refl, refl);
-      lists = λ _ _. (refl, refl);
-      owned = λ b o is. absurd (cc);
-      work = λ x is. absurd (cc);
-      source = λ x is. absurd (cc);
-      whole = h.whole;
-      guest = h.guest;
-      note = h.note;
-      home = h.home;
-      dealer = h.dealer;
-    } in
-    let its : LawfulHolding z (seats_of g') id (badges_of w) = subst (λ (x : World × View). LawfulHolding z x.0 id x.1) (λ i. (seats i, badges i)) bare in
-    record {
-      name = its.name;
-      calls = calls;
-      lists = lists;
-      owned = owned;
-      work = work;
-      source = source;
-      whole = its.whole;
-      guest = its.guest;
-      note = its.note;
-      home = its.home;
-      dealer = its.dealer;
-    }
+pub view_of : {z : Numbers} {g : World} {vs : List View} {id : ℕ} {v : View} → Seated z g vs id v → LawfulView z g id v
+view_of {id = id} {v = v} sat = sat.law.views id v sat.at
 
 -- a page that is being filled, where its words stay
 pub work_with : {z : Numbers} {g g' : World} {owns owns' : List Owned} {x : Work} (h : LawfulWork z g owns x) → owned_at x.page.block owns' ≡ Some h.entry
@@ -284,6 +84,10 @@ owned_as {b = b} h pin owner pages map =
 pub some_same : {X : Type 0} (x y : X) → Some x ≡ Some y → x ≡ y
 some_same x y e = cc
 
+-- an owned block has one entry
+pub one_entry : (owns : List Owned) {o e : Owned} {b c : ℕ} → owned_at b owns ≡ Some o → owned_at c owns ≡ Some e → b ≡ c → o ≡ e
+one_entry owns {o} {e} here there same = some_same o e (sym here ∙ (ap (λ j. owned_at j owns) same ∙ there))
+
 pub none_some : {X : Type 0} (x : X) → ¬ (None ≡ Some x)
 none_some x e = absurd (cc)
 
@@ -351,15 +155,18 @@ put3_else f a b c x i j k apart =
     (λ p. rw (ne_eqb i a p) refl)
 
 -- ---- each entry
+-- what holds of one entry, and of each other one, holds of each
+pub each_of : (P : ℕ → Owned → Type 0) (o : Owned) (owns : List Owned) → owned_at o.block owns ≡ Some o → P o.block o
+    → ((c : ℕ) (e : Owned) → c ≢ o.block → owned_at c owns ≡ Some e → P c e) → (c : ℕ) (e : Owned) → owned_at c owns ≡ Some e → P c e
+each_of P o owns own here there c e is =
+    dite (ℕ_discrete c o.block)
+    (λ same. subst (λ (x : ℕ × Owned). P x.0 x.1) (λ i. (sym same i, one_entry owns own is (sym same) i)) here) (λ unlike. there c e unlike is)
+
 -- what holds of an entry that is set, and of each other one, holds of each
 pub each_with : (P : ℕ → Owned → Type 0) (o : Owned) (owns : List Owned) → P o.block o
     → ((c : ℕ) (e : Owned) → c ≢ o.block → owned_at c owns ≡ Some e → P c e) → (c : ℕ) (e : Owned) → owned_at c (with_owned o owns) ≡ Some e → P c e
-each_with P o owns here there c e is =
-    dite (ℕ_discrete c o.block)
-    (λ same.
-    let its : o ≡ e = some_same o e (sym (with_here o owns) ∙ (ap (λ j. owned_at j (with_owned o owns)) (sym same) ∙ is)) in
-    subst (λ (x : ℕ × Owned). P x.0 x.1) (λ i. (sym same i, its i)) here)
-    (λ unlike. there c e unlike (sym (with_else o c owns unlike) ∙ is))
+each_with P o owns here there =
+    each_of P o (with_owned o owns) (with_here o owns) here (λ c e unlike is. there c e unlike (sym (with_else o c owns unlike) ∙ is))
 
 -- and what holds of each other one, where one is taken out
 pub each_without : (P : ℕ → Owned → Type 0) (b : ℕ) (owns : List Owned) → ((c : ℕ) (e : Owned) → c ≢ b → owned_at c owns ≡ Some e → P c e)
@@ -375,7 +182,7 @@ one_of_fewer : (owns fewer : List Owned) → ((b : ℕ) (o : Owned) → owned_at
 one_of_fewer owns fewer was one b c o e here there first second = one b c o e (was b o here first) (was c e there second) first second
 
 pub not_reclaimed : (o : Owned) → o.phase ≡ Open → is_reclaimed o.phase ≡ true → ⊥
-not_reclaimed o opened is = let no : true ≡ false = sym is ∙ ap is_reclaimed opened in absurd (cc)
+not_reclaimed o opened is = clash is (ap is_reclaimed opened)
 
 -- an own block that opens, or another entry of an open one
 pub one_with_open : (o : Owned) (owns : List Owned) → o.phase ≡ Open → ReclaimsOne owns → ReclaimsOne (with_owned o owns)

@@ -1,13 +1,11 @@
 -- Steps on page words: put and get.
 use Rattle.flash_rule.proofs.Words.{◌≡◌, ◌≢◌, ℕ, ◌*◌, ◌<◌, ◌≤◌, inl, inr, ⊎_elim, eq-eqb, ne_eqb, true, false, List, [], ◌∷◌, ◌++◌, Option, None, Some, length}
-use Rattle.flash_rule.proofs.Words.{set, sym, refl, ap, ◌∙◌, subst, arith, length-append, get_or, some, dite, ℕ_discrete, get_elem?, Numbers, MapWord, Open}
-use Rattle.flash_rule.proofs.Words.{Erasing, Pin, Owned, Pass, Broom, Role, Dealer, Player, Note, Gone, Clear, Accepted, Work, Carried, View, is_pass}
-use Rattle.flash_rule.proofs.Words.{is_player, owned_at, World, put_word, is_still, age_of, data_word, IsFilling, LawfulOwned, LawfulWork, LawfulView, Lawful}
-use Rattle.flash_rule.proofs.Words.{LawfulPin, Onward, next_page, words_in, ◌+◌, Begins-refl}
-use Rattle.flash_rule.proofs.{Points.eq_self, Ceding.ceded_still, Still.pass_of, Still.intact_age, Still.met, Still.programs_once, Still.onward_called}
-use Rattle.flash_rule.proofs.Owning.{some_same, blocks_apart, open_victim, holding_with, kind_with, knowledge_as, owned_with, source_with, put3, put3_here}
-use Rattle.flash_rule.proofs.Owning.{put3_else}
-use Rattle.flash_rule.proofs.Frames.{counted, knowledge_kept, assembled, block_kept, sector_kept}
+use Rattle.flash_rule.proofs.Words.{set, sym, refl, ap, ◌∙◌, subst, arith, length-append, get_or, dite, ℕ_discrete, Numbers, MapWord, Open, Erasing, Pin, Owned}
+use Rattle.flash_rule.proofs.Words.{Pass, Accepted, Work, Carried, View, is_player, owned_at, World, put_word, is_still, age_of, data_word, IsFilling}
+use Rattle.flash_rule.proofs.Words.{LawfulOwned, LawfulWork, LawfulView, Lawful, LawfulPin, Onward, next_page, words_in, ◌+◌, Begins-refl, Source, LawfulSource}
+use Rattle.flash_rule.proofs.{Points.eq_self, Points.clash, Frames.knowledge_kept, Frames.sector_kept}
+use Rattle.flash_rule.proofs.Still.{pass_of, met, programs_once, onward_called, no_turn, intact_age}
+use Rattle.flash_rule.proofs.Owning.{some_same, blocks_apart, open_victim, owned_with, source_with, put3, put3_here, put3_else, each_of, Seated, view_of}
 use Rattle.flash_rule.specs.Plays.{SettledBut, Spared}
 use Rattle.std.proofs.lemmas.List.{get_or_append_left, get_or_push}
 
@@ -21,12 +19,7 @@ word_else f b p i x c q j apart = put3_else f b p i x c q j apart
 
 -- a block whose work is counted has no words in its next page
 pub words_none : (d : Option Work) (o : Owned) → ((x : Work) → d ≡ Some x → x.page.block ≡ o.block → x.page.page < o.written) → words_in d o ≡ []
-words_none None o counted = refl
-words_none (Some x) o counted =
-    dite (ℕ_discrete x.page.block o.block)
-    (λ here. let low = counted x refl here in
-    let other : x.page.page ≢ o.written = omega arith in rw (eq-eqb x.page.block o.block here) (rw (ne_eqb x.page.page o.written other) refl))
-    (λ else. rw (ne_eqb x.page.block o.block else) refl)
+words_none d o counted = grind arith
 
 pub words_here : (o : Owned) (words : List ℕ) → words_in (Some (record { page = next_page o; words = words })) o ≡ words
 words_here o words = rw (eq_self o.block) (rw (eq_self o.written) refl)
@@ -44,14 +37,13 @@ words_stand z g owns (Some w) o lawful j low =
     let within : j < length w.words = subst (λ (l : List ℕ). j < length l) here low in
     ap (λ c. g.pages c (next_page o).page j) (sym b)
     ∙ (ap (λ c. g.pages w.page.block c j) (sym p) ∙ ((lawful w refl).stands j within ∙ ap (λ (l : List ℕ). get_or l j 0) (sym here))))
-    (λ p. let none : words_in (Some w) o ≡ [] = rw (eq-eqb w.page.block o.block b) (rw (ne_eqb w.page.page (next_page o).page p) refl) in
-    absurd (nothing j (subst (λ (l : List ℕ). j < length l) none low))))
+    (grind arith))
     (λ b. let none : words_in (Some w) o ≡ [] = rw (ne_eqb w.page.block o.block b) refl in absurd (nothing j (subst (λ (l : List ℕ). j < length l) none low)))
   where
     nothing : (j : ℕ) → j < 0 → ⊥
     nothing j low = omega arith
 
-module _ (z : Numbers) (g : World) (vs : List View) (id : ℕ) (v : View) (o : Owned) (x : ℕ) (law : Lawful z g vs) (at : get_elem? vs id ≡ some v)
+module _ {z : Numbers} {g : World} {vs : List View} {id : ℕ} {v : View} {o : Owned} (sat : Seated z g vs id v) (x : ℕ)
     (player : is_player v.role ≡ true) (own : owned_at o.block v.owns ≡ Some o) (opened : o.phase ≡ Open) where
   abbrev pub put_at : ℕ
   put_at = length (words_in v.work o)
@@ -66,7 +58,7 @@ module _ (z : Numbers) (g : World) (vs : List View) (id : ℕ) (v : View) (o : O
   put_world = record g { pages = put_word g.pages o.block (next_page o).page put_at x }
 
   entry : LawfulOwned z g id v.work v.cleared v.wiped o.block o
-  entry = (law.views id v at).holding.owned o.block o own
+  entry = (view_of sat).holding.owned o.block o own
 
   else_block : (c q j : ℕ) → c ≢ o.block → put_world.pages c q j ≡ g.pages c q j
   else_block c q j unlike = word_else g.pages o.block (next_page o).page put_at x c q j (λ same. unlike same.0)
@@ -75,15 +67,12 @@ module _ (z : Numbers) (g : World) (vs : List View) (id : ℕ) (v : View) (o : O
   else_page c q j unlike = word_else g.pages o.block (next_page o).page put_at x c q j (λ same. unlike same.1)
 
   programmed_stays : (c q j : ℕ) → q < (g.pins c).written → put_world.pages c q j ≡ g.pages c q j
-  programmed_stays c q j low =
-      word_else g.pages o.block (next_page o).page put_at x c q j (λ same.
-      let l : q < (g.pins o.block).written = subst (λ c. q < (g.pins c).written) same.0 low in
-      let w = entry.written in let e = same.1 in absurd (omega arith))
+  programmed_stays c q j low = grind (arith, word_else, entry)
 
   -- no later page of the block is being filled
   filling_none : (q : ℕ) → (next_page o).page ≤ q → q ≢ (next_page o).page → IsFilling v.work o.block q → ⊥
   filling_none q from later f =
-      let k = (law.views id v at).holding.work f.work f.is in
+      let k = (view_of sat).holding.work f.work f.is in
       let same : k.entry ≡ o = some_same k.entry o (sym k.own ∙ subst (λ c. owned_at c v.owns ≡ Some o) (sym f.block) own) in
       let e : k.entry.written ≡ o.written = ap (λ (y : Owned). y.written) same in
       let l = f.page in
@@ -115,107 +104,68 @@ module _ (z : Numbers) (g : World) (vs : List View) (id : ℕ) (v : View) (o : O
         short = omega arith;
         full = λ low. absurd (omega arith);
         stands = λ j low. dite (ℕ_discrete j put_at)
-            (λ last. ap (λ k. put_word g.pages o.block p put_at x o.block p k) last
-            ∙ (word_here g.pages o.block p put_at x ∙ sym (get_or_push words x 0 j (sym last))))
+            (grind (arith, word_here, get_or_push))
             (λ other.
             let within : j < length words = omega arith in
             word_else g.pages o.block p put_at x o.block p j (λ same. other same.2)
-            ∙ (words_stand z g v.owns v.work o (law.views id v at).holding.work j within ∙ sym (get_or_append_left words (x ∷ []) 0 j within)));
+            ∙ (words_stand z g v.owns v.work o (view_of sat).holding.work j within ∙ sym (get_or_append_left words (x ∷ []) 0 j within)));
       }
 
   pub puts_word : o.written < z.pages → put_at ≤ z.words → SettledBut v o.block → Lawful z put_world (set vs id putter)
   puts_word room short settled =
-      let h = law.views id v at in
+      let h = view_of sat in
       let b = o.block in
       let g' = put_world in
       let mine = entry in
-      let on : Onward z g g' id id = onward_called z g id id g.history g.map g'.pages g.badge g.carries (Begins-refl g.history) (λ _ _. refl)
+      let on : Onward z g g' id id = onward_called (Begins-refl g.history) (λ _ _. refl)
       (λ c other q j. else_block c q j (λ same. other (ap g.owner same ∙ mine.owner)))
       (λ c q j _ low. programmed_stays c q j low) (λ s m is. inl is) (λ n _ _. (refl, refl)) (λ n c is. inl is) in
-      let knows = knowledge_kept z g g' id id on v (λ c is below. counted vs law id v at c is below) h.knowledge in
-      let not_filling : (c q : ℕ) (e : Owned) → owned_at c v.owns ≡ Some e → c ≢ b → e.written ≤ q → IsFilling v.work c q → ⊥ = λ c q e owns unlike from f.
-      let s = settled f.work e f.is (subst (λ c. owned_at c v.owns ≡ Some e) (sym f.block) owns) (λ same. unlike (sym f.block ∙ same)) in
-      let l = f.page in absurd (omega arith) in
-      let after : LawfulView z g' id putter = record {
-        kind = kind_with h.kind refl h.kind.opens
-            (λ is. let no : true ≡ false = sym player ∙ is in absurd (cc))
-            h.kind.owns_none h.kind.reclaims;
-        knowledge = knowledge_as knows refl;
-        holding = holding_with h.holding refl refl h.holding.calls h.holding.lists
-            (λ c e owns. dite (ℕ_discrete c b)
-            (λ same.
-            let same_entry : o ≡ e = some_same o e (sym own ∙ subst (λ c. owned_at c v.owns ≡ Some e) same owns) in
-            subst (λ (y : ℕ × Owned). LawfulOwned z g' id (Some put_work) v.cleared v.wiped y.0 y.1) (λ t. (sym same t, same_entry t)) put_block)
-            (λ unlike.
-            let k = h.holding.owned c e owns in
-            owned_with k (refl, refl, refl) refl
-            (λ is q from below _ j most. else_block c q j unlike ∙ k.rest is q from below (λ f. not_filling c q e owns unlike from f) j most)
-            k.dead
-            (λ is q j low most below. else_block c q j unlike ∙ k.clean is q j low most below)))
-            (λ y is. subst (λ (y : Work). LawfulWork z g' v.owns y) (some_same put_work y is) (put_lawful room short))
-            (λ y is.
-            let k = h.holding.source y is in
-            let unlike = blocks_apart v.owns o k.entry y.page.block own k.own (open_victim o k.entry opened k.victim) in
-            source_with k k.own refl (λ j. else_block y.page.block y.page.page j unlike));
-      } in
-      assembled z g g' vs id v putter law at on after
-      (λ s low. sector_kept z g g' s (law.sectors s low) refl refl (λ c below named. (refl, named, omega arith, λ q j written. programmed_stays c q j written)))
-      law.callers
-      (λ c low. dite (ℕ_discrete c b)
-      (λ same.
-      let k = block_kept z g g vs id v putter c at (law.blocks c low) refl refl (λ q j. refl) refl (λ e is. (e, is)) in
-      record {
-        readers = k.readers;
-        written = k.written;
-        generation = k.generation;
-        free = k.free;
-        rest = λ is. let e : false ≡ true = sym (ap (λ j. is_still (g.pins j).phase) same ∙ ap is_still (mine.phase ∙ opened)) ∙ is in absurd (cc);
-        owner = k.owner;
-      })
-      (λ unlike. block_kept z g g' vs id v putter c at (law.blocks c low) refl refl (λ q j. else_block c q j unlike) refl (λ e is. (e, is))))
-      law.strangers refl law.dealt (ceded_still z g.pins vs id v putter law.ceded at refl refl refl)
+      let not_filling : (c q : ℕ) (e : Owned) → owned_at c v.owns ≡ Some e → c ≢ b → e.written ≤ q → IsFilling v.work c q → ⊥ = grind arith in
+      let idle : is_player v.role ≡ false → (Some put_work ≡ None) × (v.source ≡ None) × (v.programs ≡ []) × (v.erases ≡ []) = clash player in
+      let owned : (c : ℕ) (e : Owned) → owned_at c v.owns ≡ Some e → LawfulOwned z g' id (Some put_work) v.cleared v.wiped c e =
+      each_of (λ c e. LawfulOwned z g' id (Some put_work) v.cleared v.wiped c e) o v.owns own put_block (λ c e unlike owns.
+      let k = h.holding.owned c e owns in
+      owned_with k (refl, refl, refl) refl
+      (λ is q from below _ j most. else_block c q j unlike ∙ k.rest is q from below (λ f. not_filling c q e owns unlike from f) j most)
+      k.dead
+      (λ is q j low most below. else_block c q j unlike ∙ k.clean is q j low most below)) in
+      let work : (y : Work) → Some put_work ≡ Some y → LawfulWork z g' v.owns y = grind (arith, some_same, put_lawful) in
+      let source : (y : Source) → v.source ≡ Some y → LawfulSource z g' v.owns v.cleared y = λ y is.
+      let k = h.holding.source y is in
+      let unlike = blocks_apart v.owns o k.entry y.page.block own k.own (open_victim o k.entry opened k.victim) in
+      source_with k k.own refl (λ j. else_block y.page.block y.page.page j unlike) in
+      let after : LawfulView z g' id putter = assumption (idle, owned, work, source, knowledge_kept on sat, h) in
+      no_turn sat on after (λ c. refl) refl
+      (λ s low. sector_kept (sat.law.sectors s low) refl refl (λ c below named. (refl, named, omega arith, λ q j written. programmed_stays c q j written)))
+      sat.law.callers
+      (λ c still q j. else_block c q j (λ same. clash still (ap (λ j. is_still (g.pins j).phase) same ∙ ap is_still (mine.phase ∙ opened))))
+      sat.law.strangers
 
 -- ---- get
 
 -- an accepted pin's page is what it was at the look
-pub gets_accepted : (z : Numbers) (g : World) (vs : List View) (id : ℕ) (v : View) (m : MapWord) (value : List ℕ) → Lawful z g vs
-    → get_elem? vs id ≡ some v → v.pin ≡ Accepted m value
+pub gets_accepted : {z : Numbers} {g : World} {vs : List View} {id : ℕ} {v : View} {m : MapWord} {value : List ℕ} → Seated z g vs id v
+    → v.pin ≡ Accepted m value
     → (m.block < z.blocks) × (m.page < z.pages) × ((i : ℕ) → i < z.words → g.pages m.block m.page i ≡ data_word value i)
-gets_accepted z g vs id v m value law at is =
-    let c = subst (λ (p : Pin). LawfulPin z g v.known p) is (law.views id v at).knowledge.pin in
+gets_accepted {z} {g} {v = v} {m} sat is =
+    let c = subst (λ (p : Pin). LawfulPin z g v.known p) is (view_of sat).knowledge.pin in
     let low = c.written in
-    let most = (law.blocks m.block c.block).written in (c.block, omega arith, c.stands)
-
--- only a pass has pinned a page
-pins_by_pass : (r : Role) (pin : Pin) (m : MapWord) (value : List ℕ) → (is_pass r ≡ false → pin ≡ Clear) → pin ≡ Accepted m value → is_pass r ≡ true
-pins_by_pass r pin m value free is = by_role r free where
-  not_clear : pin ≡ Clear → ⊥
-  not_clear clear = let e : Clear ≡ Accepted m value = sym clear ∙ is in absurd (cc)
-
-  by_role : (r : Role) → (is_pass r ≡ false → pin ≡ Clear) → is_pass r ≡ true
-  by_role (Player (Pass t)) free = refl
-  by_role (Player (Broom i)) free = absurd (not_clear (free refl))
-  by_role Dealer free = absurd (not_clear (free refl))
-  by_role Note free = absurd (not_clear (free refl))
-  by_role Gone free = absurd (not_clear (free refl))
+    let most = (sat.law.blocks m.block c.block).written in (c.block, omega arith, c.stands)
 
 -- while a page is pinned, nobody erases its block
-pub spared : (z : Numbers) (g : World) (vs : List View) (id : ℕ) (v : View) (m : MapWord) (value : List ℕ) (c : Carried) → Lawful z g vs
-    → get_elem? vs id ≡ some v → v.pin ≡ Accepted m value → v.copy ≡ Some c → Spared v m c
-spared z g vs id v m value c law at pinned copied =
-    let h = law.views id v at in
-    let t = pass_of v.role (pins_by_pass v.role v.pin m value h.kind.unpinned pinned) in
+pub spared : {z : Numbers} {g : World} {vs : List View} {id : ℕ} {v : View} {m : MapWord} {value : List ℕ} {c : Carried} → Seated z g vs id v
+    → v.pin ≡ Accepted m value → v.copy ≡ Some c → Spared v m c
+spared {z} {g} {v = v} {m} {value} {c} sat pinned copied =
+    let h = view_of sat in
+    let t = pass_of v.role (grind (arith, h.kind.unpinned, pinned)) in
     let a = subst (λ (p : Pin). LawfulPin z g v.known p) pinned h.knowledge.pin in
     let copy = h.knowledge.copy c copied in
-    let apart = met z g v (Pass t.0) c t.1 h.knowledge copy in
+    let apart = met t.1 h.knowledge copy in
     let age : age_of (g.pins m.block) ≡ 2 * (g.pins m.block).generation = intact_age (g.pins m.block) a.intact.phase in
     record {
       other = copy.other;
       programs = apart.1;
       programmed_once = (programs_once z g (Pass t.0) v.programs (h.knowledge.programs (Pass t.0) t.1), programs_once z g c.of c.programs copy.programs);
-      erases = λ k x is same.
-          let begun = (copy.erases k x is).1 in
-          let here : age_of (g.pins x.block) ≡ age_of (g.pins m.block) = ap (λ b. age_of (g.pins b)) same in
-          let generation = a.intact.same in omega arith;
+      erases = grind arith;
       newer = λ o was. h.knowledge.older o c was copied;
     }

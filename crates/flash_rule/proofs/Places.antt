@@ -1,8 +1,7 @@
 -- Each word of the table has one place, so a change of one word changes the map, the pins or the pages at one point.
 use Rattle.flash_rule.proofs.Words.{◌≡◌, ◌≢◌, ℕ, zero, suc, ◌+◌, ◌*◌, ◌<◌, ◌≤◌, List, [], ◌∷◌, Option, set, sym, refl, ap, ◌∙◌, subst, arith, length-set}
 use Rattle.flash_rule.proofs.Words.{suc-mul, get_or, get_or-set_same, get_or-set_other, dite, dec_lt, Numbers, pin_index, page_index, pin_word, MapWord}
-use Rattle.flash_rule.proofs.Words.{PinWord, put, put_word, sector_word, Fits}
-use Rattle.flash_rule.proofs.Points.{put_all}
+use Rattle.flash_rule.proofs.{Words.PinWord, Words.put, Words.put_word, Words.sector_word, Words.Fits, Points.put_all}
 use Rattle.std.proofs.Common.{mul-le-mul_right}
 use Rattle.geometry.specs.Limits.{table_words_of}
 
@@ -33,9 +32,7 @@ pin_within z b low = omega arith
 
 pub page_within : (z : Numbers) (b p i : ℕ) → b < z.blocks → p < z.pages → i ≤ z.words
     → page_index z b p + i < table_words_of z.blocks z.pages z.words z.sectors
-page_within z b p i b_low p_low i_low =
-    let r = row_within b z.blocks z.pages p b_low p_low in
-    let t = row_within (b * z.pages + p) (z.blocks * z.pages) (z.words + 1) i r (omega arith) in omega arith
+page_within z b p i b_low p_low i_low = grind arith
 
 module _ (z : Numbers) (m : ℕ → Option MapWord) (q : ℕ → PinWord) (r : ℕ → ℕ → ℕ → ℕ) (ws : List ℕ) (fits : Fits z m q r ws) where
   at_else : (k x j : ℕ) → j ≢ k → get_or (set ws k x) j 0 ≡ get_or ws j 0
@@ -60,9 +57,7 @@ module _ (z : Numbers) (m : ℕ → Option MapWord) (q : ℕ → PinWord) (r : �
       record {
         size = length-set ws k n ∙ fits.size;
         sectors = λ s below. at_else k n s (λ e. absurd (omega arith)) ∙ fits.sectors s below;
-        blocks = λ c below. put_all q b x (λ j y. j < z.blocks → get_or (set ws k n) (pin_index z j) 0 ≡ pin_word y)
-            (λ h. at_here k n (pin_within z b low))
-            (λ j apart h. at_else k n (pin_index z j) (λ e. apart (omega arith)) ∙ fits.blocks j h) c below;
+        blocks = grind (arith, put_all, at_here, pin_within, at_else, fits);
         pages = λ c p i c_low p_low i_low. at_else k n (page_index z c p + i) (λ e. absurd (omega arith)) ∙ fits.pages c p i c_low p_low i_low;
       }
 
@@ -72,8 +67,7 @@ module _ (z : Numbers) (m : ℕ → Option MapWord) (q : ℕ → PinWord) (r : �
       let n = sector_word x in
       record {
         size = length-set ws s n ∙ fits.size;
-        sectors = λ t below. put_all m s x (λ j y. j < z.sectors → get_or (set ws s n) j 0 ≡ sector_word y) (λ h. at_here s n (omega arith))
-            (λ j apart h. at_else s n j apart ∙ fits.sectors j h) t below;
+        sectors = grind (arith, put_all, at_here, at_else, fits);
         blocks = λ c below. at_else s n (pin_index z c) (λ e. absurd (omega arith)) ∙ fits.blocks c below;
         pages = λ c p i c_low p_low i_low. at_else s n (page_index z c p + i) (λ e. absurd (omega arith)) ∙ fits.pages c p i c_low p_low i_low;
       }

@@ -1,61 +1,51 @@
 -- A broom's steps on a pin word: what the six have in common; claim, condemn and drain; free, keep and retire.
-use Rattle.flash_rule.proofs.Words.{◌≡◌, ◌≢◌, ℕ, ◌*◌, ◌<◌, ◌≤◌, inl, true, false, List, [], Option, None, Some, set, sym, refl, ap, ◌∙◌, subst, arith, some}
-use Rattle.flash_rule.proofs.Words.{get_elem?, Begins, Numbers, Begins-refl, PinWord, Free, Open, Name, Player, Owned, Source, Cycle, View, is_pass, may_own}
-use Rattle.flash_rule.proofs.Words.{owned_at, without, with_owned, World, put, is_owned, is_nameable, is_still, age_of, IsBlank, Erases, LawfulOwned}
-use Rattle.flash_rule.proofs.Words.{LawfulSource, Lawful, PinOnward, ◌+◌, inr, ⊎_elim, ◌∷◌, ◌++◌, length, slice_get, Closed, Victim, Drained, Erasing, is_broom}
-use Rattle.flash_rule.proofs.Words.{put_name, is_intact, half_cycle, rank, owned_as, cycle_of, CanDrain, Retired, freed_as, IsErasing, CanRenew, LawfulLoads}
-use Rattle.flash_rule.proofs.Words.{Numbers}
-use Rattle.flash_rule.proofs.{Inspecting.inspected_dead, Still.still, Places.row_within, Ceding.ceded_owned, Ceding.ceded_last}
-use Rattle.flash_rule.proofs.Points.{owner_live, player_same, broom_player, broom_no_pass, broom_may_own, may_own_else, put_here, name_here, name_else}
-use Rattle.flash_rule.proofs.Points.{name_all}
-use Rattle.flash_rule.proofs.Owning.{owns_none_else, some_same, none_some, with_here, without_else, with_else, holding_with, kind_as, knowledge_noting}
-use Rattle.flash_rule.proofs.Owning.{one_at_rest, get_last, put2, put2_here, put2_else, one_with_open, blocks_apart}
+use Rattle.flash_rule.proofs.Words.{◌≡◌, ℕ, ◌<◌, ◌≤◌, inl, true, false, List, [], Option, None, Some, set, sym, refl, ap, ◌∙◌, subst, arith, Begins, Numbers}
+use Rattle.flash_rule.proofs.Words.{Begins-refl, PinWord, Free, Open, Name, Player, Owned, Source, Cycle, View, is_pass, may_own, owned_at, without, with_owned}
+use Rattle.flash_rule.proofs.Words.{World, is_owned, is_nameable, is_still, IsBlank, Erases, LawfulOwned, Lawful, PinOnward, ◌+◌, inr, ⊎_elim, ◌∷◌, ◌++◌}
+use Rattle.flash_rule.proofs.Words.{length, slice_get, Closed, Victim, Drained, Erasing, is_broom, put_name, is_intact, half_cycle, rank, owned_as, cycle_of}
+use Rattle.flash_rule.proofs.Words.{CanDrain, Retired, freed_as, IsErasing, CanRenew, LawfulLoads, LawfulView}
+use Rattle.flash_rule.proofs.{Inspecting.inspected_dead, Places.row_within, Owning.put2_else, Still.still, Ceding.ceded_owned, Ceding.ceded_last}
+use Rattle.flash_rule.proofs.Owning.{one_with_open, owns_none_else, with_here, without_else, with_else, Seated, view_of, one_at_rest, get_last, put2, put2_here}
+use Rattle.flash_rule.proofs.Points.{name_all, clash, owner_live, player_same, broom_player, may_own_else, put_here, name_else, broom_of}
 use Rattle.flash_rule.proofs.OwnSteps.{IsState, phase_onward, Deeds, deeds, turned, block_owned, IsListed, turns, IsOwning, given_up, got, moved, none_listed}
-use Rattle.flash_rule.proofs.OwnSteps.{work_else, IsTurn}
-use Rattle.flash_rule.specs.BroomPlays.{IsAtRest}
+use Rattle.flash_rule.{proofs.OwnSteps.work_else, proofs.OwnSteps.IsTurn, specs.BroomPlays.IsAtRest}
 use Rattle.std.proofs.lemmas.List.{append-nil}
 
-module _ (z : Numbers) (g : World) (vs : List View) (id : ℕ) (v : View) (law : Lawful z g vs) (at : get_elem? vs id ≡ some v) where
+module _ {z : Numbers} {g : World} {vs : List View} {id : ℕ} {v : View} (sat : Seated z g vs id v) where
   -- a block in a phase without an owner isn't the seat's
   pub unowned : (b : ℕ) → is_owned (g.pins b).phase ≡ false → owned_at b v.owns ≡ None
   unowned b nobodys = by_entry (owned_at b v.owns) refl where
     by_entry : (x : Option Owned) → owned_at b v.owns ≡ x → x ≡ None
     by_entry None is = refl
     by_entry (Some o) is =
-        let k = (law.views id v at).holding.owned b o is in
-        let no : true ≡ false = sym k.owned ∙ (ap is_owned (sym k.phase) ∙ nobodys) in absurd (cc)
+        let k = (view_of sat).holding.owned b o is in
+        clash k.owned (ap is_owned (sym k.phase) ∙ nobodys)
 
   -- a broom's state step, and an exchange of a pin word that found another word, change no word and only these lists
   pub notes : (loaded : List (ℕ × ℕ)) (lost busy stale : List ℕ) → LawfulLoads z g loaded
       → Lawful z g (set vs id (record v { loaded = loaded; lost = lost; busy = busy; stale = stale }))
   notes loaded lost busy stale loads =
-      let h = law.views id v at in
-      still z g vs id v (record v { loaded = loaded; lost = lost; busy = busy; stale = stale }) law at
-      (record {
-        kind = kind_as h.kind refl refl (refl, refl, refl, refl);
-        knowledge = knowledge_noting (record v { loaded = loaded; lost = lost; busy = busy; stale = stale }) h.knowledge refl loads h.knowledge.inspection;
-        holding = holding_with h.holding refl refl h.holding.calls h.holding.lists h.holding.owned h.holding.work h.holding.source;
-      })
-      (λ c. refl) refl refl refl refl refl
+      let own : LawfulView z g id (record v { loaded = loaded; lost = lost; busy = busy; stale = stale }) = assumption (loads, view_of sat) in
+      still sat own (λ c. refl) refl
 
 -- the deeds of a table with other erases
 abbrev pub erased_as : World → (ℕ → ℕ → Option (Name × ℕ)) → (Name → List Cycle) → Deeds
 erased_as g eraser erases = record (deeds g) { eraser = eraser; erases = erases }
 
 -- ---- what a seat at rest has
-module _ (z : Numbers) (g : World) (vs : List View) (id : ℕ) (v : View) (b : ℕ) (law : Lawful z g vs) (at : get_elem? vs id ≡ some v)
+module _ {z : Numbers} {g : World} {vs : List View} {id : ℕ} {v : View} (sat : Seated z g vs id v) (b : ℕ)
     (broom : is_broom v.role ≡ true) (low : b < z.blocks) (rested : IsAtRest v) where
   -- no source
   no_source : (x : Source) → v.source ≡ Some x → ⊥
   no_source x is =
-      let k = (law.views id v at).holding.source x is in
+      let k = (view_of sat).holding.source x is in
       let no : Open ≡ Victim = sym (rested x.page.block k.entry k.own) ∙ k.victim in absurd (cc)
 
   not_pass : is_pass v.role ≡ true → ⊥
-  not_pass is = let no : true ≡ false = sym is ∙ broom_no_pass v.role broom in absurd (cc)
+  not_pass is = clash is (ap is_pass (broom_of v.role broom).1)
 
   owns_some : may_own v.role ≡ false → ⊥
-  owns_some is = let no : true ≡ false = sym (broom_may_own v.role broom) ∙ is in absurd (cc)
+  owns_some = clash (ap may_own (broom_of v.role broom).1)
 
   -- ---- claim
   abbrev pub claimed_block : Owned
@@ -70,27 +60,24 @@ module _ (z : Numbers) (g : World) (vs : List View) (id : ℕ) (v : View) (b : �
   -- a closed block is the broom's victim
   pub claims : (g.pins b).phase ≡ Closed → Lawful z (moved g b claimed_state id) (set vs id claimer)
   claims closed =
-      let block = law.blocks b low in
+      let block = sat.law.blocks b low in
       let q : PinWord = claimed_state in
-      let fresh : LawfulOwned z (moved g b claimed_state id) id v.work 0 v.wiped b claimed_block =
-      block_owned z g id b q (deeds g) v.work 0 v.wiped claimed_block refl low refl (refl, refl, refl) (λ is. absurd (cc))
-      (λ _ p s below. absurd (omega arith)) (λ is. absurd (cc)) in
-      turns z g vs id v claimer b q (deeds g) law at low
-      (ceded_owned z g.pins vs id v claimer law.ceded at refl b q refl refl refl
+      let fresh : LawfulOwned z (moved g b claimed_state id) id v.work 0 v.wiped b claimed_block = grind arith in
+      turns sat claimer b q (deeds g) low
+      (ceded_owned sat claimer refl b q refl refl refl
       (inr (refl, (let e : rank (g.pins b).phase ≡ 2 = ap rank closed in omega arith), omega arith)))
       (record {
-        onward = phase_onward (g.pins b) Victim (let e : half_cycle (g.pins b).phase ≡ 0 = ap half_cycle closed in omega arith) (λ _ _. refl)
-            (λ _ _. ap is_intact closed) (λ is. absurd (cc)) (λ _. refl);
-        alone = λ _ is. let no : true ≡ false = sym is ∙ ap is_owned closed in absurd (cc);
+        onward = grind arith;
+        alone = λ _ is. clash is (ap is_owned closed);
         state = record { readers = refl; written = block.written; generation = block.generation; free = λ is. absurd (cc) };
         rest = λ _. block.rest (ap is_still closed);
         owner = λ _. (claimed_block, with_here claimed_block v.owns);
         named = λ s m _ _ _ _. (refl, refl, omega arith);
-        listing = none_listed z g id v claimer b q (law.views id v at).kind (λ is. ((law.views id v at).kind.idle is).0) refl refl;
-        owning = got z (moved g b claimed_state id) id v claimer claimed_block fresh (λ is. absurd (not_pass is)) owns_some
+        listing = none_listed z g id v claimer b q (view_of sat).kind (λ is. ((view_of sat).kind.idle is).0) refl refl;
+        owning = got claimer fresh (λ is. absurd (not_pass is)) owns_some
             (one_at_rest claimed_block v.owns rested);
         no_more = record { filling = λ _ _ _ _ _ f. f; cleared = omega arith; wiped = omega arith };
-        work = work_else z g vs id v claimer b q (deeds g) law at (λ is. let no : Closed ≡ Open = sym closed ∙ is in absurd (cc))
+        work = work_else sat claimer b q (deeds g) (λ is. let no : Closed ≡ Open = sym closed ∙ is in absurd (cc))
             (λ c unlike. with_else claimed_block c v.owns unlike);
         source = λ x is _. absurd (no_source x is);
       })
@@ -122,27 +109,17 @@ module _ (z : Numbers) (g : World) (vs : List View) (id : ℕ) (v : View) (b : �
       → Erases z (condemn_world n) n' (v.erases ++ cycle_of condemned_block ∷ [])
   erase_listed n role n' role' old k c is =
       ⊎_elim (λ (was : slice_get v.erases k ≡ Some c). old k c was)
-      (λ (new : (k ≡ length v.erases) × (cycle_of condemned_block ≡ c)).
-      let q : PinWord = condemned_state in
-      let here : put g.pins b q b ≡ q = put_here g.pins b q in
-      let generation : ℕ = (g.pins b).generation in
-      let same_name : n ≡ n' = player_same n n' (sym role ∙ role') in
-      let older : 2 * generation < age_of (put g.pins b q b) = subst (λ (p : PinWord). 2 * generation < age_of p) (sym here) (omega arith) in
-      let whose : listed n b generation ≡ Some (n', k) = put2_here g.eraser b generation (Some (n, length v.erases)) ∙ λ i. Some (same_name i, sym new.0 i) in
-      subst (λ (c : Cycle). (c.block < z.blocks) × (2 * c.generation < age_of (put g.pins b q c.block))
-      × (listed n c.block c.generation ≡ Some (n', k))) new.1 (low, older, whose))
+      (grind (arith, put_here, player_same, put2_here))
       (get_last v.erases (cycle_of condemned_block) c k is)
 
   erases_listed : (n : Name) → v.role ≡ Player n → (g.pins b).phase ≡ Drained → IsListed z g (condemn_world n) id v condemner
   erases_listed n role drained =
-      let holds = (law.views id v at).holding in
+      let holds = (view_of sat).holding in
       let even : half_cycle (g.pins b).phase ≡ 0 = ap half_cycle drained in
       record {
         programmer = λ m _. refl;
-        eraser = λ c k older. put2_else g.eraser b (g.pins b).generation (Some (n, length v.erases)) c k (λ same.
-            let at_b : 2 * k < age_of (g.pins b) = subst (λ j. 2 * k < age_of (g.pins j)) same.0 older in
-            let e = same.1 in absurd (omega arith));
-        idle = λ is. let no : true ≡ false = sym (broom_player v.role broom) ∙ is in absurd (cc);
+        eraser = grind (arith, put2_else);
+        idle = clash (broom_player v.role broom);
         programs = λ _ _ old. old;
         erases = erase_listed n role;
         lists = λ m _. record {
@@ -151,44 +128,37 @@ module _ (z : Numbers) (g : World) (vs : List View) (id : ℕ) (v : View) (b : �
               (cycle_of condemned_block ∷ [], ap (λ l. l ++ cycle_of condemned_block ∷ []) (holds.lists n role).1) (λ k _. Begins-refl (g.erases k)) m;
           others = λ other. (refl, name_else g.erases n condemner.erases m (λ same. other (ap g.seat same ∙ (holds.name n role).0)));
         };
-        listed = λ m role' its. (
-          its.0,
-          subst (λ (k : Name). all_erases n k ≡ condemner.erases) (player_same n m (sym role ∙ role')) (name_here g.erases n condemner.erases),
-        );
+        listed = grind arith;
       }
 
   -- a drained block without readers is the broom's to erase
   pub condemns : (n : Name) → v.role ≡ Player n → (g.pins b).phase ≡ Drained → (g.pins b).readers ≡ 0 → Lawful z (condemn_world n) (set vs id condemner)
   condemns n role drained unread =
-      let block = law.blocks b low in
+      let block = sat.law.blocks b low in
       let q : PinWord = condemned_state in
       let even : half_cycle (g.pins b).phase ≡ 0 = ap half_cycle drained in
-      let fresh : LawfulOwned z (condemn_world n) id v.work v.cleared 0 b condemned_block =
-      block_owned z g id b q (condemn_deeds n) v.work v.cleared 0 condemned_block refl low refl (refl, refl, refl) (λ is. absurd (cc))
-      (λ is. absurd (cc)) (λ _ p i _ _ below. absurd (omega arith)) in
-      turns z g vs id v condemner b q (condemn_deeds n) law at low
-      (ceded_owned z g.pins vs id v condemner law.ceded at refl b q refl refl refl
+      let fresh : LawfulOwned z (condemn_world n) id v.work v.cleared 0 b condemned_block = grind arith in
+      turns sat condemner b q (condemn_deeds n) low
+      (ceded_owned sat condemner refl b q refl refl refl
       (inr (refl, (let e : rank (g.pins b).phase ≡ 4 = ap rank drained in omega arith), omega arith)))
       (record {
-        onward = phase_onward (g.pins b) Erasing (omega arith) (λ some _. absurd (omega arith)) (λ is. absurd (cc)) (λ is. absurd (cc))
-            (λ _. refl);
-        alone = λ _ is. let no : true ≡ false = sym is ∙ ap is_owned drained in absurd (cc);
+        onward = grind arith;
+        alone = λ _ is. clash is (ap is_owned drained);
         state = record { readers = refl; written = block.written; generation = block.generation; free = λ is. absurd (cc) };
         rest = λ is. absurd (cc);
         owner = λ _. (condemned_block, with_here condemned_block v.owns);
-        named = λ s m _ _ same current. let no : true ≡ false =
-            sym (ap (λ j. is_nameable (g.pins j).phase) (sym same) ∙ current.phase) ∙ ap is_nameable drained in absurd (cc);
+        named = λ s m _ _ same current. clash (ap (λ j. is_nameable (g.pins j).phase) (sym same) ∙ current.phase) (ap is_nameable drained);
         listing = erases_listed n role drained;
-        owning = got z (condemn_world n) id v condemner condemned_block fresh (λ is. absurd (not_pass is)) owns_some
+        owning = got condemner fresh (λ is. absurd (not_pass is)) owns_some
             (one_at_rest condemned_block v.owns rested);
         no_more = record { filling = λ _ _ _ _ _ f. f; cleared = omega arith; wiped = omega arith };
-        work = work_else z g vs id v condemner b q (condemn_deeds n) law at (λ is. let no : Drained ≡ Open = sym drained ∙ is in absurd (cc))
+        work = work_else sat condemner b q (condemn_deeds n) (λ is. let no : Drained ≡ Open = sym drained ∙ is in absurd (cc))
             (λ c unlike. with_else condemned_block c v.owns unlike);
         source = λ x is _. absurd (no_source x is);
       })
 
 -- ---- drain
-module _ (z : Numbers) (g : World) (vs : List View) (id : ℕ) (v : View) (o : Owned) (law : Lawful z g vs) (at : get_elem? vs id ≡ some v) where
+module _ {z : Numbers} {g : World} {vs : List View} {id : ℕ} {v : View} (sat : Seated z g vs id v) (o : Owned) where
   abbrev pub drained_state : PinWord
   drained_state = record (g.pins o.block) { phase = Drained }
 
@@ -202,19 +172,18 @@ module _ (z : Numbers) (g : World) (vs : List View) (id : ℕ) (v : View) (o : O
   pub drains_block : CanDrain v o → Lawful z (moved g o.block drained_state id) (set vs id drainer)
   drains_block can =
       let b : ℕ = o.block in
-      let h = law.views id v at in
+      let h = view_of sat in
       let mine = h.holding.owned b o can.own in
-      let block = law.blocks b mine.low in
+      let block = sat.law.blocks b mine.low in
       let victim : (g.pins b).phase ≡ Victim = mine.phase ∙ can.victim in
       let written_is = mine.written in
-      turns z g vs id v drainer b drained_state (deeds g) law at mine.low
-      (ceded_last z g.pins vs id v drainer law.ceded at refl b drained_state mine.low
+      turns sat drainer b drained_state (deeds g) mine.low
+      (ceded_last sat drainer refl b drained_state mine.low
       (inr (refl, (let e : rank (g.pins b).phase ≡ 3 = ap rank victim in omega arith), omega arith))
       drained_block (λ i. record { block = b; phase = Drained; generation = sym mine.generation i; written = sym mine.written i }) refl refl
       (may_own_else v.role (λ is. owns_none_else v.owns o can.own (h.kind.owns_none is))))
       (record {
-        onward = phase_onward (g.pins b) Drained (let e : half_cycle (g.pins b).phase ≡ 0 = ap half_cycle victim in omega arith) (λ _ _. refl)
-            (λ _ _. ap is_intact victim) (λ is. absurd (cc)) (λ _. refl);
+        onward = grind arith;
         alone = λ other _. other mine.owner;
         state = record { readers = refl; written = block.written; generation = block.generation; free = λ is. absurd (cc) };
         rest = λ _. block.rest (ap is_still victim);
@@ -229,26 +198,17 @@ module _ (z : Numbers) (g : World) (vs : List View) (id : ℕ) (v : View) (o : O
             (let all = inspected.all in let e : v.numbers.sectors ≡ z.sectors = ap (λ (y : Numbers). y.sectors)
             (h.kind.numbers (owner_live v.role (λ is. owns_none_else v.owns o can.own (h.kind.owns_none is)))) in omega arith) in_range here)) can.emptied;
         listing = none_listed z g id v drainer b drained_state h.kind (λ is. (h.kind.idle is).0) refl refl;
-        owning = given_up z (moved g o.block drained_state id) id v drainer b h.kind;
+        owning = given_up drainer h.kind;
         no_more = record { filling = λ _ _ _ _ _ f. f; cleared = omega arith; wiped = omega arith };
-        work = work_else z g vs id v drainer b drained_state (deeds g) law at (λ is. let no : Victim ≡ Open = sym victim ∙ is in absurd (cc))
+        work = work_else sat drainer b drained_state (deeds g) (λ is. let no : Victim ≡ Open = sym victim ∙ is in absurd (cc))
             (λ c unlike. without_else b c v.owns unlike);
-        source = λ x is k. (
-          (λ same.
-              let P : ℕ → Type 0 = λ c. owned_at c v.owns ≡ Some k.entry in
-              let e : o ≡ k.entry = some_same o k.entry (sym can.own ∙ subst P same k.own) in
-              let w : o.written ≡ k.entry.written = ap (λ (y : Owned). y.written) e in
-              let p = k.page in
-              let r = k.written in
-              ⊎_elim (λ (cleared : o.written ≤ v.cleared). absurd (omega arith)) (λ inspected. absurd (none_some x (sym inspected.source ∙ is))) can.emptied),
-          refl,
-        );
+        source = grind arith;
       })
 
-module _ (z : Numbers) (g : World) (vs : List View) (id : ℕ) (v : View) (o : Owned) (law : Lawful z g vs) (at : get_elem? vs id ≡ some v)
+module _ {z : Numbers} {g : World} {vs : List View} {id : ℕ} {v : View} {o : Owned} (sat : Seated z g vs id v)
     (erasing : IsErasing v o) where
   entry : LawfulOwned z g id v.work v.cleared v.wiped o.block o
-  entry = (law.views id v at).holding.owned o.block o erasing.own
+  entry = (view_of sat).holding.owned o.block o erasing.own
 
   pub erasing_low : o.block < z.blocks
   erasing_low = entry.low
@@ -259,25 +219,20 @@ module _ (z : Numbers) (g : World) (vs : List View) (id : ℕ) (v : View) (o : O
   pub erasing_written : (g.pins o.block).written ≡ o.written
   erasing_written = entry.written
 
-  -- the block of a source is another one
-  source_else : (x : Source) → LawfulSource z g v.owns v.cleared x → x.page.block ≢ o.block
-  source_else x k = blocks_apart v.owns o k.entry x.page.block erasing.own k.own
-      (λ e. let no : Erasing ≡ Victim = sym erasing.erasing ∙ (e ∙ k.victim) in absurd (cc))
-
   not_intact : is_intact (g.pins o.block).phase ≡ true → ⊥
-  not_intact is = let no : true ≡ false = sym is ∙ ap is_intact is_erasing in absurd (cc)
+  not_intact is = clash is (ap is_intact is_erasing)
 
   not_named : is_nameable (g.pins o.block).phase ≡ true → ⊥
-  not_named is = let no : true ≡ false = sym is ∙ ap is_nameable is_erasing in absurd (cc)
+  not_named is = clash is (ap is_nameable is_erasing)
 
   not_open : (g.pins o.block).phase ≡ Open → ⊥
   not_open is = let no : Erasing ≡ Open = sym is_erasing ∙ is in absurd (cc)
 
   eraser_numbers : v.numbers ≡ z
-  eraser_numbers = (law.views id v at).kind.numbers (owner_live v.role (λ is. owns_none_else v.owns o erasing.own ((law.views id v at).kind.owns_none is)))
+  eraser_numbers = (view_of sat).kind.numbers (owner_live v.role (λ is. owns_none_else v.owns o erasing.own ((view_of sat).kind.owns_none is)))
 
   eraser_owns : may_own v.role ≡ true
-  eraser_owns = may_own_else v.role (λ is. owns_none_else v.owns o erasing.own ((law.views id v at).kind.owns_none is))
+  eraser_owns = may_own_else v.role (λ is. owns_none_else v.owns o erasing.own ((view_of sat).kind.owns_none is))
 
   -- a turn of the block: what is told of its new state is all that has to be shown
   turn_with : (q : PinWord) (owns ceded : List Owned) → PinOnward (g.pins o.block) q → IsState z (g.pins o.block) q
@@ -286,7 +241,7 @@ module _ (z : Numbers) (g : World) (vs : List View) (id : ℕ) (v : View) (o : O
       → IsOwning z (moved g o.block q id) id v (record v { owns = owns; ceded = ceded }) o.block
       → IsTurn z g id v (record v { owns = owns; ceded = ceded }) o.block q (deeds g)
   turn_with q owns ceded onward state rest owner owning =
-      let kind = (law.views id v at).kind in
+      let kind = (view_of sat).kind in
       let w : View = record v { owns = owns; ceded = ceded } in
       record {
         onward = onward;
@@ -298,8 +253,8 @@ module _ (z : Numbers) (g : World) (vs : List View) (id : ℕ) (v : View) (o : O
         listing = none_listed z g id v w o.block q kind (λ is. (kind.idle is).0) refl refl;
         owning = owning;
         no_more = record { filling = λ _ _ _ _ _ f. f; cleared = omega arith; wiped = omega arith };
-        work = work_else z g vs id v w o.block q (deeds g) law at not_open owning.there;
-        source = λ x _ k. (source_else x k, refl);
+        work = work_else sat w o.block q (deeds g) not_open owning.there;
+        source = λ x _ k. (grind (arith, k), refl);
       }
 
   -- ---- retire
@@ -316,10 +271,10 @@ module _ (z : Numbers) (g : World) (vs : List View) (id : ℕ) (v : View) (o : O
   pub retires : Lawful z (moved g o.block retired_state id) (set vs id retirer)
   retires =
       let b : ℕ = o.block in
-      let h = law.views id v at in
-      let block = law.blocks b entry.low in
-      turns z g vs id v retirer b retired_state (deeds g) law at entry.low
-      (ceded_last z g.pins vs id v retirer law.ceded at refl b retired_state entry.low
+      let h = view_of sat in
+      let block = sat.law.blocks b entry.low in
+      turns sat retirer b retired_state (deeds g) entry.low
+      (ceded_last sat retirer refl b retired_state entry.low
       (inr (refl, (let e : rank (g.pins b).phase ≡ 5 = ap rank is_erasing in omega arith), omega arith))
       retired_block (λ i. record { block = b; phase = Retired; generation = sym entry.generation i; written = sym entry.written i }) refl
       (sym (append-nil v.drains)) eraser_owns)
@@ -327,34 +282,18 @@ module _ (z : Numbers) (g : World) (vs : List View) (id : ℕ) (v : View) (o : O
       (phase_onward (g.pins b) Retired (let e : half_cycle (g.pins b).phase ≡ 1 = ap half_cycle is_erasing in omega arith)
       (λ _ is. absurd (not_intact is)) (λ is. absurd (cc)) (λ is. absurd (cc)) (λ _. refl))
       (record { readers = refl; written = block.written; generation = block.generation; free = λ is. absurd (cc) }) (λ is. absurd (cc)) (λ is. absurd (cc))
-      (given_up z (moved g o.block retired_state id) id v retirer b h.kind))
+      (given_up retirer h.kind))
 
   -- ---- the next generation
   -- all words of a wiped block are ones
   all_blank : CanRenew v o → (p : ℕ) → p < z.pages → IsBlank z (g.pages o.block p)
-  all_blank can p below i most =
-      let clean = can.clean in
-      let words : v.numbers.pages * (v.numbers.words + 1) ≡ z.pages * (z.words + 1) = ap (λ (y : Numbers). y.pages * (y.words + 1)) eraser_numbers in
-      let within = row_within p z.pages (z.words + 1) i below (omega arith) in
-      entry.clean erasing.erasing p i below most (omega arith)
+  all_blank can p below i most = grind (arith, eraser_numbers, row_within, entry)
 
   young : CanRenew v o → (g.pins o.block).generation + 1 < z.endurance
-  young can =
-      let a = can.another in
-      let same : v.numbers.endurance ≡ z.endurance = ap (λ (y : Numbers). y.endurance) eraser_numbers in
-      let e = entry.generation in omega arith
+  young can = grind (arith, eraser_numbers, entry)
 
   renewed : (q : PinWord) → q.generation ≡ (g.pins o.block).generation + 1 → PinOnward (g.pins o.block) q
-  renewed q next =
-      record {
-        generation = omega arith;
-        age = (let e : half_cycle (g.pins o.block).phase ≡ 1 = ap half_cycle is_erasing in omega arith);
-        written = λ same. absurd (omega arith);
-        held = λ _ is. absurd (not_intact is);
-        was = λ same. absurd (omega arith);
-        free = λ same. absurd (omega arith);
-        shut = λ same. absurd (omega arith);
-      }
+  renewed q next = grind (arith, is_erasing, not_intact)
 
   -- ---- free
   abbrev pub freed_state : PinWord
@@ -367,13 +306,13 @@ module _ (z : Numbers) (g : World) (vs : List View) (id : ℕ) (v : View) (o : O
   pub frees : CanRenew v o → Lawful z (moved g o.block freed_state id) (set vs id freer)
   frees can =
       let b : ℕ = o.block in
-      let h = law.views id v at in
-      turns z g vs id v freer b freed_state (deeds g) law at entry.low
-      (ceded_last z g.pins vs id v freer law.ceded at refl b freed_state entry.low (inl (omega arith)) (freed_as o)
+      let h = view_of sat in
+      turns sat freer b freed_state (deeds g) entry.low
+      (ceded_last sat freer refl b freed_state entry.low (inl (omega arith)) (freed_as o)
       (λ i. record { block = b; phase = Free; generation = sym entry.generation i + 1; written = 0 }) refl (sym (append-nil v.drains)) eraser_owns)
       (turn_with freed_state (without b v.owns) (v.ceded ++ freed_as o ∷ []) (renewed freed_state refl)
       (record { readers = refl; written = omega arith; generation = young can; free = λ _. refl })
-      (λ _ p _ below. all_blank can p below) (λ is. absurd (cc)) (given_up z (moved g o.block freed_state id) id v freer b h.kind))
+      (λ _ p _ below. all_blank can p below) (λ is. absurd (cc)) (given_up freer h.kind))
 
   -- ---- keep
   abbrev pub kept_block : Owned
@@ -389,14 +328,12 @@ module _ (z : Numbers) (g : World) (vs : List View) (id : ℕ) (v : View) (o : O
   pub keeps_block : CanRenew v o → Lawful z (moved g o.block kept_state id) (set vs id keeper)
   keeps_block can =
       let b : ℕ = o.block in
-      let h = law.views id v at in
-      let fresh : LawfulOwned z (moved g o.block kept_state id) id v.work v.cleared v.wiped b kept_block =
-      block_owned z g id b kept_state (deeds g) v.work v.cleared v.wiped kept_block refl entry.low refl (refl, ap (λ k. k + 1) entry.generation, refl)
-      (λ _ p _ below _. all_blank can p below) (λ is. absurd (cc)) (λ is. absurd (cc)) in
-      turns z g vs id v keeper b kept_state (deeds g) law at entry.low
-      (ceded_owned z g.pins vs id v keeper law.ceded at refl b kept_state refl refl refl (inl (omega arith)))
+      let h = view_of sat in
+      let fresh : LawfulOwned z (moved g o.block kept_state id) id v.work v.cleared v.wiped b kept_block = grind (arith, block_owned, entry, all_blank) in
+      turns sat keeper b kept_state (deeds g) entry.low
+      (ceded_owned sat keeper refl b kept_state refl refl refl (inl (omega arith)))
       (turn_with kept_state (with_owned kept_block v.owns) v.ceded (renewed kept_state refl)
       (record { readers = refl; written = omega arith; generation = young can; free = λ is. absurd (cc) })
       (λ is. absurd (cc)) (λ _. (kept_block, with_here kept_block v.owns))
-      (got z (moved g o.block kept_state id) id v keeper kept_block fresh (λ _. refl) (λ is. owns_none_else v.owns o erasing.own (h.kind.owns_none is))
+      (got keeper fresh (λ _. refl) (λ is. owns_none_else v.owns o erasing.own (h.kind.owns_none is))
       (one_with_open kept_block v.owns refl h.kind.reclaims)))

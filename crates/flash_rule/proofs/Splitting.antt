@@ -1,14 +1,13 @@
 -- Seats that are split off another and joined into one: passes dealt, and the moves of notes.
-use Rattle.flash_rule.proofs.Words.{◌≡◌, ◌≢◌, ℕ, zero, suc, ◌+◌, ◌-◌, ◌<◌, ◌≤◌, ◌⊎◌, inl, inr, ⊎_elim, true, List, [], ◌∷◌, ◌++◌, None, Some, length, set, Role}
+use Rattle.flash_rule.proofs.Words.{◌≡◌, ◌≢◌, ℕ, zero, suc, ◌+◌, ◌<◌, ◌≤◌, ◌⊎◌, inl, inr, ⊎_elim, true, List, [], ◌∷◌, ◌++◌, None, Some, length, set, Role}
 use Rattle.flash_rule.proofs.Words.{replicate, sym, refl, ap, ◌∙◌, subst, arith, length-set, length-replicate, get_or, some, some-injective, some-ne-none, Bool}
-use Rattle.flash_rule.proofs.Words.{get_elem?, Splits, at_set, at_longer, Begins-refl, Numbers, PinWord, Name, Pass, Broom, Dealer, Player, Note, Owned, Pin}
-use Rattle.flash_rule.proofs.Words.{Clear, View, one_if, total, is_player, is_live_role, pin_is_on, pins_on, weight, role_weight, owned_at, AreOfHosts, Option}
-use Rattle.flash_rule.proofs.Words.{calls_of, World, put_name, is_owned, is_still, is_nameable, LawfulCeded, held, Free, LawfulSector, LawfulBlock, LawfulView}
-use Rattle.flash_rule.proofs.Words.{Lawful, IsDealt, Onward, Ruled, LawfulHolding, LawfulKnowledge, LawfulOwned, age_of, Carried, is_pass, Open, may_own, false}
-use Rattle.flash_rule.proofs.Words.{LawfulKind}
-use Rattle.flash_rule.proofs.{Points.player_same, Points.total_set, Points.name_here, Points.name_else, Points.name_all, Ceding.ceded_split, Still.pin_stays}
-use Rattle.flash_rule.proofs.Owning.{none_some, not_reclaimed, nothing, kind_as, knowledge_as, owned_as}
-use Rattle.flash_rule.proofs.Frames.{counted, others, knowledge_kept, lists_stay, owner_kept, sector_kept}
+use Rattle.flash_rule.proofs.Words.{get_elem?, Splits, at_set, at_longer, Begins-refl, Numbers, Name, Pass, Dealer, Player, Note, Owned, Clear}
+use Rattle.flash_rule.proofs.Words.{View, total, is_player, is_live_role, pins_on, weight, owned_at, Option, calls_of, World}
+use Rattle.flash_rule.proofs.Words.{put_name, is_owned, LawfulCeded, LawfulBlock, LawfulView, Lawful, IsDealt, Onward, Ruled, LawfulHolding, LawfulKnowledge}
+use Rattle.flash_rule.proofs.Words.{LawfulOwned, age_of, Carried, is_pass, Open, may_own, false, LawfulKind}
+use Rattle.flash_rule.proofs.{Points.player_same, Points.total_set, Points.name_here, Points.name_else, Ceding.ceded_split, Still.pin_stays}
+use Rattle.flash_rule.proofs.Owning.{none_some, not_reclaimed, nothing, owned_as, Seated, view_of}
+use Rattle.flash_rule.proofs.Frames.{others, knowledge_kept, lists_stay, owner_kept, sector_kept, view_to}
 use Rattle.flash_rule.specs.Seats.{newcomer, new_pass, dealt_pass}
 
 at_end : {X : Type 0} (xs : List X) (x y : X) (j : ℕ) → get_elem? (xs ++ x ∷ []) j ≡ some y → (get_elem? xs j ≡ some y) ⊎ ((j ≡ length xs) × (x ≡ y))
@@ -22,98 +21,60 @@ total_end f [] v = omega arith
 total_end f (x ∷ vs) v = let r = total_end f vs v in omega arith
 
 -- ---- names
-passes_same : (t u : ℕ) → Pass t ≡ Pass u → t ≡ u
-passes_same t u e = cc
-
 alike : (n b c : ℕ) → get_or (replicate n c) b c ≡ c
 alike zero b c = refl
 alike (suc n) zero c = refl
 alike (suc n) (suc b) c = alike n b c
-
-fresh_name : (g : World) (t : ℕ) → g.passes ≤ t → (m : Name) → IsDealt g m → ¬ (m ≡ Pass t)
-fresh_name g t high (Pass u) low e = let same : u ≡ t = passes_same u t e in absurd (omega arith)
-fresh_name g t high (Broom j) low e = absurd (cc)
-
-dealt_more : (g g' : World) → g'.passes ≡ g.passes + 1 → g'.brooms ≡ g.brooms → (m : Name) → IsDealt g m → IsDealt g' m
-dealt_more g g' passes brooms (Pass u) low = omega arith
-dealt_more g g' passes brooms (Broom j) low = omega arith
-
--- a page that a map word may name is named still where map, states, pages and history are the same
-pub current_kept : (z : Numbers) (g g' : World) (s : ℕ) → g'.map ≡ g.map → g'.pins ≡ g.pins → g'.pages ≡ g.pages → g'.history ≡ g.history
-    → LawfulSector z g s → LawfulSector z g' s
-current_kept z g g' s map pins pages history h =
-    sector_kept z g g' s h (ap (λ f. f s) map) (ap (λ l. held z.sectors l s) history)
-    (λ b low named. (
-      ap (λ (f : ℕ → PinWord). (f b).generation) pins,
-      ap (λ (f : ℕ → PinWord). is_nameable (f b).phase) pins ∙ named,
-      (let e : (g'.pins b).written ≡ (g.pins b).written = ap (λ (f : ℕ → PinWord). (f b).written) pins in omega arith),
-      λ p i _. ap (λ f. f b p i) pages,
-    ))
 
 -- the seat that owns a block after a split, and its entry
 abbrev pub Owner : World → List View → ℕ → Type 0
 Owner g vs b = (u : View) × (o : Owned) × (get_elem? vs (g.owner b) ≡ some u) × (owned_at b u.owns ≡ Some o)
 
 -- ---- a seat is split: no state and no page changes, but who is who, and who owns what
-module _ (z : Numbers) (g g' : World) (vs : List View) (id : ℕ) (v l r : View) (law : Lawful z g vs) (at : get_elem? vs id ≡ some v)
-    (pins : g'.pins ≡ g.pins) (pages : g'.pages ≡ g.pages) where
-  split_block : (b : ℕ) → LawfulBlock z g vs b → pins_on b l ≡ pins_on b v → r.pin ≡ Clear
-      → (is_owned (g.pins b).phase ≡ true → Owner g' (set vs id l ++ r ∷ []) b) → LawfulBlock z g' (set vs id l ++ r ∷ []) b
-  split_block b block same clear owner =
-      let t = total_set (pins_on b) vs id v l at in
-      let e = total_end (pins_on b) (set vs id l) r in
-      let none : pins_on b r ≡ 0 = ap (λ (p : Pin). one_if (pin_is_on b p)) clear in
-      let before = block.readers in
-      let readers : (g.pins b).readers ≡ total (pins_on b) (set vs id l ++ r ∷ []) = omega arith in
-      record {
-        readers = ap (λ (f : ℕ → PinWord). (f b).readers) pins ∙ readers;
-        written = subst (λ (f : ℕ → PinWord). (f b).written ≤ z.pages) (sym pins) block.written;
-        generation = subst (λ (f : ℕ → PinWord). (f b).generation < z.endurance) (sym pins) block.generation;
-        free = subst (λ (f : ℕ → PinWord). (f b).phase ≡ Free → (f b).written ≡ 0) (sym pins) block.free;
-        rest = λ still p from below i most. ap (λ f. f b p i) pages
-            ∙ block.rest (ap (λ (f : ℕ → PinWord). is_still (f b).phase) (sym pins) ∙ still) p
-            (subst (λ (f : ℕ → PinWord). (f b).written ≤ p) pins from) below i most;
-        owner = λ owned. owner (ap (λ (f : ℕ → PinWord). is_owned (f b).phase) (sym pins) ∙ owned);
-      }
+-- the table, but who is who as in another one
+abbrev pub reseated : World → World → World
+reseated g e = record e { history = g.history; map = g.map; pins = g.pins; pages = g.pages }
 
-  pub split_with : Onward z g g' id id → g'.history ≡ g.history → LawfulView z g' id l → LawfulView z g' (length vs) r
+module _ {z : Numbers} {g : World} {vs : List View} {id : ℕ} {v : View} (sat : Seated z g vs id v) (e : World) (l r : View) where
+  abbrev split_views : List View
+  split_views = set vs id l ++ r ∷ []
+
+  split_block : (b : ℕ) → LawfulBlock z g vs b → pins_on b l ≡ pins_on b v → r.pin ≡ Clear
+      → (is_owned (g.pins b).phase ≡ true → Owner (reseated g e) split_views b) → LawfulBlock z (reseated g e) split_views b
+  split_block b block same clear owner = grind (arith, total_set, total_end)
+
+  pub split_with : Onward z g (reseated g e) id id → LawfulView z (reseated g e) id l → LawfulView z (reseated g e) (length vs) r
       → ((b : ℕ) → pins_on b l ≡ pins_on b v) → r.pin ≡ Clear
-      → ((b : ℕ) → b < z.blocks → is_owned (g.pins b).phase ≡ true → Owner g' (set vs id l ++ r ∷ []) b)
-      → weight z l + weight z r ≡ weight z v → g.passes ≤ g'.passes → g'.passes ≤ z.hosts → ((s : ℕ) → s < z.sectors → LawfulSector z g' s)
-      → LawfulCeded z g.pins (set vs id l ++ r ∷ []) → Lawful z g' (set vs id l ++ r ∷ [])
-  split_with on history own new same clear owners weighs more dealt sectors ceded =
+      → ((b : ℕ) → b < z.blocks → is_owned (g.pins b).phase ≡ true → Owner (reseated g e) split_views b)
+      → weight z l + weight z r ≡ weight z v → g.passes ≤ e.passes → e.passes ≤ z.hosts → LawfulCeded z g.pins split_views → Lawful z (reseated g e) split_views
+  split_with on own new same clear owners weighs more dealt ceded =
+      let law = sat.law in
       record {
         limits = law.limits;
-        sectors = sectors;
-        callers = subst (λ l. AreOfHosts z l) (sym history) law.callers;
+        sectors = λ s low. sector_kept (law.sectors s low) refl refl (λ b low named. (refl, named, omega arith, λ p i _. refl));
+        callers = law.callers;
         blocks = λ b low. split_block b (law.blocks b low) (same b) clear (owners b low);
         views = λ j u is.
             ⊎_elim
             (λ (old : get_elem? (set vs id l) j ≡ some u). ⊎_elim
-            (λ (t : (j ≡ id) × (l ≡ u)). let P : ℕ × View → Type 0 = λ x. LawfulView z g' x.0 x.1 in subst P (λ i. (sym t.0 i, t.1 i)) own)
-            (λ (t : (j ≢ id) × (get_elem? vs j ≡ some u)). others z g g' id id on vs law j u t.0 t.0 t.1) (at_set vs id j l u old))
-            (λ (last : (j ≡ length (set vs id l)) × (r ≡ u)).
-            let P : ℕ × View → Type 0 = λ x. LawfulView z g' x.0 x.1 in
-            let place : length vs ≡ j = sym (last.0 ∙ length-set vs id l) in subst P (λ i. (place i, last.1 i)) new)
+            (λ (t : (j ≡ id) × (l ≡ u)). view_to own (sym t.0) t.1)
+            (λ (t : (j ≢ id) × (get_elem? vs j ≡ some u)). others on (record { law = law; at = t.1 }) t.0 t.0) (at_set vs id j l u old))
+            (λ (last : (j ≡ length (set vs id l)) × (r ≡ u)). view_to new (sym (last.0 ∙ length-set vs id l)) last.1)
             (at_end (set vs id l) r u j is);
-        strangers = λ t free. ap (calls_of t) history ∙ law.strangers t (omega arith);
-        seats = (let s = total_set (weight z) vs id v l at in let t = total_end (weight z) (set vs id l) r in let e = law.seats in omega arith);
+        strangers = λ t free. law.strangers t (omega arith);
+        seats = (let s = total_set (weight z) vs id v l sat.at in let t = total_end (weight z) (set vs id l) r in let e = law.seats in omega arith);
         dealt = dealt;
-        ceded = subst (λ (f : ℕ → PinWord). LawfulCeded z f (set vs id l ++ r ∷ [])) (sym pins) ceded;
+        ceded = ceded;
       }
 
   -- where the seat keeps its blocks, each block keeps its owner
-  pub split : g'.owner ≡ g.owner → Onward z g g' id id → g'.history ≡ g.history → LawfulView z g' id l → LawfulView z g' (length vs) r
-      → ((b : ℕ) → pins_on b l ≡ pins_on b v) → r.pin ≡ Clear → l.owns ≡ v.owns
-      → weight z l + weight z r ≡ weight z v → g.passes ≤ g'.passes → g'.passes ≤ z.hosts → ((s : ℕ) → s < z.sectors → LawfulSector z g' s)
-      → LawfulCeded z g.pins (set vs id l ++ r ∷ []) → Lawful z g' (set vs id l ++ r ∷ [])
-  split owner on history own new same clear owns weighs more dealt sectors ceded =
-      split_with on history own new same clear owners weighs more dealt sectors ceded where
-        owners : (b : ℕ) → b < z.blocks → is_owned (g.pins b).phase ≡ true → Owner g' (set vs id l ++ r ∷ []) b
-        owners b low owned =
-            let k = owner_kept z g g' vs id v l b at (law.blocks b low) owned (ap (λ f. f b) owner)
-            (λ o is. (o, ap (λ (x : List Owned). owned_at b x) owns ∙ is)) in
-            (k.0, k.1, at_longer (set vs id l) (r ∷ []) (g'.owner b) k.0 k.2, k.3)
+  pub split : e.owner ≡ g.owner → Onward z g (reseated g e) id id → LawfulView z (reseated g e) id l → LawfulView z (reseated g e) (length vs) r
+      → ((b : ℕ) → pins_on b l ≡ pins_on b v) → r.pin ≡ Clear → l.owns ≡ v.owns → weight z l + weight z r ≡ weight z v → g.passes ≤ e.passes
+      → e.passes ≤ z.hosts → LawfulCeded z g.pins split_views → Lawful z (reseated g e) split_views
+  split owner on own new same clear owns =
+      split_with on own new same clear (λ b low owned.
+      let k = owner_kept sat l (sat.law.blocks b low) owned (ap (λ f. f b) owner) (λ o is. (o, ap (λ (x : List Owned). owned_at b x) owns ∙ is)) in
+      (k.0, k.1, at_longer (set vs id l) (r ∷ []) (e.owner b) k.0 k.2, k.3))
 
 -- ---- a new seat, which has no pin, no work and no lists
 abbrev pub fresh : Numbers → Role → List ℕ → List Owned → Bool → Option Name → Option Carried → View
@@ -209,8 +170,7 @@ module _ (z : Numbers) (g : World) (id new : ℕ) (n : Name) (passes brooms : �
         lists = λ m dealt. lists_stay g after_deal id m (name_else g.programs n [] m (not_yet m dealt)) (name_else g.erases n [] m (not_yet m dealt));
         dealer = λ apart. absurd (apart first);
         badge = λ m dealt _ _. (name_else g.badge n new m (not_yet m dealt), name_else g.carries n None m (not_yet m dealt));
-        carries = λ m c. name_all g.carries n None (λ k x. x ≡ Some c → (g.carries k ≡ Some c) ⊎ ((c.programs ≡ g.programs c.of) × (c.erases ≡ g.erases c.of)))
-            (λ is. absurd (none_some c is)) (λ k _ is. inl is) m;
+        carries = grind arith;
       }
 
   -- the dealer has no name, no calls, no lists and no work
@@ -231,8 +191,7 @@ module _ (z : Numbers) (g : World) (id new : ℕ) (n : Name) (passes brooms : �
       record {
         name = λ m is. subst (λ (m : Name). (after_deal.seat m ≡ new) × IsDealt after_deal m) (same m is) (name_here g.seat n new, here);
         calls = λ t is. (none t (same (Pass t) is), refl);
-        lists = λ m is. subst (λ (m : Name). (after_deal.programs m ≡ []) × (after_deal.erases m ≡ [])) (same m is)
-            (name_here g.programs n [], name_here g.erases n []);
+        lists = grind arith;
         owned = owned;
         work = λ x is. absurd (none_some x is);
         source = λ x is. absurd (none_some x is);
@@ -247,42 +206,30 @@ module _ (z : Numbers) (id : ℕ) (v : View) where
   -- DEAL. The dealer hands out the next pass
   pub deals_pass : v.role ≡ Dealer → v.passes < v.numbers.hosts → Splits (Ruled z) id v (dealt_pass v) (new_pass v)
   deals_pass role room s (g, fits, law) at =
-      let vs = s.views in
-      let h = law.views id v at in
+      let sat : Seated z g s.views id v = record { law = law; at = at } in
+      let h = view_of sat in
       let numbers : v.numbers ≡ z = h.kind.numbers (ap is_live_role role) in
       let hosts : v.numbers.hosts ≡ z.hosts = ap (λ (y : Numbers). y.hosts) numbers in
       let d = h.holding.dealer role in
       let passes_is = d.1 in
       let n : Name = Pass v.passes in
-      let new : ℕ = length vs in
+      let new : ℕ = length s.views in
       let g' : World = dealt_world g n new (g.passes + 1) g.brooms g.owner in
-      let not_yet : (m : Name) → IsDealt g m → ¬ (m ≡ n) = fresh_name g v.passes (omega arith) in
-      let still_dealt : (m : Name) → IsDealt g m → IsDealt g' m = dealt_more g g' refl refl in
+      let not_yet : (m : Name) → IsDealt g m → ¬ (m ≡ n) = grind arith in
+      let still_dealt : (m : Name) → IsDealt g m → IsDealt g' m = grind arith in
       let on : Onward z g g' id id = dealt_onward z g id new n (g.passes + 1) g.brooms g.owner not_yet still_dealt d.0 (λ b _. refl) in
-      let knows = knowledge_kept z g g' id id on v (λ b is below. counted vs law id v at b is below) h.knowledge in
       let idle = h.kind.idle (ap is_player role) in
-      let own : LawfulView z g' id (dealt_pass v) = record {
-        kind = kind_as h.kind refl refl (refl, refl, refl, refl);
-        knowledge = knowledge_as knows refl;
-        holding = dealer_holding z g id new n (g.passes + 1) g.brooms g.owner not_yet still_dealt (dealt_pass v) role (idle.0, idle.1) h.holding.guest
-            (λ b o is. owned_as (h.holding.owned b o is) refl refl refl refl) (d.0, ap (λ k. k + 1) d.1, d.2);
-      } in
+      let holding = dealer_holding z g id new n (g.passes + 1) g.brooms g.owner not_yet still_dealt (dealt_pass v) role (idle.0, idle.1) h.holding.guest
+      (λ b o is. owned_as (h.holding.owned b o is) refl refl refl refl) (d.0, ap (λ k. k + 1) d.1, d.2) in
+      let own : LawfulView z g' id (dealt_pass v) = assumption (holding, knowledge_kept on sat, h) in
       let added : LawfulView z g' new (new_pass v) = record {
-        kind = kind_fresh v.numbers (Player n) (replicate v.numbers.blocks 0) [] true None None (λ _. numbers)
-            (λ _. length-replicate v.numbers.blocks 0 ∙ ap (λ (y : Numbers). y.blocks) numbers) (λ b o is. absurd (none_some o is)) (λ _. refl)
-            (λ _ _ _ _. refl);
-        knowledge = knowledge_fresh v.numbers (Player n) (replicate v.numbers.blocks 0) [] true
-            (λ b _. let e = alike v.numbers.blocks b 0 in omega arith);
-        holding = new_holding z g id new n (g.passes + 1) g.brooms g.owner not_yet still_dealt v.numbers (replicate v.numbers.blocks 0) [] (omega arith)
-            (λ t is. ap (λ k. calls_of k g.history) (sym (passes_same v.passes t is)) ∙ law.strangers v.passes (omega arith))
-            (λ b o is. absurd (none_some o is));
+        kind = grind (arith, kind_fresh, length-replicate, none_some);
+        knowledge = grind (arith, knowledge_fresh, alike);
+        holding = grind arith;
       } in
-      let weighs : weight z (dealt_pass v) + 1 ≡ weight z v =
-      let a : weight z (dealt_pass v) ≡ z.hosts - (v.passes + 1) = ap (λ r. role_weight z.hosts r (v.passes + 1)) role in
-      let b : weight z v ≡ z.hosts - v.passes = ap (λ r. role_weight z.hosts r v.passes) role in omega arith in (
+      let weighs : weight z (dealt_pass v) + 1 ≡ weight z v = grind arith in (
         g',
         fits,
-        split z g g' vs id v (dealt_pass v) (new_pass v) law at refl refl refl on refl own added (λ b. refl) refl refl weighs (omega arith) (omega arith)
-            (λ s low. current_kept z g g' s refl refl refl refl (law.sectors s low))
-            (ceded_split z g.pins vs id v (dealt_pass v) (new_pass v) law.ceded at refl refl refl refl refl),
+        split sat g' (dealt_pass v) (new_pass v) refl on own added (λ b. refl) refl refl weighs (omega arith) (omega arith)
+            (ceded_split sat (dealt_pass v) (new_pass v) refl refl refl refl refl),
       )

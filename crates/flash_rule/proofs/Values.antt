@@ -1,8 +1,7 @@
 -- A page's words tell its bytes.
 use Rattle.flash_rule.proofs.Words.{◌≡◌, ℕ, zero, suc, ◌+◌, ◌*◌, ◌<◌, List, [], ◌∷◌, ◌++◌, length, sym, refl, ap, ◌∙◌, subst, arith, get_or, Numbers, IsValue}
-use Rattle.std.proofs.Common.{take, drop}
-use Rattle.std.proofs.lemmas.{List.get_or-drop, List.take-append-drop, List.drop-drop, List.length-drop, List.length-take, Nat.le_bytes_8}
-use Rattle.std.specs.Int.{from_le_bytes, w64}
+use Rattle.std.{proofs.Common.take, proofs.Common.drop, proofs.lemmas.Nat.le_bytes_8, specs.Int.from_le_bytes, specs.Int.w64}
+use Rattle.std.proofs.lemmas.List.{get_or-drop, take-append-drop, drop-drop, length-drop, length-take}
 use Rattle.flash_rule.specs.World.{data_word}
 
 take_bytes : (u : List ℕ) (n : ℕ) → ((k : ℕ) → get_or u k 0 < 256) → (k : ℕ) → get_or (take n u) k 0 < 256

@@ -1,10 +1,11 @@
 -- What the words and all seats of the table represent. It exists only in the rule, which says that there is one that the words fit.
-use Rattle.std.specs.Prelude.{◌≡◌, ℕ, ◌+◌, ◌*◌, ◌<◌, ◌≤◌, ◌==◌, Bool, true, false, List, Option, None, Some, if◌then◌else◌, length, slice_index}
+use Rattle.std.specs.Prelude.{◌≡◌, ℕ, ◌+◌, ◌*◌, ◌<◌, ◌≤◌, ◌==◌, Bool, true, List, [], ◌∷◌, Option, None, Some, if◌then◌else◌, length, slice_index}
+use Rattle.std.specs.List.{list_any}
 use Rattle.geometry.specs.History.{Call}
 use Rattle.geometry.specs.Limits.{Numbers, table_words_of}
 use Rattle.geometry.specs.PageBytes.{word_of}
 use Rattle.geometry.specs.MapWords.{map_word}
-use Rattle.geometry.specs.PinWords.{pin_word}
+use Rattle.geometry.specs.PinWords.{pin_word, phase_bits}
 use Rattle.geometry.specs.TableOrder.{pin_index, page_index}
 use Rattle.geometry.specs.declared.map_word.MapWord.{MapWord}
 use Rattle.geometry.specs.declared.pin_word.PinWord.{PinWord}
@@ -55,75 +56,37 @@ put_name f n x m = if same_name m n then x else f m
 abbrev pub put_word : (ℕ → ℕ → ℕ → ℕ) → ℕ → ℕ → ℕ → ℕ → ℕ → ℕ → ℕ → ℕ
 put_word pages b p i x = put pages b (put (pages b) p (put (pages b p) i x))
 
+-- the phase is one of these
+abbrev pub is_one_of : List Phase → Phase → Bool
+is_one_of phases p = list_any (λ q. phase_bits q == phase_bits p) phases
+
 -- the phases in which a block has an owner
 abbrev pub is_owned : Phase → Bool
-is_owned Free = false
-is_owned Open = true
-is_owned Closed = false
-is_owned Victim = true
-is_owned Drained = false
-is_owned Erasing = true
-is_owned Retired = false
+is_owned p = is_one_of (Open ∷ Victim ∷ Erasing ∷ []) p
 
 -- the phases in which the written pages of a block can be read
 abbrev pub is_intact : Phase → Bool
-is_intact Free = false
-is_intact Open = true
-is_intact Closed = true
-is_intact Victim = true
-is_intact Drained = true
-is_intact Erasing = false
-is_intact Retired = false
+is_intact p = is_one_of (Open ∷ Closed ∷ Victim ∷ Drained ∷ []) p
 
 -- the phases in which a map word may name a page of a block
 abbrev pub is_nameable : Phase → Bool
-is_nameable Free = false
-is_nameable Open = true
-is_nameable Closed = true
-is_nameable Victim = true
-is_nameable Drained = false
-is_nameable Erasing = false
-is_nameable Retired = false
+is_nameable p = is_one_of (Open ∷ Closed ∷ Victim ∷ []) p
 
 -- the phases in which no page of a block can become a sector's
 abbrev pub is_shut : Phase → Bool
-is_shut Free = false
-is_shut Open = false
-is_shut Closed = true
-is_shut Victim = true
-is_shut Drained = true
-is_shut Erasing = true
-is_shut Retired = true
+is_shut p = is_one_of (Closed ∷ Victim ∷ Drained ∷ Erasing ∷ Retired ∷ []) p
 
 -- the phases in which nobody fills a page, and no page is being erased
 abbrev pub is_still : Phase → Bool
-is_still Free = true
-is_still Open = false
-is_still Closed = true
-is_still Victim = true
-is_still Drained = true
-is_still Erasing = false
-is_still Retired = false
+is_still p = is_one_of (Free ∷ Closed ∷ Victim ∷ Drained ∷ []) p
 
 -- the phases in which a broom drains or erases a block
 abbrev pub is_reclaimed : Phase → Bool
-is_reclaimed Free = false
-is_reclaimed Open = false
-is_reclaimed Closed = false
-is_reclaimed Victim = true
-is_reclaimed Drained = false
-is_reclaimed Erasing = true
-is_reclaimed Retired = false
+is_reclaimed p = is_one_of (Victim ∷ Erasing ∷ []) p
 
 -- what the phase adds to twice the generation
 abbrev pub half_cycle : Phase → ℕ
-half_cycle Free = 0
-half_cycle Open = 0
-half_cycle Closed = 0
-half_cycle Victim = 0
-half_cycle Drained = 0
-half_cycle Erasing = 1
-half_cycle Retired = 1
+half_cycle p = if is_one_of (Erasing ∷ Retired ∷ []) p then 1 else 0
 
 -- the age of a block, which no step lowers
 abbrev pub age_of : PinWord → ℕ

@@ -6,11 +6,13 @@ mod carried;
 mod facts;
 mod forced;
 mod plays;
-mod reclaim_plays;
 mod rule;
 mod view;
 
-pub use broom_plays::{BroomLook, GetSource, GetStamp, InspectSector, MoveTo, Wipe};
+pub use broom_plays::{
+    BroomLook, Claim, Condemn, Drain, FreeBlock, GetSource, GetStamp, InspectSector, KeepBlock,
+    LoadState, MoveTo, RetireBlock, Wipe,
+};
 pub use carried::Carried;
 pub use facts::{Cycle, Inspection, Name, Owned, Pin, Role, Source, Work};
 pub use forced::pin_words_are_forced;
@@ -18,6 +20,5 @@ pub use plays::{
     AddReader, Close, ComeHome, Count, DealBroom, DealPass, GetWord, GiveBack, Lend, Look,
     PlaceNew, PlaceTrim, PlaceWrite, PutWord, RemoveReader, Take, TakeIn, Test,
 };
-pub use reclaim_plays::{Claim, Condemn, Drain, FreeBlock, KeepBlock, LoadState, RetireBlock};
 pub use rule::Device;
 pub use view::View;

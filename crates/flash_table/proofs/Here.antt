@@ -20,7 +20,7 @@ use Rattle.flash_table.specs.{declared.flash.Flash.Flash, declared.pass.Note.Not
 use Rattle.flash_table.proofs.Asking.{IsSeatOf, Asks, AsksSplit, AsksJoin, slots_of, asks, asks_pin, asks_sector, asks_split, asks_join}
 
 -- the next word of a page that is being filled is one of the table's
-pub put_within : (z : Numbers) (v : View) (o : Owned) (i : ℕ) → v.numbers ≡ z → CanPut v o → i ≡ length (words_in v.work o) → o.block < z.blocks
+put_within : (z : Numbers) (v : View) (o : Owned) (i : ℕ) → v.numbers ≡ z → CanPut v o → i ≡ length (words_in v.work o) → o.block < z.blocks
     → page_index z o.block o.written + i < table_words_of z.blocks z.pages z.words z.sectors
 put_within z v o i same can here low =
     let pages : v.numbers.pages ≡ z.pages = ap (λ (y : Numbers). y.pages) same in
@@ -29,6 +29,16 @@ put_within z v o i same can here low =
     let short = can.short in page_within z o.block o.written i low (omega arith) (omega arith)
 
 module _ {f : Flash} {x : Seat (Unit {0}) View} (h : IsSeatOf f x) where
+  -- ---- the place of a page's next word
+  module _ {start i : ℕ} (o : Owned) (begins : start ≡ page_index (device f) o.block o.written) (next : i ≡ length (words_in x.me.0.work o)) where
+    pub put_place : start + i ≡ page_index (device f) o.block o.written + length (words_in x.me.0.work o)
+    put_place = λ j. begins j + next j
+
+    pub put_fits : CanPut x.me.0 o → o.block < (device f).blocks → start + i < 2 ^ 64
+    put_fits can low =
+        let within = put_within (device f) x.me.0 o i h.numbers can next low in
+        let table = f.geometry.in_limits.table in omega arith
+
   -- ---- map words
   pub look_here : (s : ℕ) → is_pass x.me.0.role ≡ true → is_unpinned x.me.0.pin ≡ true → s < (device f).sectors
       → Asks f x s (λ n. n) (look_told (step (slots_of f) s 0 0 none) x.me)

@@ -1,7 +1,6 @@
 //! The shared words of a flash device, the seats of its passes and brooms, and the steps that they make.
 #![tactic(auto)]
 
-mod broom_notes;
 mod broom_seat;
 mod broom_steps;
 mod erasing;

@@ -40,7 +40,7 @@ impl Flash {
         requires pass { IsPassOf self.now pass.old }
         requires candidate { (value : List ℕ) × ((view_of pass.old).pin ≡ pin.Candidate page value) }
         requires block { page.block < blocks_of (geometry_of self.now) }
-        ensures told { PinTold (view_of pass.old) page result (view_of pass.new) }
+        ensures pinned { PinTold (view_of pass.old) page result (view_of pass.new) }
         ensures pass { IsPassOf self.now pass.new }
         ensures opened { opened_of pass.new ≡ opened_of pass.old }
     {
@@ -57,7 +57,7 @@ impl Flash {
         requires pass { IsPassOf self.now pass.old }
         requires pinned { IsOn (view_of pass.old).pin block }
         requires block { block < blocks_of (geometry_of self.now) }
-        ensures told { view_of pass.new ≡ record (view_of pass.old) { pin = pin.Clear } }
+        ensures clear { view_of pass.new ≡ record (view_of pass.old) { pin = pin.Clear } }
         ensures pass { IsPassOf self.now pass.new }
         ensures opened { opened_of pass.new ≡ opened_of pass.old }
     {
@@ -88,7 +88,7 @@ impl Flash {
         requires page { page.page < pages_of (geometry_of self.now) }
         requires start { start ≡ page_index (numbers_of (geometry_of self.now)) page.block page.page }
         requires word { i < words_of (geometry_of self.now) }
-        ensures told { (value : List ℕ) → (view_of pass.old).pin ≡ pin.Accepted page value → result ≡ data_word value i }
+        ensures value { (value : List ℕ) → (view_of pass.old).pin ≡ pin.Accepted page value → result ≡ data_word value i }
         ensures spared { IsSpared (view_of pass.old) page }
         ensures same { view_of pass.new ≡ view_of pass.old }
         ensures pass { IsPassOf self.now pass.new }

@@ -34,7 +34,7 @@ impl Flash {
         requires player { is_player seat.old.me.0.role ≡ true }
         requires numbers { seat.old.me.0.numbers ≡ device self.now }
         requires block { block < blocks_of (geometry_of self.now) }
-        ensures told { MatchOption result (FoundTaken seat.old.me.0 block seat.new.me.0)
+        ensures taken { MatchOption result (FoundTaken seat.old.me.0 block seat.new.me.0)
             (λ generation. TookFree seat.old.me.0 block generation seat.new.me.0) }
         ensures bare { seat.new.me.1 ≡ seat.old.me.1 }
         ensures table { seat.new.table_id ≡ seat.old.table_id }

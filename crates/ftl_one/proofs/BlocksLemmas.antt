@@ -1,22 +1,13 @@
 -- The blocks of the stock, as a store and the roles give them.
-use Rattle.std.proofs.Common.{◌≡◌, ◌≢◌, inl, inr, ℕ, ◌+◌, ◌<◌, Bool, true, not, cond, ltb, List, [], ◌∷◌, length, get_or, set, map, Option}
-use Rattle.std.proofs.Common.{None, Some, sym, ap, ◌∙◌, refl, arith, length-set, get_or-set_same, get_or-set_other}
+use Rattle.std.proofs.Common.{◌≡◌, ◌≢◌, inl, inr, ℕ, ◌+◌, ◌<◌, Bool, true, not, cond, ltb, List, [], ◌∷◌, length, get_or, set, map, Option, None, Some, sym, ap}
+use Rattle.std.proofs.Common.{◌∙◌, refl, arith, length-set, get_or-set_same, get_or-set_other}
 use Rattle.std.specs.List.{range_with_len, position, position_or_len, prefix_len}
-use Rattle.std.proofs.lemmas.List.{length-map, get_or-map}
+use Rattle.std.proofs.lemmas.{List.length-map, List.get_or-map, List.Sums.position_or_len_is, Bool.cases_eq, Bool.cases_Bool, Bool.lt-ltb, Bool.le-ltb}
 use Rattle.std.proofs.lemmas.List.FromFn.{length-map-range_with_len, get_or-map-range_with_len, fill_by_all}
-use Rattle.std.proofs.lemmas.List.Sums.{position_or_len_is}
-use Rattle.std.proofs.lemmas.Bool.{cases_eq, cases_Bool, lt-ltb, le-ltb}
-use Rattle.geometry.specs.Geometry.{blocks_of}
-use Rattle.geometry.specs.Greedy.{greedy_of}
-use Rattle.ftl_one.specs.declared.role.Role.{Role}
-use Rattle.ftl_one.specs.declared.role.Role.TheVariants.{Retired}
-use Rattle.ftl_one.specs.declared.store.Store.{Store}
+use Rattle.geometry.specs.{Geometry.blocks_of, Greedy.greedy_of}
+use Rattle.ftl_one.specs.{declared.role.Role.Role, Entries.live_count, Store.geometry_of, Store.entries_of, Store.counts_of, Blocks.block_in, Blocks.blocks_in}
+use Rattle.ftl_one.{specs.declared.role.Role.TheVariants.Retired, specs.declared.store.Store.Store, specs.Lawful.role_in, proofs.StoreLemmas.count-entries_of}
 use Rattle.ftl_one.specs.Stock.{Block, is_open, is_free, is_spare, is_closed, open_of, free_of, spare_of, live_of, victim_of, change_at, unused}
-use Rattle.ftl_one.specs.Entries.{live_count}
-use Rattle.ftl_one.specs.Store.{geometry_of, entries_of, counts_of}
-use Rattle.ftl_one.specs.Lawful.{role_in}
-use Rattle.ftl_one.specs.Blocks.{block_in, blocks_in}
-use Rattle.ftl_one.proofs.StoreLemmas.{count-entries_of}
 
 -- a list made from a function
 abbrev pub table : {X : Type 0} → (ℕ → X) → ℕ → List X

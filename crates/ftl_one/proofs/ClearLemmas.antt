@@ -1,14 +1,10 @@
 -- A block's live pages are copied one after the other, from its first page on.
-use Rattle.std.proofs.Common.{◌≡◌, ◌≢◌, ℕ, ◌+◌, ◌<◌, ◌≤◌, Bool, true, false, cond, List, [], ◌∷◌, ◌++◌, length, get_or, take, sym}
-use Rattle.std.proofs.Common.{ap, ◌∙◌, refl, arith, length-append, length-set, length-take, get_or-set_other}
-use Rattle.std.proofs.lemmas.List.{append_assoc, take_more, take_more_set, take_all, append-nil}
-use Rattle.std.proofs.lemmas.List.Elements.{filter-append}
+use Rattle.std.proofs.Common.{◌≡◌, ◌≢◌, ℕ, ◌+◌, ◌<◌, ◌≤◌, Bool, true, false, cond, List, [], ◌∷◌, ◌++◌, length, get_or, take, sym, ap, ◌∙◌, refl, arith}
+use Rattle.std.proofs.Common.{length-append, length-set, length-take, get_or-set_other}
+use Rattle.std.proofs.lemmas.List.{append_assoc, take_more, take_more_set, take_all, append-nil, Elements.filter-append}
 use Rattle.std.proofs.lemmas.List.Sums.{sum_by_push, sum_by-take-le, sum_by_more, length-filter, count_by-le-length}
-use Rattle.geometry.specs.declared.page_addr.PageAddr.{PageAddr}
-use Rattle.geometry.specs.Geometry.{blocks_of, pages_of}
-use Rattle.ftl_one.specs.declared.store.Store.{Store}
-use Rattle.ftl_one.specs.Stock.{Entry, live_entries}
-use Rattle.ftl_one.specs.Entries.{live_count}
+use Rattle.geometry.specs.{declared.page_addr.PageAddr.PageAddr, Geometry.blocks_of, Geometry.pages_of}
+use Rattle.ftl_one.specs.{declared.store.Store.Store, Stock.Entry, Stock.live_entries, Entries.live_count}
 use Rattle.ftl_one.specs.Store.{geometry_of, array_of, entries_of, live_at, sector_of, KeepsBlocks, HasRoom, HasRoomFor, Relocates, Clears}
 
 -- the first p pages of the victim are copied as far as they are live

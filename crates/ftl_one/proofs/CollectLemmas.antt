@@ -1,25 +1,16 @@
 -- A collection: all blocks but the spare are closed, the victim has a dead page, and what stands after it.
-use Rattle.std.proofs.Common.{◌≡◌, ◌≢◌, inl, inr, ℕ, zero, suc, ◌-◌, ◌*◌, ◌<◌, ◌≤◌, Bool, false, cond, List, [], ◌∷◌, length}
-use Rattle.std.proofs.Common.{get_or, map, sum, None, Some, is_some, sym, ap, ◌∙◌, subst, arith, length-append}
-use Rattle.std.proofs.lemmas.List.{length-map, get_or-map, get_or_past}
-use Rattle.std.proofs.lemmas.List.Sums.{sum_by-cons, count_by-le-length, length-filter}
+use Rattle.std.proofs.Common.{◌≡◌, ◌≢◌, inl, inr, ℕ, zero, suc, ◌-◌, ◌*◌, ◌<◌, ◌≤◌, Bool, false, cond, List, [], ◌∷◌, length, get_or, map, sum, None, Some}
+use Rattle.std.proofs.Common.{is_some, sym, ap, ◌∙◌, subst, arith, length-append}
+use Rattle.std.proofs.lemmas.List.{length-map, get_or-map, get_or_past, Sums.sum_by-cons, Sums.count_by-le-length, Sums.length-filter}
 use Rattle.std.proofs.lemmas.Bool.{false≢true, cases_lt}
-use Rattle.geometry.specs.Geometry.{blocks_of, pages_of}
-use Rattle.geometry.specs.Greedy.{IsGreedy, IsClosed}
-use Rattle.geometry.proofs.GreedyLemmas.{greedy_of-best}
-use Rattle.ftl_one.specs.declared.role.Role.{Role}
-use Rattle.ftl_one.specs.declared.role.Role.TheVariants.{Open, Closed, Spare, Retired}
-use Rattle.ftl_one.specs.declared.store.Store.{Store}
-use Rattle.ftl_one.specs.declared.one_ftl.OneFtl.{OneFtl}
+use Rattle.geometry.{specs.Geometry.blocks_of, specs.Geometry.pages_of, specs.Greedy.IsGreedy, specs.Greedy.IsClosed, proofs.GreedyLemmas.greedy_of-best}
+use Rattle.ftl_one.specs.declared.role.Role.{Role, TheVariants.Open, TheVariants.Closed, TheVariants.Spare, TheVariants.Retired}
+use Rattle.ftl_one.specs.{declared.store.Store.Store, declared.one_ftl.OneFtl.OneFtl, Entries.live_count, Fewest.IsFewest, OneFtl.stock_of}
 use Rattle.ftl_one.specs.Stock.{Entry, live_entries, is_free, is_closed, open_of, free_of, spare_of, victim_of, is_retired}
-use Rattle.ftl_one.specs.Entries.{live_count}
-use Rattle.ftl_one.specs.Fewest.{IsFewest}
 use Rattle.ftl_one.specs.Store.{geometry_of, entries_of, retired_of, counts_of, HasRoomFor, Clears, Erases}
-use Rattle.ftl_one.specs.Lawful.{IsLawful, role_in, has_pages}
-use Rattle.ftl_one.specs.OneFtl.{stock_of}
+use Rattle.ftl_one.{specs.Lawful.IsLawful, specs.Lawful.role_in, specs.Lawful.has_pages, proofs.StoreLemmas.entries_within, proofs.StoreLemmas.count-entries_of}
 use Rattle.ftl_one.proofs.LawfulLemmas.{closed_else, lawful-collect, closed≢spare}
 use Rattle.ftl_one.proofs.FtlLemmas.{none_found, closed_by, open_of-stock, free_of-stock, spare_found, victim_of-stock}
-use Rattle.ftl_one.proofs.StoreLemmas.{entries_within, count-entries_of}
 
 -- a sum of terms that are at least m, but for one
 sum_all : (xs : List ℕ) (m : ℕ) → ((k : ℕ) → k < length xs → m ≤ get_or xs k 0) → length xs * m ≤ sum xs

@@ -1,25 +1,16 @@
 -- The collection that a write makes is the one that was due.
-use Rattle.std.proofs.Common.{◌≡◌, ◌≢◌, ℕ, ◌+◌, ◌<◌, ◌≤◌, Bool, true, false, cond, eqb, ltb, List, length, get_or, map, Option}
-use Rattle.std.proofs.Common.{None, Some, sym, ap, ◌∙◌, refl, inl, inr, subst, arith, length-set, zero-add}
-use Rattle.std.specs.Prelude.{is_some, option_map}
-use Rattle.std.specs.Option.{option_and_then}
-use Rattle.std.specs.List.{position_or_len, range_with_len}
-use Rattle.std.proofs.lemmas.List.{length-map, get_or-map, get_or_past}
-use Rattle.std.proofs.lemmas.List.FromFn.{get_or-range_with_len, length-range_with_len}
-use Rattle.std.proofs.lemmas.List.Sums.{position_or_len_is}
-use Rattle.std.proofs.lemmas.List.Quantifiers.{position-Some}
-use Rattle.std.proofs.lemmas.Bool.{false≢true, cases_lt}
-use Rattle.std.proofs.lemmas.Bool.Decides.{nat_tests}
-use Rattle.geometry.specs.Geometry.{endurance_of, pages_of}
-use Rattle.geometry.specs.declared.geometry.Geometry.{Geometry}
-use Rattle.ftl_one.specs.declared.collection.Collection.{Collection}
-use Rattle.ftl_one.specs.declared.role.Role.TheVariants.{Retired, Spare}
+use Rattle.std.proofs.Common.{◌≡◌, ◌≢◌, ℕ, ◌+◌, ◌<◌, ◌≤◌, Bool, true, false, cond, eqb, ltb, List, length, get_or, map, Option, None, Some, sym, ap, ◌∙◌, refl}
+use Rattle.std.proofs.{Common.inl, Common.inr, Common.subst, Common.arith, Common.length-set, Common.zero-add, lemmas.List.Sums.position_or_len_is}
+use Rattle.std.specs.{Prelude.is_some, Prelude.option_map, Option.option_and_then, List.position_or_len, List.range_with_len}
+use Rattle.std.proofs.lemmas.List.{length-map, get_or-map, get_or_past, FromFn.get_or-range_with_len, FromFn.length-range_with_len, Quantifiers.position-Some}
+use Rattle.std.proofs.lemmas.Bool.{false≢true, cases_lt, Decides.nat_tests}
+use Rattle.geometry.specs.{Geometry.endurance_of, Geometry.pages_of, declared.geometry.Geometry.Geometry}
+use Rattle.ftl_one.specs.declared.{collection.Collection.Collection, role.Role.TheVariants.Retired, role.Role.TheVariants.Spare}
 use Rattle.ftl_one.specs.Collections.{collection_between, collection_due, collection_into, collection_of, copybacks_into, due_by, erased_between, was_erased}
-use Rattle.ftl_one.specs.Laws.{block_at, Collects, ErasesNothing}
-use Rattle.ftl_one.specs.Stock.{Block, Stock, change_at, closed_if_full, collect, collected, emptied, filled, forget, free_of, is_open, is_retired}
-use Rattle.ftl_one.specs.Stock.{live_of, open_of, opened, ready, ready_by, spare_of, unused, victim_of, with_page, write_into, write_of}
-use Rattle.ftl_one.proofs.LawLemmas.{Collects-then, ErasesNothing-then, change-here, change-there, collects}
-use Rattle.ftl_one.proofs.LawLemmas.{nothing_opened, same_some, none_some, victim_apart, victim_low, written}
+use Rattle.ftl_one.{specs.Laws.block_at, specs.Laws.Collects, specs.Laws.ErasesNothing, proofs.LawLemmas.victim_low, proofs.LawLemmas.written}
+use Rattle.ftl_one.specs.Stock.{Block, Stock, change_at, closed_if_full, collect, collected, emptied, filled, forget, free_of, is_open, is_retired, live_of}
+use Rattle.ftl_one.specs.Stock.{open_of, opened, ready, ready_by, spare_of, unused, victim_of, with_page, write_into, write_of}
+use Rattle.ftl_one.proofs.LawLemmas.{Collects-then, ErasesNothing-then, change-here, change-there, collects, nothing_opened, same_some, none_some, victim_apart}
 
 -- the first place of a range that passes a test
 first_place : (p : ℕ → Bool) (n v : ℕ) → v ≤ n → ((k : ℕ) → k < v → p k ≡ false) → (v < n → p v ≡ true) → position_or_len p (range_with_len 0 n) ≡ v

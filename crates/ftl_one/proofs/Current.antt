@@ -1,31 +1,19 @@
 -- Whether a sector is written, by the marks on the entries of pages: a live one of the sector is the page that the map names.
-use Rattle.std.proofs.Common.{◌≡◌, ℕ, ◌<◌, Bool, true, false, ◌&&◌, eq-eqb, ne_eqb, List, length, get_or, Option}
-use Rattle.std.proofs.Common.{None, Some, is_some, option_map, sym, ap, ◌∙◌, refl, arith}
-use Rattle.std.specs.List.{list_any}
-use Rattle.std.proofs.lemmas.List.Folds.{list_any_none, list_any_at}
+use Rattle.std.proofs.Common.{◌≡◌, ℕ, ◌<◌, Bool, true, false, ◌&&◌, eq-eqb, ne_eqb, List, length, get_or, Option, None, Some, is_some, option_map, sym, ap, ◌∙◌}
+use Rattle.std.proofs.{Common.refl, Common.arith, lemmas.List.Folds.list_any_none, lemmas.List.Folds.list_any_at}
+use Rattle.std.specs.{List.list_any, Option.option_and_then, Prelude.◌==◌, Prelude.if◌then◌else◌}
 use mathlib.Core.Logic.{dite}
 use native.Mathlib.Decide.{ℕ_discrete}
-use Rattle.std.specs.Option.{option_and_then}
-use Rattle.std.specs.Prelude.{◌==◌, if◌then◌else◌}
-use Rattle.geometry.specs.Geometry.{pages_of, endurance_of, sectors_of}
-use Rattle.geometry.specs.History.{Write, WriteNew}
-use Rattle.geometry.specs.Sectors.{Sector, sector_at, was_of}
+use Rattle.geometry.specs.{Geometry.pages_of, Geometry.endurance_of, Geometry.sectors_of, History.Write, History.WriteNew, declared.geometry.Geometry.Geometry}
+use Rattle.geometry.specs.{Sectors.Sector, Sectors.sector_at, Sectors.was_of, declared.page_addr.PageAddr.PageAddr}
 use Rattle.geometry.specs.declared.answer.Was.TheVariants as was
-use Rattle.geometry.specs.declared.geometry.Geometry.{Geometry}
-use Rattle.geometry.specs.declared.page_addr.PageAddr.{PageAddr}
-use Rattle.die.specs.Die.{block_of}
-use Rattle.die.specs.Pages.{Block, page_at}
-use Rattle.ftl_one.specs.declared.one_ftl.OneFtl.{OneFtl}
+use Rattle.die.specs.{Die.block_of, Pages.Block, Pages.page_at}
+use Rattle.ftl_one.specs.{declared.one_ftl.OneFtl.OneFtl, declared.role.Role.TheVariants.Retired, OneFtl.geometry_of, OneFtl.array_of, OneFtl.stock_of}
 use Rattle.ftl_one.specs.Stock.{Entry, Stock, Block as StockBlock, unused, is_current, has_page, next, write_of, ready}
-use Rattle.ftl_one.specs.declared.role.Role.TheVariants.{Retired}
-use Rattle.ftl_one.specs.Entries.{names, is_page, entries_in, value_in}
-use Rattle.ftl_one.specs.Store as pages
-use Rattle.ftl_one.specs.OneFtl.{geometry_of, array_of, stock_of}
-use Rattle.ftl_one.specs.Blocks.{blocks_in}
-use Rattle.ftl_one.proofs.EntryLemmas.{length-entries, get_or-entries, is_page-at}
-use Rattle.ftl_one.proofs.MapLemmas.{sector-at}
-use Rattle.ftl_one.proofs.StoreLemmas.{size_of}
+use Rattle.ftl_one.specs.{Entries.names, Entries.is_page, Entries.entries_in, Entries.value_in, Blocks.blocks_in}
+use Rattle.ftl_one.proofs.{EntryLemmas.length-entries, EntryLemmas.get_or-entries, EntryLemmas.is_page-at, MapLemmas.sector-at, StoreLemmas.size_of}
 use Rattle.ftl_one.proofs.FtlLemmas.{length-blocks, get_or-blocks}
+use Rattle.ftl_one.specs.Store as pages
 
 dead_entry : Entry
 dead_entry = record { sector = 0; live = false }

@@ -1,15 +1,12 @@
 -- The entries of a block as the map and the die's pages change.
-use Rattle.std.proofs.Common.{◌≡◌, ◌≢◌, inl, inr, ℕ, ◌<◌, Bool, true, false, eqb, List, [], ◌∷◌, ◌++◌, length, get_or, set, map, Option}
-use Rattle.std.proofs.Common.{None, Some, sym, ap, ◌∙◌, refl, arith, length-set, get_or-set_same, get_or-set_other}
-use Rattle.std.specs.List.{range_with_len}
-use Rattle.std.proofs.lemmas.List.{length-map, same_lists, get_or-map, get_or_push, get_or_append_left, length_push}
-use Rattle.std.proofs.lemmas.List.FromFn.{length-map-range_with_len, get_or-map-range_with_len, map-range_with_len_more}
+use Rattle.std.proofs.Common.{◌≡◌, ◌≢◌, inl, inr, ℕ, ◌<◌, Bool, true, false, eqb, List, [], ◌∷◌, ◌++◌, length, get_or, set, map, Option, None, Some, sym, ap}
+use Rattle.std.proofs.{Common.◌∙◌, Common.refl, Common.arith, Common.length-set, Common.get_or-set_same, Common.get_or-set_other, lemmas.List.get_or-map}
+use Rattle.std.{specs.List.range_with_len, proofs.lemmas.List.get_or_push, proofs.lemmas.List.get_or_append_left, proofs.lemmas.List.length_push}
+use Rattle.std.proofs.lemmas.List.{length-map, same_lists, FromFn.length-map-range_with_len, FromFn.get_or-map-range_with_len, FromFn.map-range_with_len_more}
 use Rattle.std.proofs.lemmas.Bool.{false≢true, eqb-true, eq-eqb, ne_eqb, and_from, and_parts, and_left, and_right, cases_eq}
 use Rattle.geometry.specs.declared.page_addr.PageAddr.{PageAddr}
-use Rattle.die.specs.Pages.{Block, Page, page_at, programmed, erased_page}
-use Rattle.die.proofs.BlockLemmas.{map_range_same}
-use Rattle.ftl_one.specs.Stock.{Entry, forgotten}
-use Rattle.ftl_one.specs.Entries.{is_page, names, entry_of, entries_in}
+use Rattle.die.{specs.Pages.Block, specs.Pages.Page, specs.Pages.page_at, specs.Pages.programmed, specs.Pages.erased_page, proofs.BlockLemmas.map_range_same}
+use Rattle.ftl_one.specs.{Stock.Entry, Stock.forgotten, Entries.is_page, Entries.names, Entries.entry_of, Entries.entries_in}
 
 pub length-entries : (n : ℕ) (current : List (Option PageAddr)) (b : ℕ) (block : Block) → length (entries_in n current b block) ≡ length block.pages
 unfolding entries_in

@@ -1,7 +1,6 @@
 -- The smallest of the blocks' counts, by those below the place that is left out and those above it.
-use Rattle.std.specs.Prelude.{min}
-use Rattle.std.proofs.Common.{◌≡◌, ◌≢◌, ◌⊎◌, inl, inr, ℕ, ◌+◌, ◌-◌, ◌<◌, ◌≤◌, List, length, get_or, take, drop, sym, ap, ◌∙◌}
-use Rattle.std.proofs.Common.{refl, subst, arith, get_or-take, get_or-drop, length-take, length-drop}
+use Rattle.std.{specs.Prelude.min, proofs.Common.get_or-drop, proofs.Common.length-take, proofs.Common.length-drop}
+use Rattle.std.proofs.Common.{◌≡◌, ◌≢◌, ◌⊎◌, inl, inr, ℕ, ◌+◌, ◌-◌, ◌<◌, ◌≤◌, List, length, get_or, take, drop, sym, ap, ◌∙◌, refl, subst, arith, get_or-take}
 use Rattle.std.proofs.lemmas.Bool.{cases_eq, cases_lt, cases_order}
 use Rattle.ftl_one.specs.Fewest.{IsFewest, IsLeast, IsFirst}
 
@@ -40,10 +39,7 @@ IsLeast-more counts many least x smaller h is e = elim (cases_lt x least) [
 
 -- the smaller of two is one of them
 pub min_either : (a b smaller : ℕ) → smaller ≡ min a b → (smaller ≡ a) ⊎ (smaller ≡ b)
-min_either a b smaller e = elim (cases_lt a b) [
-  | inl less ↦ inl (omega (arith, less, e))
-  | inr more ↦ inr (omega (arith, more, e))
-]
+min_either a b smaller e = elim (cases_lt a b) [ inl less ↦ inl (omega (arith, less, e)) | inr more ↦ inr (omega (arith, more, e)) ]
 
 module _ (counts : List ℕ) (left_out first second least : ℕ) (inside : left_out < length counts) (others : 2 ≤ length counts)
     (fits : (k : ℕ) → get_or counts k 0 ≤ 65535) (below : IsLeast (take left_out counts) (length (take left_out counts)) first)

@@ -1,63 +1,38 @@
 -- The layer's blocks after each of its moves, and what the totals weigh.
-use Rattle.std.proofs.Common.{◌≡◌, ◌≢◌, inl, inr, ℕ, zero, suc, ◌+◌, ◌-◌, ◌*◌, ◌<◌, ◌≤◌, ◌^◌, Bool, true, false, not, cond, eqb, List, []}
-use Rattle.std.proofs.Common.{◌∷◌, ◌++◌, length, get_or, set, map, sum_by, None, Some, sym, ap, ◌∙◌, refl, subst, arith, length-append}
-use Rattle.std.proofs.Common.{length-set, length-drop, drop, get_or-drop, get_or-set_same, get_or-set_other}
-use Rattle.std.specs.List.{position, position_or_len}
-use Rattle.std.specs.Vec.{with_items}
-use Rattle.std.proofs.lemmas.List.{with_items_is, length-map, get_or-map, length_push}
-use Rattle.std.proofs.lemmas.List.FromFn.{sum_by-map-range_with_len_more}
+use Rattle.std.proofs.Common.{◌≡◌, ◌≢◌, inl, inr, ℕ, zero, suc, ◌+◌, ◌-◌, ◌*◌, ◌<◌, ◌≤◌, ◌^◌, Bool, true, false, not, cond, eqb, List, [], ◌∷◌, ◌++◌, length}
+use Rattle.std.proofs.Common.{get_or, set, map, sum_by, None, Some, sym, ap, ◌∙◌, refl, subst, arith, length-append, length-set, length-drop, drop, get_or-drop}
+use Rattle.std.{proofs.Common.get_or-set_same, proofs.Common.get_or-set_other, specs.List.position, specs.List.position_or_len, specs.Vec.with_items}
+use Rattle.std.proofs.lemmas.List.{with_items_is, length-map, get_or-map, length_push, FromFn.sum_by-map-range_with_len_more, Quantifiers.position-Some}
 use Rattle.std.proofs.lemmas.List.Sums.{sum_by-cons, sum_by-set, prefix_len_passes, position_or_len_is, length-filter}
-use Rattle.std.proofs.lemmas.List.Quantifiers.{position-Some}
-use Rattle.std.proofs.lemmas.Bool.{false≢true, cases_eq, cases_lt, lt-ltb, le-ltb, not-true, eq-eqb, ne_eqb}
-use Rattle.std.proofs.lemmas.Nat.{mul-le}
-use Rattle.geometry.specs.Geometry.{blocks_of, pages_of, endurance_of}
-use Rattle.geometry.specs.Greedy.{greedy_of}
+use Rattle.std.proofs.lemmas.{Bool.false≢true, Bool.cases_eq, Bool.cases_lt, Bool.lt-ltb, Bool.le-ltb, Bool.not-true, Bool.eq-eqb, Bool.ne_eqb, Nat.mul-le}
+use Rattle.geometry.specs.{Geometry.blocks_of, Geometry.pages_of, Geometry.endurance_of, Greedy.greedy_of}
 use Rattle.geometry.specs.declared.limits.TheConstants.{MAX_BLOCKS, MAX_ENDURANCE, MAX_PAGES}
 use Rattle.die.proofs.DieLemmas.{erases-block}
-use Rattle.ftl_one.specs.declared.role.Role.{Role}
-use Rattle.ftl_one.specs.declared.role.Role.TheVariants.{Free, Open, Closed, Spare, Retired}
-use Rattle.ftl_one.specs.declared.store.Store.{Store}
-use Rattle.ftl_one.specs.declared.one_ftl.OneFtl.{OneFtl}
-use Rattle.ftl_one.specs.Stock.{Block, Entry, is_open, is_free, is_spare, is_closed, open_of, free_of, spare_of, live_of, victim_of, change_at}
-use Rattle.ftl_one.specs.Stock.{unused, forget, forgotten, with_page, closed_if_full, filled, emptied, live_entries, is_retired}
+use Rattle.ftl_one.specs.declared.role.Role.{Role, TheVariants.Free, TheVariants.Open, TheVariants.Closed, TheVariants.Spare, TheVariants.Retired}
+use Rattle.ftl_one.specs.{declared.store.Store.Store, Lawful.role_in, Blocks.block_in, Blocks.blocks_in, Blocks.weight, Laws.HasRetired, Laws.block_at}
+use Rattle.ftl_one.{specs.declared.one_ftl.OneFtl.OneFtl, specs.OneFtl.stock_of, proofs.BlocksLemmas.spare_of-blocks, proofs.BlocksLemmas.victim_of-blocks}
+use Rattle.ftl_one.specs.Stock.{Block, Entry, is_open, is_free, is_spare, is_closed, open_of, free_of, spare_of, live_of, victim_of, change_at, unused, forget}
+use Rattle.ftl_one.specs.Stock.{forgotten, with_page, closed_if_full, filled, emptied, live_entries, is_retired}
 use Rattle.ftl_one.specs.Store.{geometry_of, entries_of, erases_of, retired_of, counts_of, KeepsBlocks, Puts, Clears, Erases, HasRoom}
-use Rattle.ftl_one.specs.Lawful.{role_in}
-use Rattle.ftl_one.specs.Blocks.{block_in, blocks_in, weight}
-use Rattle.ftl_one.specs.Laws.{HasRetired, block_at}
-use Rattle.ftl_one.specs.OneFtl.{stock_of}
-use Rattle.ftl_one.proofs.BlocksLemmas.{table, length-table, get_or-table, table_is, table-change, table-map, position_alone}
-use Rattle.ftl_one.proofs.BlocksLemmas.{open_of-blocks, free_of-blocks, spare_of-blocks, victim_of-blocks}
-use Rattle.ftl_one.proofs.LawfulLemmas.{inside, open≢retired, spare≢retired}
-use Rattle.ftl_one.proofs.StoreLemmas.{entries_within}
+use Rattle.ftl_one.proofs.BlocksLemmas.{table, length-table, get_or-table, table_is, table-change, table-map, position_alone, open_of-blocks, free_of-blocks}
+use Rattle.ftl_one.proofs.{LawfulLemmas.inside, LawfulLemmas.open≢retired, LawfulLemmas.spare≢retired, StoreLemmas.entries_within}
 
 -- a role by its test
 pub free_by : (r : Role) → is_free r ≡ true → r ≡ Free
 free_by Free h = refl
-free_by Open h = absurd (false≢true h)
-free_by Closed h = absurd (false≢true h)
-free_by Spare h = absurd (false≢true h)
-free_by Retired h = absurd (false≢true h)
+free_by _ h = absurd (false≢true h)
 
 pub open_by : (r : Role) → is_open r ≡ true → r ≡ Open
-open_by Free h = absurd (false≢true h)
 open_by Open h = refl
-open_by Closed h = absurd (false≢true h)
-open_by Spare h = absurd (false≢true h)
-open_by Retired h = absurd (false≢true h)
+open_by _ h = absurd (false≢true h)
 
 pub closed_by : (r : Role) → is_closed r ≡ true → r ≡ Closed
-closed_by Free h = absurd (false≢true h)
-closed_by Open h = absurd (false≢true h)
 closed_by Closed h = refl
-closed_by Spare h = absurd (false≢true h)
-closed_by Retired h = absurd (false≢true h)
+closed_by _ h = absurd (false≢true h)
 
 pub spare_by : (r : Role) → is_spare r ≡ true → r ≡ Spare
-spare_by Free h = absurd (false≢true h)
-spare_by Open h = absurd (false≢true h)
-spare_by Closed h = absurd (false≢true h)
 spare_by Spare h = refl
-spare_by Retired h = absurd (false≢true h)
+spare_by _ h = absurd (false≢true h)
 
 -- where a search finds nothing, no element passes
 pub none_found : {X : Type 0} (p : X → Bool) (xs : List X) (d : X) → position p xs ≡ None → (k : ℕ) → k < length xs → p (get_or xs k d) ≡ false
@@ -358,11 +333,7 @@ open_found f b e =
 pub open_room : (f : OneFtl) (b : ℕ) → open_of (stock_of f).blocks ≡ Some b → HasRoom f.store b
 open_room f b e =
     let found = open_found f b e in
-    record {
-      within = found.0;
-      not_retired = f.lawful.usable b found.0 ∙ ap is_retired found.1;
-      room = f.lawful.room b found.1;
-    }
+    record { within = found.0; not_retired = f.lawful.usable b found.0 ∙ ap is_retired found.1; room = f.lawful.room b found.1 }
 
 -- a sum over a table is at most its length times the most of its terms
 sum_table_le : (w : Block → ℕ) (f : ℕ → Block) (n m : ℕ) → ((k : ℕ) → k < n → w (f k) ≤ m) → sum_by w (table f n) ≤ n * m

@@ -1,18 +1,14 @@
 -- What the stock's definition gives of a write: at most one block is collected, and it is a closed one with the
 -- fewest live pages.
-use Rattle.std.proofs.Common.{◌≡◌, ◌≢◌, ◌⊎◌, inl, inr, ℕ, ◌+◌, ◌<◌, Bool, true, false, cond, eqb, List, length, get_or, map, Option, None}
-use Rattle.std.proofs.Common.{Some, sym, ap, ◌∙◌, refl, subst, arith, length-set, get_or-set_same, get_or-set_other}
+use Rattle.std.proofs.Common.{◌≡◌, ◌≢◌, ◌⊎◌, inl, inr, ℕ, ◌+◌, ◌<◌, Bool, true, false, cond, eqb, List, length, get_or, map, Option, None, Some, sym, ap, ◌∙◌}
+use Rattle.std.proofs.Common.{refl, subst, arith, length-set, get_or-set_same, get_or-set_other}
 use Rattle.std.specs.Option.{option_and_then}
-use Rattle.std.proofs.lemmas.List.{length-map, get_or-map, get_or_past}
-use Rattle.std.proofs.lemmas.Bool.{false≢true, cases_eq, cases_lt}
-use Rattle.std.proofs.lemmas.List.Quantifiers.{position-Some}
+use Rattle.std.proofs.lemmas.{List.length-map, List.get_or-map, List.get_or_past, Bool.false≢true, Bool.cases_eq, Bool.cases_lt, List.Quantifiers.position-Some}
 use Rattle.geometry.proofs.GreedyLemmas.{greedy_of-closed, greedy_of-least}
-use Rattle.ftl_one.specs.declared.role.Role.{Role}
-use Rattle.ftl_one.specs.declared.role.Role.TheVariants.{Open, Closed, Spare, Retired}
-use Rattle.ftl_one.specs.Stock.{Stock, Block, unused, live_of, is_closed, is_spare, open_of, free_of, spare_of, victim_of, forget, with_page}
-use Rattle.ftl_one.specs.Stock.{closed_if_full, change_at, filled, emptied, opened, collected, collect, ready_by, ready, write_into, write_of}
-use Rattle.ftl_one.specs.Laws.{block_at, ErasesNothing, Collects}
-use Rattle.ftl_one.proofs.FtlLemmas.{closed_by, spare_by}
+use Rattle.ftl_one.specs.declared.role.Role.{Role, TheVariants.Open, TheVariants.Closed, TheVariants.Spare, TheVariants.Retired}
+use Rattle.ftl_one.specs.Stock.{Stock, Block, unused, live_of, is_closed, is_spare, open_of, free_of, spare_of, victim_of, forget, with_page, closed_if_full}
+use Rattle.ftl_one.specs.Stock.{change_at, filled, emptied, opened, collected, collect, ready_by, ready, write_into, write_of}
+use Rattle.ftl_one.{specs.Laws.block_at, specs.Laws.ErasesNothing, specs.Laws.Collects, proofs.FtlLemmas.closed_by, proofs.FtlLemmas.spare_by}
 
 -- a change of one block, place by place
 pub change-here : (xs : List Block) (b : ℕ) (h : Block → Block) → b < length xs
@@ -89,11 +85,7 @@ Collects-then old mid new v h more =
 
 pub ErasesNothing-then : (old mid new : Stock) → ErasesNothing old mid → ErasesNothing mid new → ErasesNothing old new
 ErasesNothing-then old mid new h more =
-    record {
-      blocks = λ b. more.blocks b ∙ h.blocks b;
-      erases = more.erases ∙ h.erases;
-      copies = more.copies ∙ h.copies;
-    }
+    record { blocks = λ b. more.blocks b ∙ h.blocks b; erases = more.erases ∙ h.erases; copies = more.copies ∙ h.copies }
 
 -- a collection into the spare
 module _ (endurance : ℕ) (k : Stock) (spare v : ℕ) (is_spare_of : spare_of k.blocks ≡ Some spare) (chosen : victim_of k.blocks ≡ Some v) where

@@ -1,10 +1,8 @@
 -- What the layer keeps true, as blocks are opened, written, closed and collected.
 use Rattle.std.proofs.Common.{◌≡◌, ◌≢◌, inl, inr, ℕ, ◌+◌, ◌<◌, ◌≤◌, Bool, true, false, cond, Option, None, Some, sym, ap, ◌∙◌, refl, arith}
 use Rattle.std.proofs.lemmas.Bool.{cases_eq, cases_lt}
-use Rattle.ftl_one.specs.declared.role.Role.{Role}
+use Rattle.ftl_one.specs.{declared.role.Role.Role, Lawful.IsLawful, Lawful.KnowsSpare, Lawful.has_pages, Stock.is_retired}
 use Rattle.ftl_one.specs.declared.role.Role.TheVariants.{Free, Open, Closed, Spare, Retired}
-use Rattle.ftl_one.specs.Lawful.{IsLawful, KnowsSpare, has_pages}
-use Rattle.ftl_one.specs.Stock.{is_retired}
 
 some_same : (b c : ℕ) → Some b ≡ Some c → b ≡ c
 some_same b c h = cc
@@ -281,12 +279,6 @@ pub spare-collected : (count pages : ℕ) (size : ℕ → ℕ) (retired : ℕ �
     → IsLawful count pages size retired role open_block → victim < count → role victim ≡ cond failed Retired Spare
     → KnowsSpare role (cond failed None (Some victim))
 spare-collected count pages size retired role open_block victim true law low done =
-    record {
-      spare_is = λ b is. absurd (law.spare_last b victim low is done);
-      spare_at = λ b e. absurd (none_some None b refl e);
-    }
+    record { spare_is = λ b is. absurd (law.spare_last b victim low is done); spare_at = λ b e. absurd (none_some None b refl e) }
 spare-collected count pages size retired role open_block victim false law low done =
-    record {
-      spare_is = λ b is. ap Some (law.one_spare victim b done is);
-      spare_at = λ b e. ap role (sym (some_same victim b e)) ∙ done;
-    }
+    record { spare_is = λ b is. ap Some (law.one_spare victim b done is); spare_at = λ b e. ap role (sym (some_same victim b e)) ∙ done }

@@ -1,10 +1,8 @@
 -- What the bits of an entry of the map name.
 use Rattle.std.proofs.Common.{◌≡◌, ◌≢◌, ◌∙◌, ℕ, ◌+◌, ◌*◌, ◌/◌, ◌%◌, ◌<◌, Option, None, Some, ap, refl, arith}
 use Rattle.std.proofs.lemmas.Bool.{eq-eqb, ne_eqb}
-use Rattle.geometry.specs.declared.limits.TheConstants.{MAX_BLOCKS, MAX_PAGES}
-use Rattle.geometry.specs.declared.page_addr.PageAddr.{PageAddr}
-use Rattle.ftl_one.specs.declared.map_entry.TheConstants.{NO_PAGE}
-use Rattle.ftl_one.specs.MapEntries.{named_by}
+use Rattle.geometry.specs.declared.{limits.TheConstants.MAX_BLOCKS, limits.TheConstants.MAX_PAGES, page_addr.PageAddr.PageAddr}
+use Rattle.ftl_one.specs.{declared.map_entry.TheConstants.NO_PAGE, MapEntries.named_by}
 
 pub named_none : (bits : ℕ) → bits ≡ NO_PAGE → named_by bits ≡ None
 unfolding named_by

@@ -1,12 +1,9 @@
 -- What the map keeps true, as a sector is forgotten, a page is put, and a block is erased.
-use Rattle.std.proofs.Common.{◌≡◌, ◌≢◌, inl, inr, ℕ, ◌+◌, ◌<◌, ◌≤◌, Bool, true, false, cond, List, [], ◌∷◌, ◌++◌, length, get_or, set, map, count_by}
-use Rattle.std.proofs.Common.{Option, None, Some, is_some, sym, ap, ◌∙◌, refl, subst, arith, length-set, get_or-set_same, get_or-set_other}
-use Rattle.std.specs.Option.{option_map}
-use Rattle.std.proofs.lemmas.List.{length-map, same_lists, get_or-map, map-set, set-get_or, nil_from_length, length_push}
-use Rattle.std.proofs.lemmas.List.Sums.{sum_by-set, sum_by_push}
-use Rattle.std.proofs.lemmas.Bool.{eq-eqb, ne_eqb, cases_eq, cases_lt}
-use Rattle.geometry.specs.declared.page_addr.PageAddr.{PageAddr}
-use Rattle.geometry.specs.Sectors.{Sector}
+use Rattle.std.proofs.Common.{◌≡◌, ◌≢◌, inl, inr, ℕ, ◌+◌, ◌<◌, ◌≤◌, Bool, true, false, cond, List, [], ◌∷◌, ◌++◌, length, get_or, set, map, count_by, Option}
+use Rattle.std.proofs.Common.{None, Some, is_some, sym, ap, ◌∙◌, refl, subst, arith, length-set, get_or-set_same, get_or-set_other}
+use Rattle.std.{specs.Option.option_map, proofs.lemmas.Bool.eq-eqb, proofs.lemmas.Bool.ne_eqb, proofs.lemmas.Bool.cases_eq, proofs.lemmas.Bool.cases_lt}
+use Rattle.std.proofs.lemmas.List.{length-map, same_lists, get_or-map, map-set, set-get_or, nil_from_length, length_push, Sums.sum_by-set, Sums.sum_by_push}
+use Rattle.geometry.specs.{declared.page_addr.PageAddr.PageAddr, Sectors.Sector}
 use Rattle.die.specs.Pages.{Block, Page, page_at, programmed, erased}
 use Rattle.ftl_one.specs.Stock.{Entry, forgotten}
 use Rattle.ftl_one.specs.Entries.{is_page, names, entry_of, entries_in, live_count, lies, Recounts, IsCurrent, IsMapped, value_in, sectors_in}

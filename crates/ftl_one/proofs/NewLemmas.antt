@@ -1,18 +1,11 @@
 -- A new layer: the last block is the spare, the others are free, and none has a page.
-use Rattle.std.proofs.Common.{◌≡◌, inl, inr, ℕ, ◌+◌, ◌<◌, Bool, false, List, [], ◌∷◌, ◌++◌, length, get_or}
-use Rattle.std.proofs.Common.{set, replicate, None, Some, sym, ap, ◌∙◌, subst, arith}
+use Rattle.std.proofs.Common.{◌≡◌, inl, inr, ℕ, ◌+◌, ◌<◌, Bool, false, List, [], ◌∷◌, ◌++◌, length, get_or, set, replicate, None, Some, sym, ap, ◌∙◌, subst}
+use Rattle.std.proofs.{Common.arith, lemmas.Bool.cases_order}
 use Rattle.std.proofs.lemmas.List.{length-replicate, get_or-replicate, get_or_append_left, get_or_push, get_or_past, set_at, replicate_more, length_push}
-use Rattle.std.proofs.lemmas.Bool.{cases_order}
-use Rattle.geometry.specs.declared.geometry.Geometry.{Geometry}
-use Rattle.geometry.specs.Geometry.{blocks_of}
-use Rattle.ftl_one.specs.declared.role.Role.{Role}
-use Rattle.ftl_one.specs.declared.role.Role.TheVariants.{Free, Open, Closed, Spare, Retired}
-use Rattle.ftl_one.specs.declared.store.Store.{Store}
-use Rattle.ftl_one.specs.Stock.{Block, Entry, unused, is_retired}
-use Rattle.ftl_one.specs.Store.{entries_of, IsNew}
-use Rattle.ftl_one.specs.Lawful.{IsLawful, KnowsSpare, role_in}
-use Rattle.ftl_one.specs.Blocks.{block_in, blocks_in}
-use Rattle.ftl_one.proofs.BlocksLemmas.{table_is}
+use Rattle.geometry.specs.{declared.geometry.Geometry.Geometry, Geometry.blocks_of}
+use Rattle.ftl_one.specs.declared.role.Role.{Role, TheVariants.Free, TheVariants.Open, TheVariants.Closed, TheVariants.Spare, TheVariants.Retired}
+use Rattle.ftl_one.specs.{declared.store.Store.Store, Stock.Block, Stock.Entry, Stock.unused, Store.entries_of, Store.IsNew, Blocks.block_in, Blocks.blocks_in}
+use Rattle.ftl_one.{specs.Stock.is_retired, specs.Lawful.IsLawful, specs.Lawful.KnowsSpare, specs.Lawful.role_in, proofs.BlocksLemmas.table_is}
 
 -- the roles of a new layer with n free blocks
 abbrev pub roles_new : ℕ → List Role
@@ -38,10 +31,7 @@ past n k high = get_or_past (roles_new n) k Retired (omega (arith, high, length-
 each : (n : ℕ) (P : Role → Type 0) → P Free → P Spare → P Retired → (k : ℕ) → P (role_in (roles_new n) k)
 each n P free spare retired k = elim (cases_order k n) [
   | inl e ↦ subst P (sym (ap (role_in (roles_new n)) e ∙ spare-last n)) spare
-  | inr o ↦ elim o [
-    | inl low ↦ subst P (sym (free-below n k low)) free
-    | inr high ↦ subst P (sym (past n k high)) retired
-  ]
+  | inr o ↦ elim o [ inl low ↦ subst P (sym (free-below n k low)) free | inr high ↦ subst P (sym (past n k high)) retired ]
 ]
 
 free≢spare : Free ≡ Spare → ⊥
@@ -53,10 +43,7 @@ retired≢spare h = cc
 only_spare : (n k : ℕ) → role_in (roles_new n) k ≡ Spare → k ≡ n
 only_spare n k is = elim (cases_order k n) [
   | inl e ↦ e
-  | inr o ↦ elim o [
-    | inl low ↦ absurd (free≢spare (sym (free-below n k low) ∙ is))
-    | inr high ↦ absurd (retired≢spare (sym (past n k high) ∙ is))
-  ]
+  | inr o ↦ elim o [ inl low ↦ absurd (free≢spare (sym (free-below n k low) ∙ is)) | inr high ↦ absurd (retired≢spare (sym (past n k high) ∙ is)) ]
 ]
 
 pub lawful-new : (n pages : ℕ) (size : ℕ → ℕ) (retired : ℕ → Bool) → ((b : ℕ) → b < n + 1 → size b ≡ 0) → ((b : ℕ) → b < n + 1 → retired b ≡ false)
@@ -70,18 +57,12 @@ lawful-new n pages size retired empty usable =
       unused = λ b low off. empty b low;
       usable = λ b low. usable b low ∙ elim (cases_order b n) [
         | inl e ↦ ap is_retired (sym (ap (role_in (roles_new n)) e ∙ spare-last n))
-        | inr o ↦ elim o [
-          | inl below ↦ ap is_retired (sym (free-below n b below))
-          | inr high ↦ absurd (omega arith)
-        ]
+        | inr o ↦ elim o [ inl below ↦ ap is_retired (sym (free-below n b below)) | inr high ↦ absurd (omega arith) ]
       ];
       one_spare = λ b k first second. only_spare n b first ∙ sym (only_spare n k second);
       spare_last = λ b k low first second. elim (cases_order k n) [
         | inl e ↦ retired≢spare (sym second ∙ (ap (role_in (roles_new n)) e ∙ spare-last n))
-        | inr o ↦ elim o [
-          | inl below ↦ free_retired (sym (free-below n k below) ∙ second)
-          | inr high ↦ omega (arith, high, low)
-        ]
+        | inr o ↦ elim o [ inl below ↦ free_retired (sym (free-below n k below) ∙ second) | inr high ↦ omega (arith, high, low) ]
       ];
       outside = λ b high. past n b (omega arith);
     }
@@ -113,10 +94,7 @@ lawful-new n pages size retired empty usable =
 -- the last block is the spare
 pub spare_new : (n : ℕ) → KnowsSpare (role_in (roles_new n)) (Some n)
 spare_new n =
-    record {
-      spare_is = λ b is. ap Some (sym (only_spare n b is));
-      spare_at = λ b e. ap (role_in (roles_new n)) (sym (some_same b e)) ∙ spare-last n;
-    }
+    record { spare_is = λ b is. ap Some (sym (only_spare n b is)); spare_at = λ b e. ap (role_in (roles_new n)) (sym (some_same b e)) ∙ spare-last n }
   where
     some_same : (b : ℕ) → Some n ≡ Some b → n ≡ b
     some_same b h = cc

@@ -1,17 +1,12 @@
 -- A live page is copied: the copy is the sector's page then, and the array is as before.
 use Rattle.std.proofs.Common.{◌≡◌, ◌≢◌, ℕ, ◌<◌, Bool, true, false, cond, List, [], ◌∷◌, ◌++◌, length, get_or, set, map, None, Some, sym, ap, ◌∙◌, refl, arith}
 use Rattle.std.proofs.lemmas.Bool.{ne_eqb}
-use Rattle.geometry.specs.declared.page_addr.PageAddr.{PageAddr}
-use Rattle.geometry.specs.Geometry.{blocks_of, page_bytes_of, sectors_of}
-use Rattle.die.specs.declared.die.Die.{Die}
-use Rattle.die.specs.Die.{geometry_of as die_geometry_of, block_of, ChangesBlock, IsNext}
+use Rattle.geometry.specs.{declared.page_addr.PageAddr.PageAddr, Geometry.blocks_of, Geometry.page_bytes_of, Geometry.sectors_of}
+use Rattle.die.specs.{declared.die.Die.Die, Die.geometry_of as die_geometry_of, Die.block_of, Die.ChangesBlock, Die.IsNext}
 use Rattle.die.specs.Pages.{Page, page_at, programmed}
-use Rattle.ftl_one.specs.declared.store.Store.{Store}
-use Rattle.ftl_one.specs.Stock.{Entry, forgotten}
-use Rattle.ftl_one.specs.Entries.{entries_in, Recounts, sectors_in}
+use Rattle.ftl_one.specs.{declared.store.Store.Store, Stock.Entry, Stock.forgotten, Entries.entries_in, Entries.Recounts, Entries.sectors_in}
 use Rattle.ftl_one.specs.Store.{geometry_of, array_of, entries_of, live_at, sector_of}
-use Rattle.ftl_one.proofs.EntryLemmas.{is_page-same, forgotten_here}
-use Rattle.ftl_one.proofs.MapLemmas.{set_as_is, sector-at, not_here}
+use Rattle.ftl_one.proofs.{EntryLemmas.is_page-same, EntryLemmas.forgotten_here, MapLemmas.set_as_is, MapLemmas.sector-at, MapLemmas.not_here}
 use Rattle.ftl_one.proofs.StoreLemmas.{size_of, length-entries_of, get_or-entries_of, put-changed, put-others, put-sectors}
 
 -- the page at an address

@@ -1,8 +1,7 @@
 -- The stock in worked examples, computed: small devices with blocks of two pages.
 use Rattle.std.proofs.Common.{◌≡◌, ℕ, List, [], ◌∷◌, ◌++◌, map, Option, None, Some, refl, fold}
 use Rattle.std.specs.Option.{option_and_then, option_map}
-use Rattle.geometry.specs.Greedy.{greedy_of}
-use Rattle.geometry.specs.History.{Call, Write, Trim}
+use Rattle.geometry.specs.{Greedy.greedy_of, History.Call, History.Write, History.Trim}
 use Rattle.ftl_one.specs.Stock.{Stock, opening_of, next_of, live_of}
 
 -- the stock of a device after a list of calls, or none where one is refused

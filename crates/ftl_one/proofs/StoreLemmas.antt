@@ -1,24 +1,14 @@
 -- A store in the terms of its die and its map.
-use Rattle.std.proofs.Common.{◌≡◌, ◌≢◌, inl, inr, ℕ, ◌+◌, ◌<◌, ◌≤◌, ◌^◌, true, false, List, [], ◌∷◌, ◌++◌, length}
-use Rattle.std.proofs.Common.{get_or, set, map, Option, None, Some, sym, ap, ◌∙◌, refl, subst, arith}
-use Rattle.std.specs.Option.{IfSome, option_map}
-use Rattle.std.specs.Vec.{with_items}
-use Rattle.std.proofs.lemmas.List.{with_items_is}
-use Rattle.std.proofs.lemmas.List.Sums.{count_by-le-length}
-use Rattle.std.proofs.lemmas.Bool.{cases_eq}
-use Rattle.geometry.specs.declared.geometry.Geometry.{Geometry}
-use Rattle.geometry.specs.declared.page_addr.PageAddr.{PageAddr}
+use Rattle.std.proofs.Common.{◌≡◌, ◌≢◌, inl, inr, ℕ, ◌+◌, ◌<◌, ◌≤◌, ◌^◌, true, false, List, [], ◌∷◌, ◌++◌, length, get_or, set, map, Option, None, Some, sym}
+use Rattle.std.proofs.{Common.ap, Common.◌∙◌, Common.refl, Common.subst, Common.arith, lemmas.List.with_items_is, lemmas.List.Sums.count_by-le-length}
+use Rattle.std.{specs.Option.IfSome, specs.Option.option_map, specs.Vec.with_items, proofs.lemmas.Bool.cases_eq}
+use Rattle.geometry.specs.{declared.geometry.Geometry.Geometry, declared.page_addr.PageAddr.PageAddr, Sectors.sector_at, Sectors.was_of}
 use Rattle.geometry.specs.Geometry.{blocks_of, pages_of, page_bytes_of, sectors_of}
-use Rattle.geometry.specs.Sectors.{sector_at, was_of}
-use Rattle.die.specs.declared.die.Die.{Die}
+use Rattle.die.{specs.declared.die.Die.Die, specs.Pages.Block, specs.Pages.Page, specs.Pages.page_at, specs.Pages.programmed, proofs.DieLemmas.pages_within}
 use Rattle.die.specs.Die.{geometry_of as die_geometry_of, block_of, ChangesBlock, IsUsable, IsProgrammed, IsNext}
-use Rattle.die.specs.Pages.{Block, Page, page_at, programmed}
-use Rattle.die.proofs.DieLemmas.{pages_within}
-use Rattle.ftl_one.specs.declared.store.Store.{Store}
-use Rattle.ftl_one.specs.Stock.{Entry, forgotten}
+use Rattle.ftl_one.{specs.declared.store.Store.Store, proofs.EntryLemmas.length-entries, proofs.EntryLemmas.get_or-entries}
+use Rattle.ftl_one.specs.{Stock.Entry, Stock.forgotten, Store.geometry_of, Store.array_of, Store.entries_of, Store.erases_of, Store.retired_of, Store.HasRoom}
 use Rattle.ftl_one.specs.Entries.{entry_of, entries_in, live_count, Recounts, IsMapped, sectors_in, value_in, was_by}
-use Rattle.ftl_one.specs.Store.{geometry_of, array_of, entries_of, erases_of, retired_of, HasRoom}
-use Rattle.ftl_one.proofs.EntryLemmas.{length-entries, get_or-entries}
 use Rattle.ftl_one.proofs.MapLemmas.{Becomes, was_here, sector-at, length-sectors, mapped-put, entries-put, entries-put_other, sectors-put}
 
 -- the bytes of a page of the store
@@ -73,18 +63,20 @@ count_small s b low =
     let most : live_count (entries_of s b) ≤ length (entries_of s b) = count_by-le-length (λ (entry : Entry). entry.live) (entries_of s b) in
     omega (arith, count-entries_of s b low, most, entries_within s b low, s.die.geometry.in_limits.pages_high)
 
--- the page that the map names for a sector is counted in its block
-pub named_within : (s : Store) (sector : ℕ) (o : Option PageAddr) → get_or s.current.items sector None ≡ o → IfSome o (λ at. at.block < length s.live.items)
-named_within s sector None e = tt
-named_within s sector (Some at) e = omega (arith, (s.mapped.named sector at e).block, s.mapped.live_size)
+-- the page that the map names for a sector is counted in its block, by the counts of live pages
+pub named_within : (s : Store) (sector : ℕ) (o : Option PageAddr) (counts : List ℕ) → counts ≡ s.live.items → get_or s.current.items sector None ≡ o
+    → IfSome o (λ at. at.block < length counts)
+named_within s sector None counts same e = tt
+named_within s sector (Some at) counts same e =
+    omega (arith, (s.mapped.named sector at e).block, s.mapped.live_size, ap (λ (xs : List ℕ). length xs) same)
 
-pub named_counted : (s : Store) (sector : ℕ) (o : Option PageAddr) → get_or s.current.items sector None ≡ o
-    → IfSome o (λ at. 0 < get_or s.live.items at.block 0)
-named_counted s sector None e = tt
-named_counted s sector (Some at) e =
+pub named_counted : (s : Store) (sector : ℕ) (o : Option PageAddr) (counts : List ℕ) → counts ≡ s.live.items → get_or s.current.items sector None ≡ o
+    → IfSome o (λ at. 0 < get_or counts at.block 0)
+named_counted s sector None counts same e = tt
+named_counted s sector (Some at) counts same e =
     let g = die_geometry_of s.die in
     let here = was_here (page_bytes_of g) (blocks_of g) (sectors_of g) (block_of s.die) s.current.items s.live.items s.mapped sector at.block at e refl in
-    omega (arith, here, s.mapped.counts at.block (s.mapped.named sector at e).block)
+    omega (arith, here, s.mapped.counts at.block (s.mapped.named sector at e).block, ap (λ (xs : List ℕ). get_or xs at.block 0) same)
 
 -- what the sector was, by the page that the map names
 pub was-named : (s : Store) (sector : ℕ) (o : Option PageAddr) → sector < sectors_of (geometry_of s) → o ≡ get_or s.current.items sector None

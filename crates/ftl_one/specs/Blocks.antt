@@ -1,11 +1,6 @@
 -- The blocks of a stock as a store and the roles give them.
-use Rattle.std.specs.Prelude.{ℕ, ◌+◌, ◌*◌, List, length, map}
-use Rattle.std.specs.List.{range_with_len}
-use Rattle.ftl_one.specs.declared.role.Role.{Role}
-use Rattle.ftl_one.specs.declared.store.Store.{Store}
-use Rattle.ftl_one.specs.Stock.{Block}
-use Rattle.ftl_one.specs.Store.{entries_of, erases_of}
-use Rattle.ftl_one.specs.Lawful.{role_in}
+use Rattle.std.specs.{Prelude.ℕ, Prelude.◌+◌, Prelude.◌*◌, Prelude.List, Prelude.length, Prelude.map, List.range_with_len}
+use Rattle.ftl_one.specs.{declared.role.Role.Role, declared.store.Store.Store, Stock.Block, Store.entries_of, Store.erases_of, Lawful.role_in}
 
 -- a block
 abbrev pub block_in : Store → List Role → ℕ → Block

@@ -1,11 +1,9 @@
 -- What a collection does, from the stock before a call and the one after it.
 use Rattle.std.specs.Prelude.{ℕ, ◌+◌, ◌==◌, Bool, if◌then◌else◌, nat_lt, length, Option, None, Some, option_map}
 use Rattle.std.specs.List.{position, range_with_len}
-use Rattle.geometry.specs.Geometry.{endurance_of, lun_of}
-use Rattle.geometry.specs.declared.geometry.Geometry.{Geometry}
-use Rattle.ftl_one.specs.Laws.{block_at}
+use Rattle.geometry.specs.{Geometry.endurance_of, Geometry.lun_of, declared.geometry.Geometry.Geometry}
+use Rattle.ftl_one.specs.{Laws.block_at, declared.collection.Collection.Collection}
 use Rattle.ftl_one.specs.Stock.{Stock, free_of, is_retired, live_of, open_of, spare_of, victim_of}
-use Rattle.ftl_one.specs.declared.collection.Collection.{Collection}
 
 -- whether a block's erases grew from one stock to the next
 abbrev pub was_erased : Stock → Stock → ℕ → Bool

@@ -1,11 +1,8 @@
 -- The sectors and the entries of pages, as a map over the blocks of a die gives them.
-use Rattle.std.specs.Prelude.{◌≡◌, ℕ, ◌+◌, ◌<◌, ◌==◌, ◌&&◌, Bool, false, if◌then◌else◌, List, length, map, count_by, sum}
-use Rattle.std.specs.Prelude.{is_some, Option, None, Some, option_map, slice_index, slice_index_or}
-use Rattle.std.specs.List.{range_with_len}
-use Rattle.geometry.specs.declared.page_addr.PageAddr.{PageAddr}
-use Rattle.geometry.specs.declared.answer.Was.{Was}
+use Rattle.std.specs.Prelude.{◌≡◌, ℕ, ◌+◌, ◌<◌, ◌==◌, ◌&&◌, Bool, false, if◌then◌else◌, List, length, map, count_by, sum, is_some, Option, None, Some}
+use Rattle.std.specs.{Prelude.option_map, Prelude.slice_index, Prelude.slice_index_or, List.range_with_len}
+use Rattle.geometry.specs.{declared.page_addr.PageAddr.PageAddr, declared.answer.Was.Was, Sectors.Sector}
 use Rattle.geometry.specs.declared.answer.Was.TheVariants as was
-use Rattle.geometry.specs.Sectors.{Sector}
 use Rattle.die.specs.Pages.{Block, Page, page_at}
 use Rattle.ftl_one.specs.Stock.{Entry}
 

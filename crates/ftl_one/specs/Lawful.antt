@@ -1,8 +1,7 @@
 -- What the layer keeps true of its blocks: by their roles, how many pages they have and whether they are retired.
 use Rattle.std.specs.Prelude.{◌≡◌, ℕ, ◌<◌, ◌≤◌, Bool, true, false, List, Option, Some, slice_index_or}
-use Rattle.ftl_one.specs.declared.role.Role.{Role}
+use Rattle.ftl_one.specs.{declared.role.Role.Role, Stock.is_retired}
 use Rattle.ftl_one.specs.declared.role.Role.TheVariants.{Open, Closed, Spare, Retired}
-use Rattle.ftl_one.specs.Stock.{is_retired}
 
 -- a block of this role has pages
 abbrev pub has_pages : Role → Bool

@@ -1,9 +1,7 @@
 -- An entry of the map in four bytes.
 use Rattle.std.specs.Prelude.{◌≡◌, ℕ, ◌+◌, ◌*◌, ◌/◌, ◌%◌, ◌==◌, if◌then◌else◌, Option, None, Some}
-use Rattle.std.proofs.Common.{inl, inr, sym, arith}
-use Rattle.std.proofs.lemmas.Bool.{cases_eq, eq-eqb, ne_eqb}
-use Rattle.geometry.specs.declared.limits.TheConstants.{MAX_PAGES}
-use Rattle.geometry.specs.declared.page_addr.PageAddr.{PageAddr}
+use Rattle.std.proofs.{Common.inl, Common.inr, Common.sym, Common.arith, lemmas.Bool.cases_eq, lemmas.Bool.eq-eqb, lemmas.Bool.ne_eqb}
+use Rattle.geometry.specs.declared.{limits.TheConstants.MAX_PAGES, page_addr.PageAddr.PageAddr}
 use Rattle.ftl_one.specs.declared.map_entry.TheConstants.{NO_PAGE}
 
 -- the page that these bits name, its block above its place in the block, or none

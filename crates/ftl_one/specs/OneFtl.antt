@@ -1,14 +1,9 @@
 -- What contracts see of a `OneFtl`: its geometry, its sectors and its stock.
 use Rattle.std.specs.Prelude.{List, Result, Ok, Err}
-use Rattle.geometry.specs.declared.geometry.Geometry.{Geometry}
-use Rattle.geometry.specs.Sectors.{Sector}
-use Rattle.geometry.specs.declared.answer.Was.{Was}
+use Rattle.geometry.specs.{declared.geometry.Geometry.Geometry, Sectors.Sector, declared.answer.Was.Was}
 use Rattle.geometry.specs.declared.answer.Was.TheVariants as was
-use Rattle.ftl_one.specs.declared.one_ftl.OneFtl.{OneFtl}
-use Rattle.ftl_one.specs.declared.one_ftl.NewOneFault.{NewOneFault}
+use Rattle.ftl_one.specs.{declared.one_ftl.OneFtl.OneFtl, declared.one_ftl.NewOneFault.NewOneFault, Blocks.blocks_in, Stock.Stock}
 use Rattle.ftl_one.specs.declared.one_ftl.NewOneFault.TheVariants as fault
-use Rattle.ftl_one.specs.Blocks.{blocks_in}
-use Rattle.ftl_one.specs.Stock.{Stock}
 use Rattle.ftl_one.specs.Store as pages
 
 -- the numbers of a layer

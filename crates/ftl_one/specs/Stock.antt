@@ -1,14 +1,11 @@
 -- What the layer has used up, and what a call does to it. There is no map here: the current page of a sector is marked in the page's entry,
 -- and is found by search.
-use Rattle.std.specs.Prelude.{ℕ, ◌+◌, ◌-◌, ◌==◌, ◌&&◌, Bool, true, false, if◌then◌else◌, List, [], ◌∷◌, ◌++◌, length, map, filter}
-use Rattle.std.specs.Prelude.{count_by, replicate, slice_set, slice_index_or, Option, None, Some, option_and_then}
+use Rattle.std.specs.Prelude.{ℕ, ◌+◌, ◌-◌, ◌==◌, ◌&&◌, Bool, true, false, if◌then◌else◌, List, [], ◌∷◌, ◌++◌, length, map, filter, count_by, replicate}
+use Rattle.std.specs.Prelude.{slice_set, slice_index_or, Option, None, Some, option_and_then}
 use Rattle.std.specs.List.{list_any, position}
-use Rattle.geometry.specs.declared.geometry.Geometry.{Geometry}
-use Rattle.geometry.specs.Geometry.{blocks_of, pages_of, endurance_of}
-use Rattle.geometry.specs.Greedy.{greedy_of}
+use Rattle.geometry.specs.{declared.geometry.Geometry.Geometry, Geometry.blocks_of, Geometry.pages_of, Geometry.endurance_of, Greedy.greedy_of}
 use Rattle.geometry.specs.History.{Call, Write, WriteNew, Trim}
-use Rattle.ftl_one.specs.declared.role.Role.{Role}
-use Rattle.ftl_one.specs.declared.role.Role.TheVariants.{Free, Open, Closed, Spare, Retired}
+use Rattle.ftl_one.specs.declared.role.Role.{Role, TheVariants.Free, TheVariants.Open, TheVariants.Closed, TheVariants.Spare, TheVariants.Retired}
 
 -- a programmed page: the sector that it was written for, and whether it is that sector's current page
 pub record Entry : Type 0 where
@@ -111,8 +108,7 @@ filled victim spare = record spare { role = Open; entries = spare.entries ++ liv
 
 -- a victim after its erase: it is the spare, or retired by the last erase of its endurance
 abbrev pub emptied : ℕ → Block → Block
-emptied endurance victim =
-    record { role = (if victim.erases + 1 == endurance then Retired else Spare); erases = victim.erases + 1; entries = [] }
+emptied endurance victim = record { role = (if victim.erases + 1 == endurance then Retired else Spare); erases = victim.erases + 1; entries = [] }
 
 -- a collection: the victim's live pages are copied into the spare, and the victim is erased
 abbrev pub collected : ℕ → Stock → ℕ → ℕ → Stock

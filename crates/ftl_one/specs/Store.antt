@@ -1,12 +1,9 @@
 -- What a store shows: the array of sectors, and its blocks with the entries of their pages.
 use Rattle.std.specs.Prelude.{◌≡◌, ℕ, ◌≢◌, ◌+◌, ◌<◌, ◌≤◌, Bool, true, false, List, [], ◌∷◌, ◌++◌, length, map, slice_set, slice_index_or, replicate, None, ◌==◌}
-use Rattle.geometry.specs.declared.geometry.Geometry.{Geometry}
-use Rattle.geometry.specs.declared.page_addr.PageAddr.{PageAddr}
+use Rattle.geometry.specs.{declared.geometry.Geometry.Geometry, declared.page_addr.PageAddr.PageAddr, Sectors.Sector}
 use Rattle.geometry.specs.Geometry as geo
-use Rattle.geometry.specs.Sectors.{Sector}
 use Rattle.die.specs.Die as die
-use Rattle.ftl_one.specs.declared.store.Store.{Store}
-use Rattle.ftl_one.specs.Entries.{entries_in, sectors_in, live_count}
+use Rattle.ftl_one.specs.{declared.store.Store.Store, Entries.entries_in, Entries.sectors_in, Entries.live_count}
 use Rattle.ftl_one.specs.Stock.{Entry, forgotten, live_entries}
 
 -- the numbers of the die below

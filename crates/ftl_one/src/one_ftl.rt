@@ -1,9 +1,7 @@
-ghost use Rattle.std.specs.Prelude.{◌≡◌, ℕ, ◌+◌, ◌*◌, ◌<◌, ◌≤◌, ◌==◌, if◌then◌else◌, false, length, map, sum_by, Option, None, Some};
+ghost use Rattle.std.specs.Prelude.{◌≡◌, ℕ, ◌+◌, ◌<◌, ◌≤◌, ◌==◌, if◌then◌else◌, false, length, sum_by, None, Some};
 ghost use Rattle.geometry.specs.Geometry.{blocks_of, pages_of, page_bytes_of, endurance_of, lun_of, sectors_of, hosts_of};
-ghost use Rattle.ftl_one.specs.Store.{geometry_of as store_geometry_of, entries_of, retired_of};
-ghost use Rattle.ftl_one.specs.Stock.{is_free};
+ghost use Rattle.ftl_one.specs.{Store.geometry_of as store_geometry_of, Store.entries_of, Store.retired_of, Stock.is_free, Blocks.blocks_in, Blocks.weight};
 ghost use Rattle.ftl_one.specs.Lawful.{IsLawful, KnowsSpare, role_in};
-ghost use Rattle.ftl_one.specs.Blocks.{blocks_in, weight};
 
 use crate::collection::Collection;
 use crate::fewest::fewest_beside;

@@ -1,4 +1,4 @@
-ghost use Rattle.std.specs.Prelude.{ℕ, ◌+◌, ◌<◌, ◌^◌, length, slice_index, IfSome, None, Some};
+ghost use Rattle.std.specs.Prelude.{◌+◌, ◌<◌, ◌^◌, length, slice_index, IfSome, Some};
 ghost use Rattle.ftl_one.specs.Entries.{Recounts};
 
 use geometry::PageAddr;

@@ -1,7 +1,6 @@
 ghost use Rattle.std.specs.Prelude.{◌≡◌, ℕ, ◌<◌, ◌≤◌, false, if◌then◌else◌, length, slice_set, None, Some};
 ghost use Rattle.std.specs.List.{position};
-ghost use Rattle.ftl_one.specs.Lawful.{role_in};
-ghost use Rattle.ftl_one.specs.Stock.{is_free};
+ghost use Rattle.ftl_one.specs.{Lawful.role_in, Stock.is_free};
 ghost use Rattle.ftl_one.specs.declared.role.Role.TheVariants.{Open, Spare, Retired};
 
 use crate::role::Role;

@@ -1,5 +1,4 @@
-ghost use Rattle.std.specs.Prelude.{◌≡◌, ℕ, ◌≢◌, ◌+◌, ◌<◌, ◌==◌, Bool, true, false, IfOk, length, slice_set, slice_index_or, None, Some, IfNone, IfSome};
-ghost use Rattle.std.specs.List.{range_with_len};
+ghost use Rattle.std.specs.Prelude.{◌≡◌, ℕ, ◌≢◌, ◌+◌, ◌<◌, ◌==◌, true, false, IfOk, length, slice_set, None, Some, IfNone, IfSome};
 ghost use Rattle.geometry.specs.Geometry.{blocks_of, pages_of, page_bytes_of, endurance_of, sectors_of, lun_of};
 ghost use Rattle.geometry.specs.Sectors.{sector_at, was_of, Answers};
 ghost use Rattle.die.specs.Die.{geometry_of as die_geometry_of, block_of};

@@ -117,7 +117,7 @@ pub fn word(flash: &Flash, held: &mut Held, i: u32) -> u64
 /// Removes the pin, and returns the pass.
 pub fn release(flash: &Flash, held: Held) -> Pass
     requires held { (value : List ℕ) × Holds flash.now held value }
-    ensures told { view_of result ≡ record (view_of (pass_of held)) { pin = pin.Clear } }
+    ensures clear { view_of result ≡ record (view_of (pass_of held)) { pin = pin.Clear } }
     ensures pass { IsReady flash.now result }
     ensures opened { opened_of result ≡ opened_of (pass_of held) }
 {

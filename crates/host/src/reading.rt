@@ -23,7 +23,7 @@ pub fn read(flash: &Flash, pass: &mut Pass, sector: u32, out: &mut [u8]) -> Read
     requires pass { IsReady flash.now pass.old }
     requires sector { sector < sectors_of (geometry_of flash.now) }
     requires page { length out.old ≡ page_bytes_of (geometry_of flash.now) }
-    ensures told { Searched (view_of pass.old) result.tries (view_of pass.new) }
+    ensures searched { Searched (view_of pass.old) result.tries (view_of pass.new) }
     ensures answer { Answers (held (sectors_of (geometry_of flash.now)) (view_of pass.new).seen sector) result.got out.old out.new }
     ensures pass { IsReady flash.now pass.new }
     ensures opened { opened_of pass.new ≡ opened_of pass.old }
@@ -42,7 +42,7 @@ pub fn read_gated<G: Gate>(
     requires pass { IsReady flash.now pass.old }
     requires sector { sector < sectors_of (geometry_of flash.now) }
     requires page { length out.old ≡ page_bytes_of (geometry_of flash.now) }
-    ensures told { Searched (view_of pass.old) result.tries (view_of pass.new) }
+    ensures searched { Searched (view_of pass.old) result.tries (view_of pass.new) }
     ensures answer { Answers (held (sectors_of (geometry_of flash.now)) (view_of pass.new).seen sector) result.got out.old out.new }
     ensures pass { IsReady flash.now pass.new }
     ensures opened { opened_of pass.new ≡ opened_of pass.old }
@@ -67,7 +67,7 @@ pub fn read_gated<G: Gate>(
 pub fn look(flash: &Flash, pass: &mut Pass, sector: u32) -> bool
     requires pass { IsReady flash.now pass.old }
     requires sector { sector < sectors_of (geometry_of flash.now) }
-    ensures told { Searched (view_of pass.old) 1 (view_of pass.new) }
+    ensures searched { Searched (view_of pass.old) 1 (view_of pass.new) }
     ensures answer { result ≡ is_some (held (sectors_of (geometry_of flash.now)) (view_of pass.new).seen sector) }
     ensures pass { IsReady flash.now pass.new }
     ensures opened { opened_of pass.new ≡ opened_of pass.old }

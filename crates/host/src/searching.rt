@@ -24,7 +24,7 @@ fn pin_in_time(flash: &Flash, pass: &mut Pass, page: MapWord) -> bool
     requires pass { IsPassOf flash.now pass.old }
     requires candidate { (value : List ℕ) × ((view_of pass.old).pin ≡ pin.Candidate page value) }
     requires block { page.block < blocks_of (geometry_of flash.now) }
-    ensures told { PinnedInTime (view_of pass.old) page result (view_of pass.new) }
+    ensures pinned { PinnedInTime (view_of pass.old) page result (view_of pass.new) }
     ensures pass { IsPassOf flash.now pass.new }
     ensures opened { opened_of pass.new ≡ opened_of pass.old }
 {
@@ -39,7 +39,7 @@ fn pin_in_time(flash: &Flash, pass: &mut Pass, page: MapWord) -> bool
 pub(crate) fn search<G: Gate>(flash: &Flash, pass: &mut Pass, sector: u32, gate: &mut G) -> Looks
     requires pass { IsReady flash.now pass.old }
     requires sector { sector < sectors_of (geometry_of flash.now) }
-    ensures told { Searched (view_of pass.old) result.tries (view_of pass.new) }
+    ensures searched { Searched (view_of pass.old) result.tries (view_of pass.new) }
     ensures found { IfSome result.page (HasFound flash.now pass.new sector) }
     ensures empty { IfNone result.page (IsReady flash.now pass.new × (held (sectors_of (geometry_of flash.now)) (view_of pass.new).seen sector ≡ None)) }
     ensures opened { opened_of pass.new ≡ opened_of pass.old }

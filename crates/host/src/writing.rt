@@ -59,7 +59,7 @@ pub fn write_gated<G: Gate>(
 pub fn trim(flash: &Flash, pass: &mut Pass, sector: u32) -> Was
     requires pass { IsReady flash.now pass.old }
     requires sector { sector < sectors_of (geometry_of flash.now) }
-    ensures told { (t : ℕ) → HasNumber t pass.old → HasCalled pass.old (Trim t sector) sector result pass.new }
+    ensures called { (t : ℕ) → HasNumber t pass.old → HasCalled pass.old (Trim t sector) sector result pass.new }
     ensures pass { IsReady flash.now pass.new }
     ensures opened { opened_of pass.new ≡ opened_of pass.old }
 {
@@ -70,7 +70,7 @@ pub fn trim(flash: &Flash, pass: &mut Pass, sector: u32) -> Was
 pub(crate) fn take_lowest(flash: &Flash, pass: &mut Pass) -> bool
     requires pass { IsPassOf flash.now pass.old }
     requires nothing_open { opened_of pass.old ≡ None }
-    ensures told { MatchBool result (TookLowest (view_of pass.old) (view_of pass.new) (opened_of pass.new)) (TookNone pass.old pass.new) }
+    ensures taken { MatchBool result (TookLowest (view_of pass.old) (view_of pass.new) (opened_of pass.new)) (TookNone pass.old pass.new) }
     ensures pass { IsPassOf flash.now pass.new }
 {
     for block in 0..flash.geometry().blocks() {
@@ -128,7 +128,7 @@ pub(crate) fn close_if_full(flash: &Flash, pass: &mut Pass)
     requires pass { IsPassOf flash.now pass.old }
     requires opened { (o : OpenBlock) × (opened_of pass.old ≡ Some o) × (o.block < blocks_of (geometry_of flash.now)) }
     requires settled { IsSettled (view_of pass.old) }
-    ensures told { (o : OpenBlock) → opened_of pass.old ≡ Some o → IsClosedIfFull (geometry_of flash.now) pass.old o pass.new }
+    ensures closed { (o : OpenBlock) → opened_of pass.old ≡ Some o → IsClosedIfFull (geometry_of flash.now) pass.old o pass.new }
     ensures pass { IsPassOf flash.now pass.new }
 {
     let Some(opened) = pass.opened() else {

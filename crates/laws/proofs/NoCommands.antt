@@ -1,7 +1,6 @@
 -- What bytes mean that mean no commands.
 use Rattle.std.proofs.Common.{◌≡◌, List, [], Result, Ok, Err, sym, ap, ◌∙◌}
-use Rattle.trace.specs.declared.commands.Command.{Command}
-use Rattle.trace.specs.declared.fault.TraceFault.{TraceFault}
+use Rattle.trace.specs.declared.{commands.Command.Command, fault.TraceFault.TraceFault}
 
 -- the commands of a good result
 good : Result (List Command) TraceFault → List Command

@@ -5,12 +5,8 @@ use Rattle.flash_rule.specs.Views.{caller, calls_of}
 use Rattle.trace.specs.declared.commands.Command.{Command}
 use Rattle.trace.specs.declared.commands.Op.TheVariants as op
 use Rattle.rounds.specs.declared.answer.Kind.TheVariants as kind
-use Rattle.rounds.specs.Lines.{Said}
-use Rattle.rounds.specs.Merging.{lines_for, merge}
-use Rattle.rounds.specs.Orders.{made, lines_of, Plays as PlaysLines}
-use Rattle.rounds.specs.Playing.{Plays, calls_done}
-use Rattle.rounds.specs.Rows.{AreAtOneHistory, RoundAnswered}
-use Rattle.rounds.specs.Told.{worker_of, sector_of, calls_in, is_right}
+use Rattle.rounds.specs.{Lines.Said, Orders.made, Orders.lines_of, Orders.Plays as PlaysLines, Told.worker_of, Told.sector_of, Told.calls_in, Told.is_right}
+use Rattle.rounds.specs.{Merging.lines_for, Merging.merge, Playing.Plays, Playing.calls_done, Rows.AreAtOneHistory, Rows.RoundAnswered}
 use Rattle.laws.specs.Rounds.{plain_line, rows_with, says}
 
 abbrev commands : List Command
@@ -51,11 +47,4 @@ answered =
 
 -- it finds an empty sector
 pub finds_none : AreAtOneHistory 1 1 (plain_line 0 op.Read 0 ∷ []) (rows_with (says kind.Empty ∷ []) [])
-finds_none =
-    record {
-      history = [];
-      callers = All-nil (λ c. caller c < 1);
-      calls = no_calls;
-      plays = plays;
-      rounds = ([], answered, refl);
-    }
+finds_none = record { history = []; callers = All-nil (λ c. caller c < 1); calls = no_calls; plays = plays; rounds = ([], answered, refl) }

@@ -1,16 +1,13 @@
 -- A worker writes a sector in a round in which another one reads it, and it is read in the next round.
 use Rattle.std.proofs.Common.{◌≡◌, ◌<◌, ◌⊎◌, inl, inr, ⊎_elim, ℕ, eq-eqb, ne_eqb, List, [], ◌∷◌, refl, sym, ap, ◌∙◌, subst, arith}
-use Rattle.std.specs.Prelude.{All}
-use Rattle.std.proofs.lemmas.List.Elements.{All-head, All-tail}
+use Rattle.std.{specs.Prelude.All, proofs.lemmas.List.Elements.All-head, proofs.lemmas.List.Elements.All-tail}
 use mathlib.Core.Logic.{dite}
 use native.Mathlib.Decide.{ℕ_discrete}
 use Rattle.geometry.specs.History.{Call, Write, held}
 use Rattle.flash_rule.specs.Views.{caller, calls_of}
 use Rattle.rounds.specs.declared.answer.Kind.TheVariants as kind
-use Rattle.rounds.specs.Lines.{IsFound}
-use Rattle.rounds.specs.Rows.{AreAtOneHistory}
-use Rattle.laws.specs.Rounds.{nothing_read, write_and_reads}
-use Rattle.laws.proofs.ThreeLines.{one_read}
+use Rattle.rounds.specs.{Lines.IsFound, Rows.AreAtOneHistory}
+use Rattle.laws.{specs.Rounds.nothing_read, specs.Rounds.write_and_reads, proofs.ThreeLines.one_read}
 
 zero_or_one : (k : ℕ) → k < 2 → (k ≡ 0) ⊎ (k ≡ 1)
 zero_or_one k below = dite (ℕ_discrete k 0) (λ same. inl same) (λ other. inr (omega arith))

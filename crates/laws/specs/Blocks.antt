@@ -1,13 +1,11 @@
 -- Pages, blocks and stocks, as the laws of a die and of a device for one thread name them.
 use Rattle.std.specs.Prelude.{◌≡◌, ℕ, List, [], ◌∷◌, Bool, true, false}
-use Rattle.geometry.specs.declared.geometry.Geometry.{Geometry}
-use Rattle.geometry.specs.declared.page_addr.PageAddr.{PageAddr}
+use Rattle.geometry.specs.declared.{geometry.Geometry.Geometry, page_addr.PageAddr.PageAddr}
 use Rattle.geometry.specs.Geometry.{blocks_of, luns_of, endurance_of}
 use Rattle.die.specs.declared.block_state.BlockState.{BlockState}
-use Rattle.ftl_one.specs.declared.role.Role.{Role}
+use Rattle.ftl_one.specs.{declared.role.Role.Role, Stock.Entry, Stock.Stock}
 use Rattle.ftl_one.specs.declared.role.Role.TheVariants as role
 use Rattle.ftl_one.specs.Stock as stock
-use Rattle.ftl_one.specs.Stock.{Entry, Stock}
 
 -- a page's address
 abbrev pub at : ℕ → ℕ → PageAddr

@@ -1,23 +1,15 @@
 -- Surveys, calls and counts of brooms, as the laws of brooms name them.
 use Rattle.std.specs.Prelude.{◌≡◌, ◌≤◌, ℕ, List, [], ◌∷◌, ◌++◌, None, Some, true, false, slice_index}
-use Rattle.geometry.specs.Greedy.{IsClosed}
-use Rattle.geometry.specs.declared.map_word.MapWord.{MapWord}
-use Rattle.geometry.specs.declared.pin_word.Phase.{Phase}
+use Rattle.geometry.specs.{Greedy.IsClosed, declared.map_word.MapWord.MapWord, declared.pin_word.Phase.Phase, declared.pin_word.PinWord.PinWord}
 use Rattle.geometry.specs.declared.pin_word.Phase.TheVariants as phase
-use Rattle.geometry.specs.declared.pin_word.PinWord.{PinWord}
-use Rattle.flash_rule.specs.declared.facts.Cycle.{Cycle}
-use Rattle.flash_rule.specs.declared.view.View.{View}
-use Rattle.broom.specs.declared.answer.Drain.{Drain}
+use Rattle.flash_rule.specs.declared.{facts.Cycle.Cycle, view.View.View}
+use Rattle.broom.specs.{declared.answer.Drain.Drain, declared.broom.Broom.Broom, Ready.blocks_of_broom, Ready.view_of_broom, Told.Surveyed}
+use Rattle.broom.specs.Survey.{Survey, closed_of, counts_of}
 use Rattle.broom.specs.declared.answer.Drain.TheVariants as drain
 use Rattle.broom.specs.declared.answer.Erase.TheVariants as erase
-use Rattle.broom.specs.declared.broom.Broom.{Broom}
-use Rattle.broom.specs.Ready.{blocks_of_broom, view_of_broom}
 use Rattle.flash_table.specs.declared.pass.OpenBlock.{OpenBlock}
-use Rattle.broom.specs.Survey.{Survey, closed_of, counts_of}
-use Rattle.broom.specs.Told.{Surveyed}
-use Rattle.workers.specs.declared.broom_answer.BroomAnswer.{BroomAnswer}
+use Rattle.workers.specs.declared.{broom_answer.BroomAnswer.BroomAnswer, tally.Tally.Tally}
 use Rattle.workers.specs.declared.broom_answer.BroomAnswer.TheVariants as by
-use Rattle.workers.specs.declared.tally.Tally.{Tally}
 
 -- a block with two pages written and no reader, in this phase of this generation
 abbrev pub two_written : Phase → ℕ → PinWord

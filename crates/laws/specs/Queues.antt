@@ -1,7 +1,6 @@
 -- What a pass knows of a queue, as the laws of queues name it.
 use Rattle.std.specs.Prelude.{ℕ, List, []}
-use Rattle.erase_queue.specs.declared.sight.Role.TheVariants.{User}
-use Rattle.erase_queue.specs.declared.sight.Sight.{Sight}
+use Rattle.erase_queue.specs.declared.sight.{Role.TheVariants.User, Sight.Sight}
 
 -- a pass that knows this limit, these puts, how many were taken, and the places of its own puts and takes
 abbrev pub sees_own : ℕ → List ℕ → ℕ → List ℕ → List ℕ → Sight

@@ -1,13 +1,9 @@
 -- Lines of traces and their answers, as the laws of rounds name them.
 use Rattle.std.specs.Prelude.{ℕ, zero, suc, List, [], ◌∷◌}
-use Rattle.trace.specs.declared.commands.Command.{Command}
-use Rattle.trace.specs.declared.commands.Op.{Op}
+use Rattle.trace.specs.declared.commands.{Command.Command, Op.Op}
 use Rattle.trace.specs.declared.commands.Op.TheVariants as op
-use Rattle.rounds.specs.declared.answer.Kind.{Kind}
+use Rattle.rounds.specs.{declared.answer.Kind.Kind, Lines.Said, Texts.lines_text, Told.Line, Told.line, Told.told}
 use Rattle.rounds.specs.declared.answer.Kind.TheVariants as kind
-use Rattle.rounds.specs.Lines.{Said}
-use Rattle.rounds.specs.Texts.{lines_text}
-use Rattle.rounds.specs.Told.{Line, line, told}
 
 -- a line of a worker without a page
 abbrev pub plain_line : ℕ → Op → ℕ → Command

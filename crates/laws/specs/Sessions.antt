@@ -1,17 +1,11 @@
 -- Sessions as the laws of their ends name them.
-use Rattle.std.specs.Prelude.{◌≡◌, ℕ, List, Option, None, Some, Result, codes}
-use Rattle.std.specs.Io.KnownBytes.{IsAtEnd}
+use Rattle.std.specs.{Prelude.◌≡◌, Prelude.ℕ, Prelude.List, Prelude.Option, Prelude.None, Prelude.Some, Prelude.Result, Prelude.codes, Io.KnownBytes.IsAtEnd}
 use Rattle.answers.specs.Streams.{Passage, Tells}
 use Rattle.clap.specs.Words.{Text, one_of}
-use Rattle.geometry.specs.Geometry.{numbers_of}
-use Rattle.geometry.specs.declared.geometry.Geometry.{Geometry}
-use Rattle.player.specs.CommandLine.{AreOptionsOf, numbers_given, rows_named}
-use Rattle.player.specs.Session.{EndsSession, Explains, ExplainsStop, IsTextFor, filings}
-use Rattle.player.specs.Telling.{TellsEnding}
-use Rattle.player.specs.declared.command_line.Options.{Options}
-use Rattle.player.specs.declared.run_files.FileStop.{FileStop}
-use Rattle.player.specs.declared.run_files.RunFile.{RunFile}
-use Rattle.player.specs.declared.stop.Stop.{Stop}
+use Rattle.geometry.specs.{Geometry.numbers_of, declared.geometry.Geometry.Geometry}
+use Rattle.player.specs.{CommandLine.AreOptionsOf, CommandLine.numbers_given, CommandLine.rows_named, Telling.TellsEnding, declared.run_files.FileStop.FileStop}
+use Rattle.player.specs.{Session.EndsSession, Session.Explains, Session.ExplainsStop, Session.IsTextFor, Session.filings, declared.command_line.Options.Options}
+use Rattle.player.specs.declared.{run_files.RunFile.RunFile, stop.Stop.Stop}
 use Rattle.player.specs.declared.stop.Stop.TheVariants as stop
 use Rattle.runs.specs.declared.files.RunFiles.{RunFiles}
 use Rattle.trace.specs.declared.named_file.OpenFault.{OpenFault}

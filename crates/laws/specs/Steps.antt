@@ -1,10 +1,7 @@
 -- What players did, as the laws of steps name it.
 use Rattle.std.specs.Prelude.{◌≡◌, ℕ, Some, slice_get}
-use Rattle.geometry.specs.History.{held}
-use Rattle.geometry.specs.declared.map_word.MapWord.{MapWord}
-use Rattle.flash_rule.specs.declared.carried.Carried.{Carried}
-use Rattle.flash_rule.specs.declared.facts.Cycle.{Cycle}
-use Rattle.flash_rule.specs.declared.view.View.{View}
+use Rattle.geometry.specs.{History.held, declared.map_word.MapWord.MapWord}
+use Rattle.flash_rule.specs.declared.{carried.Carried.Carried, facts.Cycle.Cycle, view.View.View}
 
 -- a sector holds after all that the second view has seen what it held after all that the first one has
 abbrev pub StaysAt : ℕ → View → View → Type 0

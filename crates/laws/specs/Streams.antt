@@ -1,7 +1,6 @@
 -- Streams before a call and after it, as the laws of what is read and written name them.
 use Rattle.std.specs.Prelude.{◌≡◌, ℕ, List, Some}
-use Rattle.answers.specs.Streams.{Passage, Stream}
-use Rattle.answers.specs.declared.broom_line.BroomLine.{BroomLine}
+use Rattle.answers.specs.{Streams.Passage, Streams.Stream, declared.broom_line.BroomLine.BroomLine}
 
 -- a stream that failed this often and has these bytes
 abbrev pub stream : ℕ → List ℕ → Stream

@@ -1,13 +1,9 @@
 -- Blocks as their owners have them, as the laws of a table's steps name them.
 use Rattle.std.specs.Prelude.{ℕ, Some}
 use Rattle.geometry.specs.declared.pin_word.Phase.{Phase}
-use Rattle.flash_rule.specs.declared.facts.Cycle.{Cycle}
-use Rattle.flash_rule.specs.declared.facts.Inspection.{Inspection}
-use Rattle.flash_rule.specs.declared.facts.Owned.{Owned}
-use Rattle.flash_table.specs.declared.broom_seat.BroomBlocks.{BroomBlocks}
-use Rattle.flash_table.specs.declared.broom_seat.ReclaimedBlock.{ReclaimedBlock}
+use Rattle.flash_rule.specs.declared.facts.{Cycle.Cycle, Inspection.Inspection, Owned.Owned}
+use Rattle.flash_table.specs.declared.{broom_seat.BroomBlocks.BroomBlocks, broom_seat.ReclaimedBlock.ReclaimedBlock, pass.OpenBlock.OpenBlock}
 use Rattle.flash_table.specs.declared.broom_seat.Reclaiming.TheVariants as reclaiming
-use Rattle.flash_table.specs.declared.pass.OpenBlock.{OpenBlock}
 
 -- an open block, in this generation, with this many pages written
 abbrev pub an_open : ℕ → ℕ → ℕ → OpenBlock

@@ -1,31 +1,21 @@
 //! Laws of the order of a broom's calls in a round: which lists of answers are turns, and what is enough for what a broom has done.
 ghost use Rattle.std.specs.Prelude.{◌≡◌, ◌+◌, ◌-◌, ◌%◌, ◌^◌, ℕ, [], ◌∷◌, false, length};
 ghost use Rattle.std.specs.Arc.{arc_value};
-ghost use Rattle.broom.specs.Ends.{folded_place, folded_view};
+ghost use Rattle.broom.specs.{Ends.folded_place, Ends.folded_view, Ready.view_of_broom, Restocking.RestockTold, Told.KeepsSurvey, declared.answer.Erase.Erase};
 ghost use Rattle.broom.specs.Handing.{DrainDeadOneTold, DrainNextOneTold, DrainOneTold, EraseOneTold, HandsNothing, LeftAt};
-ghost use Rattle.broom.specs.Ready.{view_of_broom};
-ghost use Rattle.broom.specs.Restocking.{RestockTold};
-ghost use Rattle.broom.specs.Told.{KeepsSurvey};
-ghost use Rattle.broom.specs.declared.answer.Drain.TheVariants as drain;
-ghost use Rattle.broom.specs.declared.answer.Erase.{Erase};
-ghost use Rattle.broom.specs.declared.answer.Erase.TheVariants as erase;
 ghost use Rattle.broom.specs.declared.broom.Broom.{Broom};
+ghost use Rattle.broom.specs.declared.answer.Drain.TheVariants as drain;
+ghost use Rattle.broom.specs.declared.answer.Erase.TheVariants as erase;
 ghost use Rattle.flash_rule.specs.declared.facts.Name.TheVariants as name;
 ghost use Rattle.flash_rule.specs.declared.facts.Role.TheVariants as seat;
 ghost use Rattle.flash_table.specs.Flash.{geometry_of};
-ghost use Rattle.geometry.specs.Geometry.{brooms_of};
-ghost use Rattle.geometry.specs.declared.geometry.Geometry.{Geometry};
-ghost use Rattle.volume.specs.Volume.{flash_of};
-ghost use Rattle.volume.specs.declared.volume.Volume.{Volume};
+ghost use Rattle.geometry.specs.{Geometry.brooms_of, declared.geometry.Geometry.Geometry};
+ghost use Rattle.volume.specs.{Volume.flash_of, declared.volume.Volume.Volume};
 ghost use Rattle.workers.specs.Collecting.{HasCollected, HasCollectedBy, HasMadeCalls, limit_at};
-ghost use Rattle.workers.specs.Folding.{HasFolded, HaveFolded};
-ghost use Rattle.workers.specs.Growing.{GrowsBy, busy_in, stale_in};
+ghost use Rattle.workers.specs.{Folding.HasFolded, Folding.HaveFolded, Growing.GrowsBy, Growing.busy_in, Growing.stale_in, Turns.AreTurns, Turns.IsTurn};
 ghost use Rattle.workers.specs.Served.{AllHaveServed, HasServed, IsAtRunStart, listed_in};
-ghost use Rattle.workers.specs.Tallies.{nothing_done};
-ghost use Rattle.workers.specs.Turns.{AreTurns, IsTurn};
+ghost use Rattle.workers.specs.{Tallies.nothing_done, declared.collector.Collector.Collector, declared.collector_end.CollectorEnd.CollectorEnd};
 ghost use Rattle.workers.specs.declared.broom_answer.BroomAnswer.TheVariants as by;
-ghost use Rattle.workers.specs.declared.collector.Collector.{Collector};
-ghost use Rattle.workers.specs.declared.collector_end.CollectorEnd.{CollectorEnd};
 ghost use Rattle.laws.specs.Brooms.{two_drains};
 
 /// Which answers of calls are those of one turn: at most so many drains, the first one by a new survey, and none behind the last one by it.

@@ -1,9 +1,6 @@
 ghost use Rattle.std.specs.Prelude.{◌≡◌, ℕ, List, [], ◌∷◌};
-ghost use Rattle.geometry.specs.History.{Call, Trim, Begins};
-ghost use Rattle.geometry.specs.Limits.{Numbers};
-ghost use Rattle.geometry.specs.declared.map_word.MapWord.{MapWord};
-ghost use Rattle.flash_rule.specs.Plays.{Disjoint, Once};
-ghost use Rattle.flash_rule.specs.Views.{AreOfHosts, calls_of};
+ghost use Rattle.geometry.specs.{History.Call, History.Trim, History.Begins, Limits.Numbers, declared.map_word.MapWord.MapWord};
+ghost use Rattle.flash_rule.specs.{Plays.Disjoint, Plays.Once, Views.AreOfHosts, Views.calls_of};
 
 /// A history begins itself and each longer one whose first calls are its own.
 pub fn beginnings_of_histories()

@@ -1,23 +1,14 @@
 //! Laws that say what is enough for the results of a host's call, and for a close of the device.
-ghost use Rattle.std.specs.Prelude.{◌≡◌, ◌+◌, ◌++◌, ℕ, List, [], ◌∷◌, Some};
-ghost use Rattle.std.specs.List.{range_with_len};
+ghost use Rattle.std.specs.{Prelude.◌≡◌, Prelude.◌+◌, Prelude.◌++◌, Prelude.ℕ, Prelude.List, Prelude.[], Prelude.◌∷◌, Prelude.Some, List.range_with_len};
 ghost use Rattle.broom.specs.Meeting.{BroomsMet, StoodTold};
-ghost use Rattle.flash_rule.specs.Plays.{Disjoint, GoesOnFrom, Once};
-ghost use Rattle.flash_rule.specs.Seats.{carried};
-ghost use Rattle.flash_rule.specs.declared.carried.Carried.{Carried};
-ghost use Rattle.flash_rule.specs.declared.view.View.{View};
-ghost use Rattle.flash_table.specs.Flash.{view_of};
-ghost use Rattle.flash_table.specs.declared.flash.Flash.{Flash};
-ghost use Rattle.geometry.specs.History.{held, was as was_at, Begins, Write};
-ghost use Rattle.geometry.specs.declared.answer.Was.{Was};
+ghost use Rattle.flash_rule.specs.{Plays.Disjoint, Plays.GoesOnFrom, Plays.Once, Seats.carried, declared.carried.Carried.Carried, declared.view.View.View};
+ghost use Rattle.flash_table.specs.{Flash.view_of, declared.flash.Flash.Flash};
+ghost use Rattle.geometry.specs.{History.held, History.was as was_at, History.Begins, History.Write, declared.answer.Was.Was};
 ghost use Rattle.geometry.specs.declared.map_word.MapWord.{MapWord};
 ghost use Rattle.geometry.specs.declared.pin_word.Phase.TheVariants as phase;
-ghost use Rattle.host.specs.Holding.{pass_of};
-ghost use Rattle.host.specs.Told.{MetHolding, MetTold, Wrote};
-ghost use Rattle.host.specs.declared.holding.Held.{Held};
+ghost use Rattle.host.specs.{Holding.pass_of, Told.MetHolding, Told.MetTold, Told.Wrote, declared.holding.Held.Held};
 ghost use Rattle.volume.specs.Undisturbed.{Undisturbed};
-ghost use Rattle.laws.specs.Brooms.{a_page};
-ghost use Rattle.laws.specs.Tables.{an_owned};
+ghost use Rattle.laws.specs.{Brooms.a_page, Tables.an_owned};
 
 /// What a write leaves of the block that it fills, at which history it is answered, and what two players that met have heard of each other.
 pub fn records_of_hosts()

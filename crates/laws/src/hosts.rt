@@ -1,13 +1,7 @@
 ghost use Rattle.std.specs.Prelude.{◌≡◌, ◌+◌, ◌*◌, ◌<◌, ◌≤◌, ℕ, List, [], ◌∷◌, ◌++◌, None, Some};
 ghost use Rattle.std.specs.List.{range_with_len};
-ghost use Rattle.geometry.specs.History.{Begins, Write, held};
-ghost use Rattle.geometry.specs.declared.answer.Was.{Was};
-ghost use Rattle.geometry.specs.declared.map_word.MapWord.{MapWord};
-ghost use Rattle.flash_rule.specs.Plays.{Disjoint};
-ghost use Rattle.flash_rule.specs.Views.{sum_of};
-ghost use Rattle.flash_rule.specs.World.{sector_word};
-ghost use Rattle.flash_rule.specs.declared.facts.Owned.{Owned};
-ghost use Rattle.flash_rule.specs.declared.view.View.{View};
+ghost use Rattle.geometry.specs.{History.Begins, History.Write, History.held, declared.answer.Was.Was, declared.map_word.MapWord.MapWord};
+ghost use Rattle.flash_rule.specs.{Plays.Disjoint, Views.sum_of, World.sector_word, declared.facts.Owned.Owned, declared.view.View.View};
 ghost use Rattle.broom.specs.Meeting.{BroomsMet, HasHeard, StoodTold};
 ghost use Rattle.host.specs.Told.{MetHolding, MetTold, Refused, Searched, Wrote};
 ghost use Rattle.uses.specs.Standing.{HasNoErase};

@@ -1,16 +1,12 @@
 ghost use Rattle.std.specs.Prelude.{◌≡◌, ◌⊎◌, ℕ, List, [], ◌∷◌, None, Some, true, false};
 ghost use Rattle.geometry.specs.Sectors.{Sector};
-ghost use Rattle.rounds.specs.Lines.{Said, IsRight};
+ghost use Rattle.rounds.specs.{Lines.Said, Lines.IsRight, Playing.IsTried, Playing.LineFound, Playing.WriteFound, Rows.AreAtOneHistory, Texts.IsTextOfSome};
 ghost use Rattle.rounds.specs.Merging.{AreDisjointCommands, IsDisjointTrace, merge, rounds_of};
-ghost use Rattle.rounds.specs.Playing.{IsTried, LineFound, WriteFound};
-ghost use Rattle.rounds.specs.Rows.{AreAtOneHistory};
-ghost use Rattle.rounds.specs.Texts.{IsTextOfSome};
 ghost use Rattle.rounds.specs.declared.answer.Kind.TheVariants as kind;
-ghost use Rattle.trace.specs.declared.commands.Command.{Command};
-ghost use Rattle.trace.specs.declared.commands.Op.{Op};
+ghost use Rattle.trace.specs.declared.commands.{Command.Command, Op.Op};
 ghost use Rattle.trace.specs.declared.commands.Op.TheVariants as op;
-ghost use Rattle.laws.specs.Rounds.{all_done, meeting, nothing_read, plain_line, rows_with, says, says_page, three_answers};
-ghost use Rattle.laws.specs.Rounds.{three_lines, three_reads, write_and_reads, write_turned_away};
+ghost use Rattle.laws.specs.Rounds.{all_done, meeting, nothing_read, plain_line, rows_with, says, says_page, three_answers, three_lines, three_reads};
+ghost use Rattle.laws.specs.Rounds.{write_and_reads, write_turned_away};
 
 /// Where the rounds of a trace end, whose answer each line gets, and which sectors the lines of a round may share.
 pub fn rounds_of_a_trace()

@@ -1,31 +1,17 @@
 //! Laws that say what is enough for lines, rounds and runs to be played: a value of which each relation holds, or its parts.
-ghost use Rattle.std.specs.Prelude.{◌≡◌, ℕ, List, [], ◌∷◌, length};
-ghost use Rattle.std.specs.Arc.{arc_value};
-ghost use Rattle.flash_rule.specs.Views.{calls_of};
-ghost use Rattle.flash_rule.specs.declared.view.View.{View};
-ghost use Rattle.flash_table.specs.Flash.{geometry_of, view_of};
-ghost use Rattle.flash_table.specs.declared.pass.Pass.{Pass};
-ghost use Rattle.geometry.specs.Geometry.{page_bytes_of, sectors_of};
-ghost use Rattle.geometry.specs.History.{Call};
-ghost use Rattle.geometry.specs.declared.geometry.Geometry.{Geometry};
+ghost use Rattle.std.specs.{Prelude.◌≡◌, Prelude.ℕ, Prelude.List, Prelude.[], Prelude.◌∷◌, Prelude.length, Arc.arc_value};
+ghost use Rattle.flash_rule.specs.{Views.calls_of, declared.view.View.View};
+ghost use Rattle.flash_table.specs.{Flash.geometry_of, Flash.view_of, declared.pass.Pass.Pass};
+ghost use Rattle.geometry.specs.{Geometry.page_bytes_of, Geometry.sectors_of, History.Call, declared.geometry.Geometry.Geometry};
 ghost use Rattle.geometry.specs.declared.map_word.MapWord.{MapWord};
-ghost use Rattle.rounds.specs.Answers.{page_size_of, said_in};
-ghost use Rattle.rounds.specs.Lines.{Said};
-ghost use Rattle.rounds.specs.Merging.{IsDisjointTrace, lines_for, merge};
-ghost use Rattle.rounds.specs.Plans.{ends_of};
-ghost use Rattle.rounds.specs.Playing.{Plays, calls_done, writes_done};
-ghost use Rattle.rounds.specs.Rows.{AreAtOneHistory};
-ghost use Rattle.rounds.specs.Texts.{IsTextOfSome, lines_text};
-ghost use Rattle.rounds.specs.declared.answer.Kind.TheVariants as kind;
+ghost use Rattle.rounds.specs.{Answers.page_size_of, Answers.said_in, Lines.Said, Merging.IsDisjointTrace, Merging.lines_for, Merging.merge, Plans.ends_of};
+ghost use Rattle.rounds.specs.{Playing.Plays, Playing.calls_done, Playing.writes_done, Rows.AreAtOneHistory, Texts.IsTextOfSome, Texts.lines_text};
 ghost use Rattle.rounds.specs.declared.answer_list.Answers.{Answers};
+ghost use Rattle.rounds.specs.declared.answer.Kind.TheVariants as kind;
 ghost use Rattle.trace.specs.declared.commands.Command.{Command};
-ghost use Rattle.volume.specs.Volume.{flash_of};
-ghost use Rattle.volume.specs.declared.volume.Volume.{Volume};
-ghost use Rattle.workers.specs.Able.{IsAble};
-ghost use Rattle.workers.specs.Commands.{ArePlayed};
-ghost use Rattle.workers.specs.Meetings.{PassesMet};
+ghost use Rattle.volume.specs.{Volume.flash_of, declared.volume.Volume.Volume};
+ghost use Rattle.workers.specs.{Able.IsAble, Commands.ArePlayed, Meetings.PassesMet, declared.worker.Worker.Worker};
 ghost use Rattle.workers.specs.Runs.{HasBegun, HasEnded, HasRun, IsDealt, denied_by, rows_of};
-ghost use Rattle.workers.specs.declared.worker.Worker.{Worker};
 ghost use Rattle.laws.specs.Rounds.{meeting, read, write_by};
 
 /// What a run that has begun and one that has ended say of each worker.

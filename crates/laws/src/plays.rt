@@ -1,35 +1,21 @@
 //! Laws of what each kind of step on the table records.
 ghost use Rattle.std.specs.Prelude.{◌≡◌, ◌+◌, ◌<◌, ◌≤◌, ℕ, List, [], ◌∷◌, ◌++◌, Some, None, length};
 ghost use Rattle.atomic_table.specs.Table.{State, Step};
-ghost use Rattle.flash_rule.specs.BroomPlays.{CanInspect, Inspected, inspect_told, inspected_in};
-ghost use Rattle.flash_rule.specs.BroomPlays.{CanClaim, CanCondemn, CanDrain, CanGetStamp, CanMove, CanRenew, CanRetire, CanWipe, Loaded, Named, cycle_of};
-ghost use Rattle.flash_rule.specs.BroomPlays.{broom_look_told, claim_told, condemn_told, drain_told};
-ghost use Rattle.flash_rule.specs.BroomPlays.{freed_told, kept_told, move_told, owned_as, retired_told};
-ghost use Rattle.flash_rule.specs.BroomPlays.{source_told, stamp_told, state_told, wipe_told};
-ghost use Rattle.flash_rule.specs.Plays.{CanClose, CanCount, CanPlace, CanPut, Looked};
-ghost use Rattle.flash_rule.specs.Plays.{Sitter, close_told, count_told, get_told, look_told, new_told, next_page};
-ghost use Rattle.flash_rule.specs.Plays.{Tested, pin_told, put_told, take_told, test_told, trim_told, unpin_told, words_in, write_told};
-ghost use Rattle.flash_rule.specs.Seats.{Ruled};
-ghost use Rattle.flash_rule.specs.Views.{without};
-ghost use Rattle.flash_rule.specs.World.{blank_word, data_word};
+ghost use Rattle.flash_rule.specs.BroomPlays.{CanInspect, Inspected, inspect_told, inspected_in, CanClaim, CanCondemn, CanDrain, CanGetStamp, CanMove};
+ghost use Rattle.flash_rule.specs.BroomPlays.{CanRenew, CanRetire, CanWipe, Loaded, Named, cycle_of, broom_look_told, claim_told, condemn_told, drain_told};
+ghost use Rattle.flash_rule.specs.BroomPlays.{freed_told, kept_told, move_told, owned_as, retired_told, source_told, stamp_told, state_told, wipe_told};
+ghost use Rattle.flash_rule.specs.Plays.{CanClose, CanCount, CanPlace, CanPut, Looked, Sitter, close_told, count_told, get_told, look_told, new_told};
+ghost use Rattle.flash_rule.specs.Plays.{next_page, Tested, pin_told, put_told, take_told, test_told, trim_told, unpin_told, words_in, write_told};
+ghost use Rattle.flash_rule.specs.{Seats.Ruled, Views.without, World.blank_word, World.data_word, declared.facts.Owned.Owned, declared.facts.Source.Source};
+ghost use Rattle.flash_rule.specs.declared.{facts.Work.Work, view.View.View};
 ghost use Rattle.flash_rule.specs.declared.facts.Name.TheVariants as name;
-ghost use Rattle.flash_rule.specs.declared.facts.Owned.{Owned};
 ghost use Rattle.flash_rule.specs.declared.facts.Pin.TheVariants as pin;
 ghost use Rattle.flash_rule.specs.declared.facts.Role.TheVariants as seat;
-ghost use Rattle.flash_rule.specs.declared.facts.Source.{Source};
-ghost use Rattle.flash_rule.specs.declared.facts.Work.{Work};
-ghost use Rattle.flash_rule.specs.declared.view.View.{View};
-ghost use Rattle.geometry.specs.History.{Trim, Write, WriteNew, held};
-ghost use Rattle.geometry.specs.Limits.{numbers};
-ghost use Rattle.geometry.specs.MapWords.{FitsMap, map_word};
-ghost use Rattle.geometry.specs.PinWords.{FitsPin, pin_word};
-ghost use Rattle.geometry.specs.TableOrder.{page_index, pin_index};
-ghost use Rattle.geometry.specs.declared.map_word.MapWord.{MapWord};
-ghost use Rattle.geometry.specs.declared.map_word.TheConstants.{UNMAPPED};
+ghost use Rattle.geometry.specs.{History.Trim, History.Write, History.WriteNew, History.held, Limits.numbers, MapWords.FitsMap, MapWords.map_word};
+ghost use Rattle.geometry.specs.{PinWords.FitsPin, PinWords.pin_word, TableOrder.page_index, TableOrder.pin_index, declared.map_word.MapWord.MapWord};
+ghost use Rattle.geometry.specs.declared.{map_word.TheConstants.UNMAPPED, pin_word.PinWord.PinWord};
 ghost use Rattle.geometry.specs.declared.pin_word.Phase.TheVariants as phase;
-ghost use Rattle.geometry.specs.declared.pin_word.PinWord.{PinWord};
-ghost use Rattle.laws.specs.Tables.{an_inspection, an_owned};
-ghost use Rattle.laws.specs.Brooms.{a_page};
+ghost use Rattle.laws.specs.{Tables.an_inspection, Tables.an_owned, Brooms.a_page};
 
 /// What each step of a pass records.
 pub fn steps_of_passes()

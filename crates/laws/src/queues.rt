@@ -1,6 +1,5 @@
 ghost use Rattle.std.specs.Prelude.{◌≡◌, ◌+◌, ◌-◌, ◌^◌, ℕ, [], ◌∷◌, length};
-ghost use Rattle.erase_queue.specs.declared.pass.QueuePass.{QueuePass};
-ghost use Rattle.erase_queue.specs.declared.sight.Sight.{Sight};
+ghost use Rattle.erase_queue.specs.declared.{pass.QueuePass.QueuePass, sight.Sight.Sight};
 ghost use Rattle.erase_queue.specs.Moves.{AreBelow, DidPut, DidTake, Stand, StoodSome};
 ghost use Rattle.erase_queue.specs.Queue.{WasEmpty, WasFull, WasPut, WasTaken, empties_of, fulls_of, sight_of};
 ghost use Rattle.laws.specs.Queues.{sees, sees_own};

@@ -1,17 +1,14 @@
 //! Laws of the writes that a run refuses.
 ghost use Rattle.std.specs.Prelude.{◌≡◌, ℕ, List, [], ◌∷◌, ◌++◌, None, Some, codes, decimal, false, true};
-ghost use Rattle.answers.specs.Replies.{is_worn_reply};
-ghost use Rattle.answers.specs.Streams.{Passage};
+ghost use Rattle.answers.specs.{Replies.is_worn_reply, Streams.Passage};
 ghost use Rattle.answers.specs.declared.reply.Reply.TheVariants as reply;
 ghost use Rattle.geometry.specs.declared.geometry.Geometry.{Geometry};
 ghost use Rattle.player.specs.Session.{IsOneRun, counted_refusals, refusal_by, run_options_of, status_of};
-ghost use Rattle.player.specs.Telling.{refusal_text, text_of};
-ghost use Rattle.player.specs.declared.command_line.Options.{Options};
+ghost use Rattle.player.specs.{Telling.refusal_text, Telling.text_of, declared.command_line.Options.Options};
 ghost use Rattle.player.specs.declared.refusal.Refusal.TheVariants as refusal;
 ghost use Rattle.player.specs.declared.stop.Stop.TheVariants as stop;
 ghost use Rattle.rounds.specs.declared.answer.Kind.TheVariants as kind;
-ghost use Rattle.runs.specs.Playing.{refused_at};
-ghost use Rattle.runs.specs.Refusals.{IsRefusedCount, refused_before, refused_by_workers};
+ghost use Rattle.runs.specs.{Playing.refused_at, Refusals.IsRefusedCount, Refusals.refused_before, Refusals.refused_by_workers};
 ghost use Rattle.trace.specs.declared.commands.Command.{Command};
 ghost use Rattle.trace.specs.declared.commands.Op.TheVariants as op;
 ghost use Rattle.laws.specs.Rounds.{meeting, plain_line, rows_with, says};

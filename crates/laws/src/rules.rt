@@ -1,26 +1,18 @@
 //! Laws of the views that a queue and a table begin with.
 ghost use Rattle.std.specs.Prelude.{◌≡◌, ◌+◌, ℕ, List, [], ◌∷◌, ◌++◌, Some, None, true, false};
-ghost use Rattle.erase_queue.specs.Queue.{IsNewPass, empties_of, fulls_of, limit_of, sight_of};
-ghost use Rattle.erase_queue.specs.Rule as queue;
-ghost use Rattle.erase_queue.specs.declared.pass.QueuePass.{QueuePass};
+ghost use Rattle.erase_queue.specs.{Queue.IsNewPass, Queue.empties_of, Queue.fulls_of, Queue.limit_of, Queue.sight_of, declared.pass.QueuePass.QueuePass};
 ghost use Rattle.erase_queue.specs.declared.queue.EraseQueue.{EraseQueue};
+ghost use Rattle.erase_queue.specs.Rule as queue;
 ghost use Rattle.erase_queue.specs.declared.sight.Role.TheVariants as queue_role;
-ghost use Rattle.flash_rule.specs.Plays.{IsOn, Called, is_unpinned};
-ghost use Rattle.flash_rule.specs.Seats.{carried, dealer, dealt_broom, dealt_pass, given_note, giver};
-ghost use Rattle.flash_rule.specs.Seats.{gone, home, host_of, lender, lent_note, new_broom, new_pass};
-ghost use Rattle.flash_rule.specs.Views.{with_owned};
-ghost use Rattle.flash_rule.specs.World.{sector_word};
+ghost use Rattle.flash_rule.specs.{Plays.IsOn, Plays.Called, Plays.is_unpinned, Seats.new_pass, Views.with_owned, World.sector_word, declared.view.View.View};
+ghost use Rattle.flash_rule.specs.Seats.{carried, dealer, dealt_broom, dealt_pass, given_note, giver, gone, home, host_of, lender, lent_note, new_broom};
 ghost use Rattle.flash_rule.specs.declared.facts.Name.TheVariants as name;
 ghost use Rattle.flash_rule.specs.declared.facts.Pin.TheVariants as pin;
 ghost use Rattle.flash_rule.specs.declared.facts.Role.TheVariants as seat;
-ghost use Rattle.flash_rule.specs.declared.view.View.{View};
-ghost use Rattle.geometry.specs.History.{Begins, Trim};
-ghost use Rattle.geometry.specs.Limits.{numbers};
+ghost use Rattle.geometry.specs.{History.Begins, History.Trim, Limits.numbers};
 ghost use Rattle.geometry.specs.declared.answer.Was.TheVariants as was;
 ghost use Rattle.geometry.specs.declared.pin_word.Phase.TheVariants as phase;
-ghost use Rattle.laws.specs.Brooms.{a_page};
-ghost use Rattle.laws.specs.Queues.{sees};
-ghost use Rattle.laws.specs.Tables.{an_owned};
+ghost use Rattle.laws.specs.{Brooms.a_page, Queues.sees, Tables.an_owned};
 
 /// What the passes of a queue know at first.
 pub fn sights_of_a_queue()

@@ -1,28 +1,19 @@
 ghost use Rattle.std.specs.Prelude.{◌≡◌, ◌+◌, ℕ, IfSome, List, Option, [], ◌∷◌, Err, None, Some, codes, false, not, true};
-ghost use Rattle.answers.specs.Answers.{end_text};
-ghost use Rattle.answers.specs.Outcome.{ExplainsRun};
+ghost use Rattle.answers.specs.{Answers.end_text, Outcome.ExplainsRun, declared.fault.RunFault.RunFault};
 ghost use Rattle.answers.specs.Streams.{Passage, Sends, SendsBeginning, Stream, stream_of};
-ghost use Rattle.answers.specs.declared.fault.RunFault.{RunFault};
-ghost use Rattle.clap.specs.Words.{IsAmong, Text, first_of, kind_of, one_of};
-ghost use Rattle.clap.specs.declared.error.Error.{Error};
-ghost use Rattle.geometry.specs.Geometry.{hosts_of, numbers_of};
+ghost use Rattle.clap.specs.{Words.IsAmong, Words.Text, Words.first_of, Words.kind_of, Words.one_of, declared.error.Error.Error};
+ghost use Rattle.geometry.specs.{Geometry.hosts_of, Geometry.numbers_of, declared.fault.GeometryFault.GeometryFault, declared.geometry.Geometry.Geometry};
 ghost use Rattle.geometry.specs.Limits.{first_fault, numbers};
-ghost use Rattle.geometry.specs.declared.fault.GeometryFault.{GeometryFault};
-ghost use Rattle.geometry.specs.declared.geometry.Geometry.{Geometry};
 ghost use Rattle.player.specs.CommandLine.{AreOptionsOf, IsNumberIn, faults_given, numbers_given, rows_given, rows_named};
-ghost use Rattle.player.specs.Session.{AppendsSome, AsksClap, HasFailedToOpen, IsIdle, IsLogBy, IsOpenedAs, IsRefused, IsRefusedAs, IsTextFor};
-ghost use Rattle.player.specs.Session.{LeavesLogBy, LosesFile, TellsFile, filing, name_given};
-ghost use Rattle.player.specs.Telling.{TellsStop};
+ghost use Rattle.player.specs.Session.{AppendsSome, AsksClap, HasFailedToOpen, IsIdle, IsLogBy, IsOpenedAs, IsRefused, IsRefusedAs, IsTextFor, LeavesLogBy};
+ghost use Rattle.player.specs.{Session.LosesFile, Session.TellsFile, Session.filing, Session.name_given, Telling.TellsStop};
 ghost use Rattle.player.specs.declared.command_line.Options.{Options};
 ghost use Rattle.player.specs.declared.run_files.FileStop.TheVariants as file_stop;
 ghost use Rattle.player.specs.declared.run_files.RunFile.TheVariants as run_file;
 ghost use Rattle.player.specs.declared.stop.Stop.TheVariants as stop;
-ghost use Rattle.runs.specs.Brooms.{IsBroomLogOf};
-ghost use Rattle.runs.specs.Outputs.{IsLastLineOf, IsOutputByWorkers, IsOutputOf};
-ghost use Rattle.trace.specs.Watched.{failures_of, inner_of};
-ghost use Rattle.trace.specs.declared.named_file.OpenFault.{OpenFault};
+ghost use Rattle.runs.specs.{Brooms.IsBroomLogOf, Outputs.IsLastLineOf, Outputs.IsOutputByWorkers, Outputs.IsOutputOf};
+ghost use Rattle.trace.specs.{Watched.failures_of, Watched.inner_of, declared.named_file.OpenFault.OpenFault, declared.watched.Watched.Watched};
 ghost use Rattle.trace.specs.declared.named_file.OpenFault.TheVariants as open_fault;
-ghost use Rattle.trace.specs.declared.watched.Watched.{Watched};
 ghost use Rattle.laws.specs.Sessions.{EndsBy, EndsWith, Gives, PlaysAll, Reports, in_use, named_b, system_refused, untold, untold_bytes, untold_name};
 ghost use Rattle.laws.specs.Streams.{Same, passes};
 
@@ -32,7 +23,7 @@ pub fn ends_of_a_session()
     ensures well { (w : List Text) (i o e : Passage) → EndsWith 0 w i o e → o.after.failures ≡ o.before.failures }
     ensures words { (w : List Text) (i o e : Passage) → EndsWith 2 w i o e → (i.after ≡ i.before) × (o.after ≡ o.before) }
     ensures trace { (w : List Text) (i o e : Passage) → EndsWith 3 w i o e → o.after ≡ o.before }
-    ensures told { (e : Passage) → TellsStop stop.Memory e → e.after.failures ≡ e.before.failures → Sends e (codes "memory: refused\n") }
+    ensures memory { (e : Passage) → TellsStop stop.Memory e → e.after.failures ≡ e.before.failures → Sends e (codes "memory: refused\n") }
     ensures played { (w : List Text) (i o e : Passage) → EndsWith 0 w i o e → faults_given w ≡ [] → PlaysAll w i o }
     ensures which { (f : GeometryFault) (w : List Text) (i o e : Passage) → EndsBy (Err (stop.Geometry f)) w i o e → (given : Options)
         × AreOptionsOf w given × (first_fault (numbers_given given) ≡ Some f) × (faults_given w ≡ []) × IsIdle i o
@@ -45,7 +36,7 @@ pub fn ends_of_a_session()
     ensures help_failed { (w : List Text) (i o e : Passage) → EndsBy (Err stop.Help) w i o e → (k : Error) × IsAmong (kind_of k) (faults_given w)
         × AsksClap (kind_of k) × (i.after ≡ i.before) × AppendsSome o }
     ensures refused { (w : List Text) → IsRefused w → (k : Error) × IsAmong (kind_of k) (faults_given w) × (¬ AsksClap (kind_of k)) }
-    ensures told_part { (e : Passage) → TellsStop stop.Memory e → SendsBeginning e (codes "memory: refused\n") }
+    ensures memory_part { (e : Passage) → TellsStop stop.Memory e → SendsBeginning e (codes "memory: refused\n") }
     ensures unwritten { (w : List Text) (i o e : Passage) → EndsWith 5 w i o e → o.after.failures ≡ o.before.failures }
     ensures other { (s : ℕ) (w : List Text) (i o e : Passage) → EndsWith (6 + s) w i o e → ⊥ }
 {}
@@ -64,7 +55,7 @@ pub fn files_of_a_session()
     ensures unnamed { (i : Stream) (a b : Watched ℕ) → TellsFile None Same i (filing untold_name untold untold_bytes a b)
         → failures_of b ≡ failures_of a }
     ensures none_lost { (i : Stream) (a b : Watched ℕ) → ¬ LosesFile None Same i (filing untold_name untold untold_bytes a b) }
-    ensures told { (i : Stream) (a b : Watched ℕ) → TellsFile (Some (codes "a")) Same i (filing untold_name untold untold_bytes a b)
+    ensures named { (i : Stream) (a b : Watched ℕ) → TellsFile (Some (codes "a")) Same i (filing untold_name untold untold_bytes a b)
         → failures_of b ≡ failures_of a }
     ensures lost { (i : Stream) (a : Watched ℕ) → ¬ LosesFile (Some (codes "a")) Same i (filing untold_name untold untold_bytes a a) }
     ensures other_name { (i : Stream) (a b : Watched ℕ) → ¬ TellsFile (Some (codes "a")) Same i (filing named_b untold untold_bytes a b) }

@@ -1,22 +1,13 @@
 ghost use Rattle.std.specs.Prelude.{◌≡◌, ◌+◌, ◌<◌, ℕ, Bool, List, [], ◌∷◌, ◌++◌, is_some};
-ghost use Rattle.geometry.specs.History.{Call, Begins, held, was};
-ghost use Rattle.geometry.specs.History as call;
-ghost use Rattle.geometry.specs.Sectors.{Answers};
-ghost use Rattle.geometry.specs.declared.answer.Got.{Got};
-ghost use Rattle.geometry.specs.declared.answer.Was.{Was};
-ghost use Rattle.flash_rule.specs.declared.carried.Carried.{Carried};
-ghost use Rattle.flash_rule.specs.declared.view.View.{View};
-ghost use Rattle.flash_rule.specs.Plays.{Spared};
-ghost use Rattle.flash_table.specs.declared.flash.Flash.{Flash};
+ghost use Rattle.geometry.specs.{History.Call, History.Begins, History.held, History.was, Sectors.Answers, declared.answer.Got.Got, declared.answer.Was.Was};
 ghost use Rattle.geometry.specs.declared.map_word.MapWord.{MapWord};
-ghost use Rattle.host.specs.Holding.{page_of, pass_of};
-ghost use Rattle.host.specs.declared.holding.Held.{Held};
-ghost use Rattle.flash_table.specs.Flash.{view_of};
+ghost use Rattle.geometry.specs.History as call;
+ghost use Rattle.flash_rule.specs.{declared.carried.Carried.Carried, declared.view.View.View, Plays.Spared, Views.calls_of};
+ghost use Rattle.flash_table.specs.{declared.flash.Flash.Flash, Flash.view_of};
+ghost use Rattle.host.specs.{Holding.page_of, Holding.pass_of, declared.holding.Held.Held};
 ghost use Rattle.uses.specs.Standing.{HasNoErase};
-ghost use Rattle.flash_rule.specs.Views.{calls_of};
 ghost use Rattle.volume.specs.Correct.{Answer, Asked, Correct, Found, IsWritten, Known, Look, Read, Replaced, Trim, Write, WriteNew, calls_for};
-ghost use Rattle.volume.specs.LeavesArray.{LeavesArray};
-ghost use Rattle.volume.specs.Undisturbed.{AreEarlier, Undisturbed};
+ghost use Rattle.volume.specs.{LeavesArray.LeavesArray, Undisturbed.AreEarlier, Undisturbed.Undisturbed};
 ghost use Rattle.laws.specs.Steps.{ProgramsApart, StaysAt, erase_in};
 
 /// What a step of an array of sectors is, and what is none.

@@ -1,19 +1,13 @@
 //! Laws of the blocks of a device for one thread.
 ghost use Rattle.std.specs.Prelude.{◌≡◌, ◌+◌, ◌<◌, ◌≤◌, ℕ, List, [], ◌∷◌, Some, None, Ok, Err, true, false};
-ghost use Rattle.ftl_one.specs.Blocks.{weight};
-ghost use Rattle.ftl_one.specs.Collections.{collection_between, collection_due};
-ghost use Rattle.ftl_one.specs.Entries.{Recounts, live_count};
-ghost use Rattle.ftl_one.specs.Fewest.{IsFewest};
-ghost use Rattle.ftl_one.specs.Lawful.{IsLawful, KnowsSpare, role_in};
+ghost use Rattle.ftl_one.specs.{Blocks.weight, Collections.collection_between, Collections.collection_due, Entries.Recounts, Entries.live_count};
+ghost use Rattle.ftl_one.specs.{Fewest.IsFewest, Lawful.IsLawful, Lawful.KnowsSpare, Lawful.role_in, MapEntries.bits_of, MapEntries.named_by, OneFtl.was_found};
 ghost use Rattle.ftl_one.specs.Laws.{Collects, CollectsAtMostOne, ErasesNothing, HasNoPage, HasRetired, block_at};
-ghost use Rattle.ftl_one.specs.MapEntries.{bits_of, named_by};
-ghost use Rattle.ftl_one.specs.OneFtl.{was_found};
 ghost use Rattle.ftl_one.specs.Stock.{Stock, is_free, is_retired, live_of, next_of, opening_of};
 ghost use Rattle.ftl_one.specs.declared.one_ftl.NewOneFault.TheVariants as one_fault;
 ghost use Rattle.ftl_one.specs.declared.role.Role.TheVariants as role;
 ghost use Rattle.geometry.specs.declared.answer.Was.TheVariants as was;
-ghost use Rattle.geometry.specs.declared.geometry.Geometry.{Geometry};
-ghost use Rattle.geometry.specs.History.{Trim, Write, WriteNew};
+ghost use Rattle.geometry.specs.{declared.geometry.Geometry.Geometry, History.Trim, History.Write, History.WriteNew};
 ghost use Rattle.laws.specs.Blocks.{HasTwoBlocks, at, before_write, block_with, dead, half_live, half_moved, live, stock_with, written_after};
 
 /// When a stock needs a collection, and which one.

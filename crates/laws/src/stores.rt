@@ -1,15 +1,10 @@
 //! Laws of what the commands on a store leave of its blocks.
-ghost use Rattle.std.specs.Prelude.{◌≡◌, ◌+◌, [], ◌∷◌, None, true, false, length, replicate};
+ghost use Rattle.std.specs.Prelude.{◌≡◌, ◌+◌, [], ◌∷◌, None, true, false, length, replicate, Some};
 ghost use Rattle.die.specs.Die as die;
-ghost use Rattle.die.specs.declared.die.Die.{Die};
-ghost use Rattle.ftl_one.specs.Copying.{copybacks_after};
-ghost use Rattle.ftl_one.specs.Entries.{IsMapped};
-ghost use Rattle.die.specs.Pages.{new_block};
-ghost use Rattle.std.specs.Prelude.{Some};
-ghost use Rattle.ftl_one.specs.Stock.{Entry};
-ghost use Rattle.ftl_one.specs.Store as store;
+ghost use Rattle.die.specs.{declared.die.Die.Die, Pages.new_block};
+ghost use Rattle.ftl_one.specs.{Copying.copybacks_after, Entries.IsMapped, Stock.Entry, declared.store.Store.Store};
 ghost use Rattle.ftl_one.specs.Store.{Clears, Erases, Forgets, HasRoom, HasRoomFor, KeepsBlocks, Puts, array_of, entries_of, erases_of, retired_of};
-ghost use Rattle.ftl_one.specs.declared.store.Store.{Store};
+ghost use Rattle.ftl_one.specs.Store as store;
 ghost use Rattle.geometry.specs.Geometry.{blocks_of, endurance_of, luns_of, pages_of, sectors_of};
 ghost use Rattle.geometry.specs.declared.geometry.Geometry.{Geometry};
 ghost use Rattle.laws.specs.Blocks.{at, dead, live};

@@ -1,46 +1,28 @@
 //! Laws of what a run reads and writes.
-ghost use Rattle.std.specs.Prelude.{length};
-ghost use Rattle.std.specs.Prelude.{◌≡◌, ℕ, List, [], ◌∷◌, Some, None, Ok, Err, true, false, codes};
+ghost use Rattle.std.specs.Prelude.{length, ◌≡◌, ℕ, List, [], ◌∷◌, Some, None, Ok, Err, true, false, codes};
 ghost use Rattle.answers.specs.Answers.{broom_line, calls_of, collection_line, line_text, wear_line, wear_names};
-ghost use Rattle.answers.specs.Delivery.{IsUnderWay};
-ghost use Rattle.answers.specs.Faults.{run_text};
-ghost use Rattle.answers.specs.Placed.{Placed};
-ghost use Rattle.answers.specs.Playable.{IsPlayable};
-ghost use Rattle.answers.specs.Replies.{reply_of, reply_text};
+ghost use Rattle.answers.specs.{Delivery.IsUnderWay, Faults.run_text, Placed.Placed, Playable.IsPlayable, Replies.reply_of, Replies.reply_text};
 ghost use Rattle.answers.specs.Streams.{Moves, Passage, Sends, SendsBeginning, Stream, Tells, WritesOut};
 ghost use Rattle.answers.specs.declared.delivery.OutputFailed.{OutputFailed};
 ghost use Rattle.answers.specs.declared.fault.RunFault.TheVariants as run;
 ghost use Rattle.answers.specs.declared.reply.Reply.TheVariants as reply;
-ghost use Rattle.geometry.specs.Geometry.{hosts_of, sectors_of, words_of};
-ghost use Rattle.geometry.specs.History.{Trim, Write};
+ghost use Rattle.geometry.specs.{Geometry.hosts_of, Geometry.sectors_of, Geometry.words_of, History.Trim, History.Write, declared.geometry.Geometry.Geometry};
+ghost use Rattle.geometry.specs.Sectors.{sector_at};
 ghost use Rattle.geometry.specs.declared.answer.Was.TheVariants as was;
-ghost use Rattle.geometry.specs.declared.geometry.Geometry.{Geometry};
-ghost use Rattle.runs.specs.Collections.{log_part};
-ghost use Rattle.runs.specs.Files.{EndsFile, EndsText, LeavesLog};
-ghost use Rattle.runs.specs.Logs.{IsLogged, IsOpen, due_by, is_wanted};
+ghost use Rattle.runs.specs.{Collections.log_part, Files.EndsFile, Files.EndsText, Files.LeavesLog, Logs.IsLogged, Logs.IsOpen, Logs.due_by, Logs.is_wanted};
+ghost use Rattle.runs.specs.Playing.{answer_by, line_by};
 ghost use Rattle.runs.specs.declared.log.Log.TheVariants as log;
-ghost use Rattle.ftl_one.specs.Collections.{collection_due};
-ghost use Rattle.ftl_one.specs.Stock.{Stock};
+ghost use Rattle.ftl_one.specs.{Collections.collection_due, Stock.Stock, declared.one_ftl.OneFtl.OneFtl, OneFtl.array_of};
 ghost use Rattle.hex.specs.Hex.{decode_of};
-ghost use Rattle.trace.specs.Digits.{IsData, bytes_of};
-ghost use Rattle.trace.specs.Faults.{fault_text};
-ghost use Rattle.trace.specs.Loading.{ExplainsLoad, most_bytes};
-ghost use Rattle.trace.specs.Page.{page_with};
+ghost use Rattle.trace.specs.{Digits.IsData, Digits.bytes_of, Faults.fault_text, Loading.ExplainsLoad, Loading.most_bytes, Page.page_with};
 ghost use Rattle.trace.specs.Trace.{AreCommands, IsFirstFault, is_of_record, name_of, whole_fault, workers_of};
-ghost use Rattle.trace.specs.Watched.{after_call, after_write};
-ghost use Rattle.trace.specs.declared.commands.Command.{Command};
+ghost use Rattle.trace.specs.{Watched.after_call, Watched.after_write, declared.commands.Command.Command, declared.fault.TraceFault.TraceFault};
 ghost use Rattle.trace.specs.declared.commands.Op.TheVariants as op;
-ghost use Rattle.trace.specs.declared.fault.TraceFault.{TraceFault};
 ghost use Rattle.trace.specs.declared.fault.TraceFaultKind.TheVariants as fault;
 ghost use Rattle.clap.specs.Words.{Text};
 ghost use Rattle.player.specs.Arguments.{AreWordsOf, IsUnread};
 ghost use Rattle.player.specs.declared.stop.Stop.TheVariants as stop;
-ghost use Rattle.ftl_one.specs.declared.one_ftl.OneFtl.{OneFtl};
-ghost use Rattle.ftl_one.specs.OneFtl.{array_of};
-ghost use Rattle.geometry.specs.Sectors.{sector_at};
-ghost use Rattle.runs.specs.Playing.{answer_by, line_by};
-ghost use Rattle.laws.specs.Rounds.{plain_line, read, write_by};
-ghost use Rattle.laws.specs.Streams.{Same, fails, passes, some_line};
+ghost use Rattle.laws.specs.{Rounds.plain_line, Rounds.read, Rounds.write_by, Streams.Same, Streams.fails, Streams.passes, Streams.some_line};
 
 /// When a writer has received a text, a beginning of it, or a text that is right for what was read.
 pub fn texts_sent_to_a_writer()

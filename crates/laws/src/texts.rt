@@ -1,12 +1,7 @@
 ghost use Rattle.std.specs.Prelude.{◌≡◌, ℕ, List, [], Ok};
 ghost use Rattle.answers.specs.Answers.{broom_names, collection_names, end_text, totals_text};
-ghost use Rattle.geometry.specs.Geometry.{brooms_of};
-ghost use Rattle.geometry.specs.declared.geometry.Geometry.{Geometry};
-ghost use Rattle.runs.specs.Brooms.{IsBroomLogOf, brooms_text};
-ghost use Rattle.runs.specs.Collections.{IsLogOf};
-ghost use Rattle.runs.specs.Playing.{IsTextOf};
-ghost use Rattle.runs.specs.Texts.{IsTextOf as IsSharedTextOf};
-ghost use Rattle.runs.specs.Wear.{IsWearOf};
+ghost use Rattle.geometry.specs.{Geometry.brooms_of, declared.geometry.Geometry.Geometry};
+ghost use Rattle.runs.specs.{Brooms.IsBroomLogOf, Brooms.brooms_text, Collections.IsLogOf, Playing.IsTextOf, Texts.IsTextOf as IsSharedTextOf, Wear.IsWearOf};
 ghost use Rattle.trace.specs.Trace.{commands_of};
 ghost use Rattle.workers.specs.Served.{AllHaveServed};
 

@@ -1,20 +1,13 @@
 //! Laws of how a trace is read, and of why it is not loaded, not played, or not played to its end.
 ghost use Rattle.std.specs.Prelude.{◌≡◌, ℕ, List, [], ◌∷◌, Option, Some, None, Ok, Err, Bool, true, false, codes, drop, length, replicate};
-ghost use Rattle.answers.specs.Answers.{answer_of, calls_of, history_before};
-ghost use Rattle.answers.specs.Outcome.{ExplainsRun, ExplainsTrace, ReadsCommands};
-ghost use Rattle.answers.specs.Playable.{IsPlayable};
-ghost use Rattle.answers.specs.Streams.{Passage, TellsPart};
+ghost use Rattle.answers.specs.{Answers.answer_of, Answers.calls_of, Answers.history_before, Outcome.ExplainsRun, Outcome.ExplainsTrace, Outcome.ReadsCommands};
+ghost use Rattle.answers.specs.{Playable.IsPlayable, Streams.Passage, Streams.TellsPart};
 ghost use Rattle.answers.specs.declared.fault.RunFault.TheVariants as run;
-ghost use Rattle.geometry.specs.Geometry.{hosts_of, sectors_of, words_of};
+ghost use Rattle.geometry.specs.{Geometry.hosts_of, Geometry.sectors_of, Geometry.words_of, Sectors.Sector, declared.geometry.Geometry.Geometry};
 ghost use Rattle.geometry.specs.History.{Trim, WriteNew};
-ghost use Rattle.geometry.specs.Sectors.{Sector};
-ghost use Rattle.geometry.specs.declared.geometry.Geometry.{Geometry};
-ghost use Rattle.trace.specs.Loading.{ExplainsLoad};
-ghost use Rattle.trace.specs.Trace.{AreCommands, IsFirstFault, commands_of, is_of_record};
-ghost use Rattle.trace.specs.declared.commands.Command.{Command};
+ghost use Rattle.trace.specs.{Loading.ExplainsLoad, Trace.AreCommands, Trace.IsFirstFault, Trace.commands_of, Trace.is_of_record};
+ghost use Rattle.trace.specs.declared.{commands.Command.Command, fault.TraceFault.TraceFault, fault.TraceFaultKind.TraceFaultKind};
 ghost use Rattle.trace.specs.declared.commands.Op.TheVariants as op;
-ghost use Rattle.trace.specs.declared.fault.TraceFault.{TraceFault};
-ghost use Rattle.trace.specs.declared.fault.TraceFaultKind.{TraceFaultKind};
 ghost use Rattle.trace.specs.declared.fault.TraceFaultKind.TheVariants as fault;
 ghost use Rattle.laws.specs.Streams.{Same, fails, passes, stream};
 

@@ -1,29 +1,16 @@
 //! Laws of what brooms do in a round, and of what a run by workers returns and writes.
 ghost use Rattle.std.specs.Prelude.{◌≡◌, ◌≤◌, ℕ, Bool, IfSome, List, [], ◌∷◌, Ok, true, false, length};
-ghost use Rattle.answers.specs.Answers.{end_text};
-ghost use Rattle.answers.specs.Streams.{Passage, Sends, Stream};
-ghost use Rattle.broom.specs.declared.answer.Drain.{Drain};
+ghost use Rattle.answers.specs.{Answers.end_text, Streams.Passage, Streams.Sends, Streams.Stream};
+ghost use Rattle.broom.specs.declared.answer.{Drain.Drain, Erase.Erase};
 ghost use Rattle.broom.specs.declared.answer.Drain.TheVariants as drain;
-ghost use Rattle.broom.specs.declared.answer.Erase.{Erase};
-ghost use Rattle.geometry.specs.Geometry.{hosts_of};
-ghost use Rattle.geometry.specs.declared.geometry.Geometry.{Geometry};
-ghost use Rattle.rounds.specs.Lines.{Said};
-ghost use Rattle.rounds.specs.Merging.{HaveAnswers};
-ghost use Rattle.runs.specs.Brooms.{brooms_text};
-ghost use Rattle.runs.specs.ByWorkers.{WasPlayed, answers_played, commands_played};
-ghost use Rattle.runs.specs.Delivering.{text_of};
-ghost use Rattle.runs.specs.Files.{EndsText};
-ghost use Rattle.runs.specs.Outputs.{written_by_workers};
-ghost use Rattle.runs.specs.declared.files.RunOptions.{RunOptions};
-ghost use Rattle.runs.specs.declared.played_by_workers.PlayedByWorkers.{PlayedByWorkers};
-ghost use Rattle.trace.specs.Trace.{commands_of};
-ghost use Rattle.trace.specs.declared.commands.Command.{Command};
-ghost use Rattle.workers.specs.Collecting.{HasCollected, HaveCollected};
-ghost use Rattle.workers.specs.Commands.{ArePlayed};
-ghost use Rattle.workers.specs.Served.{AllHaveServed};
-ghost use Rattle.workers.specs.Turns.{Follows};
-ghost use Rattle.workers.specs.declared.broom_answer.BroomAnswer.TheVariants as by;
+ghost use Rattle.geometry.specs.{Geometry.hosts_of, declared.geometry.Geometry.Geometry};
+ghost use Rattle.rounds.specs.{Lines.Said, Merging.HaveAnswers};
+ghost use Rattle.runs.specs.{Brooms.brooms_text, ByWorkers.WasPlayed, ByWorkers.answers_played, ByWorkers.commands_played, Delivering.text_of, Files.EndsText};
+ghost use Rattle.runs.specs.{Outputs.written_by_workers, declared.files.RunOptions.RunOptions, declared.played_by_workers.PlayedByWorkers.PlayedByWorkers};
+ghost use Rattle.trace.specs.{Trace.commands_of, declared.commands.Command.Command};
+ghost use Rattle.workers.specs.{Collecting.HasCollected, Collecting.HaveCollected, Commands.ArePlayed, Served.AllHaveServed, Turns.Follows};
 ghost use Rattle.workers.specs.declared.collector.Collector.{Collector};
+ghost use Rattle.workers.specs.declared.broom_answer.BroomAnswer.TheVariants as by;
 
 /// What the brooms of a round have done: each its own calls, and none is lost or made up.
 pub fn brooms_of_a_round()

@@ -1,17 +1,10 @@
 -- What clap's clauses say of the program's own command line.
-use Rattle.std.proofs.Common.{◌≡◌, ◌+◌, ◌<◌, ◌≤◌, ◌^◌, ℕ, Bool, true, false, List, Option, None, Some, refl, ap, ◌∙◌}
-use Rattle.std.proofs.Common.{subst, sym, fold, get_or, length, take, codes}
-use Rattle.std.proofs.lemmas.List.Sums.{fold_more}
-use Rattle.std.specs.Prelude.{Result, Ok, unwrap_or}
+use Rattle.std.proofs.Common.{◌≡◌, ◌+◌, ◌<◌, ◌≤◌, ◌^◌, ℕ, Bool, true, false, List, Option, None, Some, refl, ap, ◌∙◌, subst, sym, fold, get_or, length, take}
+use Rattle.std.{proofs.Common.codes, proofs.lemmas.List.Sums.fold_more, specs.Prelude.Result, specs.Prelude.Ok, specs.Prelude.unwrap_or}
 use Rattle.std.specs.Str.Parse.{ParsesUnsigned}
 use Rattle.clap.specs.Words.{App, FailsBy, HasMatchesOf, Text, fault_of, found_of, is_simple, is_simple_and_free, matches_of, rows_of}
-use Rattle.clap.specs.Matches.{ReadsOne, one_text}
-use Rattle.clap.specs.declared.parser.matches.Found.{Found}
-use Rattle.clap.proofs.CallerReads.{signed_reads}
-use Rattle.clap.proofs.WalkLemmas.{one_text-rows}
-use Rattle.clap.specs.declared.error.Error.{Error}
-use Rattle.clap.specs.declared.parser.matches.ArgMatches.{ArgMatches}
-use Rattle.clap.proofs.OnLiterals.{clap_on_literals}
+use Rattle.clap.specs.{Matches.ReadsOne, Matches.one_text, declared.parser.matches.Found.Found, declared.parser.matches.ArgMatches.ArgMatches}
+use Rattle.clap.{proofs.CallerReads.signed_reads, proofs.WalkLemmas.one_text-rows, specs.declared.error.Error.Error, proofs.OnLiterals.clap_on_literals}
 use Rattle.player.specs.CommandLine.{IsAcceptedIn, IsFlagOf, IsNumberIn, IsNumberRead, faults_given, flashplay, rows_given, with_number}
 use Rattle.player.specs.declared.arguments.NumberOption.{NumberOption}
 
@@ -32,15 +25,13 @@ next_number numbers i none start app more inside so_far is =
 -- the matches are those that the words give
 pub rows_are : (app : App) (words : List Text) (m : ArgMatches) → app ≡ flashplay → HasMatchesOf app words m → rows_of (found_of m) ≡ rows_given words
 unfolding rows_given
-rows_are app words m same has =
-    (has (ap is_simple same ∙ flashplay_is_simple)).0 ∙ ap (λ a. matches_of a words) same
+rows_are app words m same has = (has (ap is_simple same ∙ flashplay_is_simple)).0 ∙ ap (λ a. matches_of a words) same
 
 -- and so are the faults
 pub faults_are : {T : Type 0} (app : App) (words : List Text) (r : Result T Error) → app ≡ flashplay
     → (is_simple_and_free app ≡ true → FailsBy (fault_of app words) r) → FailsBy (faults_given words) r
 unfolding faults_given
-faults_are app words r same fails =
-    subst (λ (a : App). FailsBy (fault_of a words) r) same (fails (ap is_simple_and_free same ∙ flashplay_is_free))
+faults_are app words r same fails = subst (λ (a : App). FailsBy (fault_of a words) r) same (fails (ap is_simple_and_free same ∙ flashplay_is_free))
 
 -- what is read of an option's text, by what the text's parser gives
 pub number_read : {E : Type 0} (G : List ℕ → Result ℕ E → Type 0) → ((t : List ℕ) (r : Result ℕ E) → G t r → ParsesUnsigned 32 10 t r)

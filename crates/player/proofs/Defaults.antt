@@ -1,15 +1,9 @@
 -- The defaults that clap adds to what the words give.
 use Rattle.std.proofs.Common.{◌≡◌, ◌∙◌, ◌++◌, ◌||◌, Bool, true, false, cond, List, [], ◌∷◌, Option, None, Some, refl, sym, ap, fold, true≢false}
-use Rattle.std.specs.Prelude.{unwrap_or}
-use Rattle.std.specs.List.{find}
-use Rattle.std.specs.Option.{option_or}
-use Rattle.std.specs.Str.{bytes_eq}
-use Rattle.std.proofs.lemmas.List.{append-nil}
-use Rattle.std.proofs.lemmas.List.Folds.{find-append}
-use Rattle.std.proofs.lemmas.Slice.Eq.{bytes_eq-Decides}
+use Rattle.std.{specs.Prelude.unwrap_or, specs.List.find, specs.Option.option_or, specs.Str.bytes_eq, proofs.lemmas.List.append-nil}
+use Rattle.std.proofs.lemmas.{List.Folds.find-append, Slice.Eq.bytes_eq-Decides}
 use Rattle.clap.specs.Walk.{at_row, default_rows, has_row, more_values, reading_by, with_default}
-use Rattle.clap.specs.Words.{Row, Rule, Text}
-use Rattle.clap.specs.declared.parser.matches.ValueSource.TheVariants.{DefaultValue}
+use Rattle.clap.specs.{Words.Row, Words.Rule, Words.Text, declared.parser.matches.ValueSource.TheVariants.DefaultValue}
 
 -- a row has this id
 abbrev pub is_row : Text → Row → Bool

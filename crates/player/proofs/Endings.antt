@@ -1,30 +1,21 @@
 -- How a session ends, by how its run did.
 use Rattle.std.proofs.Common.{◌≡◌, ◌≢◌, ◌∙◌, ℕ, zero, suc, Bool, true, false, List, None, Some, Option, refl, inl, inr, ap, subst, sym}
 use Rattle.std.specs.Prelude.{⊤, MatchOption, Result, Ok, Err, OnErr, OnOk, is_some, option_map}
-use Rattle.geometry.specs.Geometry.{hosts_of}
-use Rattle.geometry.specs.declared.geometry.Geometry.{Geometry}
+use Rattle.geometry.specs.{Geometry.hosts_of, declared.geometry.Geometry.Geometry}
 use Rattle.trace.specs.declared.named_file.OpenFault.{OpenFault}
 use Rattle.trace.specs.declared.named_file.OpenFault.TheVariants as open_fault
-use Rattle.answers.specs.Streams.{Passage, Stream}
-use Rattle.answers.specs.declared.delivery.OutputFailed.{OutputFailed}
-use Rattle.answers.specs.declared.fault.RunFault.{RunFault}
-use Rattle.clap.specs.Words.{HasKind, IsAmong, Kinds, Text, kind_of}
-use Rattle.clap.specs.declared.error.Error.{Error}
+use Rattle.answers.specs.{Streams.Passage, Streams.Stream, declared.delivery.OutputFailed.OutputFailed, declared.fault.RunFault.RunFault}
+use Rattle.clap.specs.{Words.HasKind, Words.IsAmong, Words.Kinds, Words.Text, Words.kind_of, declared.error.Error.Error}
 use Rattle.clap.specs.declared.error.kind.ErrorKind.{ErrorKind}
 use Rattle.clap.specs.declared.error.kind.ErrorKind.TheVariants as kind
-use Rattle.player.specs.CommandLine.{faults_given}
-use Rattle.runs.specs.Files.{EndsFile}
-use Rattle.runs.specs.Wear.{IsWearOf}
-use Rattle.player.specs.declared.command_line.Options.{Options}
-use Rattle.player.specs.declared.refusal.Refusal.{Refusal}
-use Rattle.player.specs.declared.run_files.FileStop.{FileStop}
+use Rattle.player.specs.{CommandLine.faults_given, declared.command_line.Options.Options, Session.outcome_of, Session.refusal_by, Session.stop_of_open}
+use Rattle.player.specs.declared.{refusal.Refusal.Refusal, run_files.FileStop.FileStop, stop.Stop.Stop}
+use Rattle.player.specs.Session.{AnswersClap, AreUntouched, AsksClap, EndsOn, Explains, Filing, Filings, IsDescribed, IsIdle, IsLogFor, FailsToOpen, IsOpened}
+use Rattle.player.specs.Session.{IsUntouched, LeavesFiles, LeavesLogBy, LosesFile, LosesOn, OpensFiles, PlaysOn, TellsFile, counted_refusals, name_given}
+use Rattle.runs.specs.{Files.EndsFile, Wear.IsWearOf}
 use Rattle.player.specs.declared.run_files.FileStop.TheVariants as file_stop
 use Rattle.player.specs.declared.run_files.RunFile.TheVariants as run_file
-use Rattle.player.specs.declared.stop.Stop.{Stop}
 use Rattle.player.specs.declared.stop.Stop.TheVariants as stop
-use Rattle.player.specs.Session.{AnswersClap, AreUntouched, AsksClap, EndsOn, Explains, Filing, Filings, IsDescribed, IsIdle, IsLogFor}
-use Rattle.player.specs.Session.{FailsToOpen, IsOpened, IsUntouched, LeavesFiles, LeavesLogBy, LosesFile, LosesOn, OpensFiles, PlaysOn, TellsFile}
-use Rattle.player.specs.Session.{counted_refusals, name_given, outcome_of, refusal_by, stop_of_open}
 
 -- what two claims come to, by how a file was written
 abbrev pub ByEnd : Result (Unit {0}) OutputFailed → Type 0 → Type 0 → Type 0

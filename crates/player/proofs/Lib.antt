@@ -2,6 +2,5 @@ mod Accepted
 mod CommandLines
 mod Defaults
 mod Endings
-mod OptionPlaces
 mod RunTexts
 mod Words

@@ -1,20 +1,12 @@
 -- What a run tells, by whether its device has hosts.
 use Rattle.std.proofs.Common.{◌≡◌, ◌≢◌, ℕ, zero, suc, List, Option, refl, sym, subst}
 use Rattle.std.specs.Prelude.{Bool, not, IfSome, Result}
-use Rattle.geometry.specs.Geometry.{hosts_of}
-use Rattle.geometry.specs.declared.geometry.Geometry.{Geometry}
-use Rattle.answers.specs.Delivery.{AppendsText}
-use Rattle.answers.specs.Outcome.{ExplainsRun}
-use Rattle.answers.specs.Streams.{Passage, Stream, Tells, TellsPart}
-use Rattle.answers.specs.declared.fault.RunFault.{RunFault}
+use Rattle.geometry.specs.{Geometry.hosts_of, declared.geometry.Geometry.Geometry}
+use Rattle.answers.specs.{Delivery.AppendsText, Outcome.ExplainsRun, Streams.Passage, Streams.Stream, Streams.Tells, Streams.TellsPart}
+use Rattle.answers.specs.declared.{fault.RunFault.RunFault, delivery.OutputFailed.OutputFailed}
 use Rattle.answers.specs.declared.fault.RunFault.TheVariants as run
-use Rattle.answers.specs.declared.delivery.OutputFailed.{OutputFailed}
-use Rattle.runs.specs.Brooms.{IsBroomLogOf}
-use Rattle.runs.specs.Collections.{IsLogOf}
-use Rattle.runs.specs.ByWorkers.{WasPlayed, answers_played, commands_played}
-use Rattle.runs.specs.Files.{EndsFile, LeavesLog}
-use Rattle.runs.specs.Outputs.{IsOutputByWorkers, IsOutputOf}
-use Rattle.runs.specs.Refusals.{IsRefusedCount, refused_by_workers}
+use Rattle.runs.specs.{Brooms.IsBroomLogOf, Collections.IsLogOf, ByWorkers.WasPlayed, ByWorkers.answers_played, ByWorkers.commands_played}
+use Rattle.runs.specs.{Files.EndsFile, Files.LeavesLog, Outputs.IsOutputByWorkers, Outputs.IsOutputOf, Refusals.IsRefusedCount, Refusals.refused_by_workers}
 use Rattle.runs.specs.declared.played_by_workers.PlayedByWorkers.{PlayedByWorkers}
 use Rattle.player.specs.declared.command_line.Options.{Options}
 use Rattle.player.specs.Session.{IsLogBy, IsLogFor, IsOneRun, IsTextBy, IsTextFor, LeavesLogBy, refusal_by, run_options_of}

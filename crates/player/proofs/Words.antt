@@ -1,11 +1,9 @@
 -- The words of a command line, one argument more.
 use Rattle.std.proofs.Common.{◌≡◌, ◌∙◌, ℕ, ◌+◌, List, [], ◌∷◌, ◌++◌, Option, None, Some, length, map, take, refl, ap, subst, sym, inl, inr}
 use Rattle.std.specs.Prelude.{IfOk, IfSome, IsOk, Result, Ok, Err, option_map, slice_get}
-use Rattle.std.specs.Str.{IsUtf8}
+use Rattle.std.{specs.Str.IsUtf8, proofs.lemmas.Bool.cases_lt}
+use Rattle.std.proofs.lemmas.{List.map-append, List.take_all, List.take_more, Option.get_or_from_slice_get, Option.slice_get-get_or, Option.slice_get_within}
 use Rattle.player.specs.Arguments.{IsNoText}
-use Rattle.std.proofs.lemmas.Bool.{cases_lt}
-use Rattle.std.proofs.lemmas.List.{map-append, take_all, take_more}
-use Rattle.std.proofs.lemmas.Option.{get_or_from_slice_get, slice_get-get_or, slice_get_within}
 use Rattle.clap.specs.Words.{Text}
 
 -- the first word is the name

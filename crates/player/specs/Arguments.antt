@@ -17,11 +17,6 @@ pub record IsNoText (arguments : Option (List Text)) (place : ℕ) : Type 0 wher
 
 -- why the words of a command line could not be read
 abbrev pub IsUnread : Option (List Text) → Stop → Type 0
-IsUnread arguments (stop.Arguments error) = ⊥
 IsUnread arguments (stop.Encoding place) = IsNoText arguments place
-IsUnread arguments (stop.Geometry found) = ⊥
-IsUnread arguments (stop.Run found) = ⊥
-IsUnread arguments stop.Help = ⊥
 IsUnread arguments stop.Memory = ⊤
-IsUnread arguments (stop.File file why) = ⊥
-IsUnread arguments (stop.Refused why count) = ⊥
+IsUnread _ _ = ⊥

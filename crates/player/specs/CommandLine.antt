@@ -1,16 +1,12 @@
 -- The command line: the options as clap knows them, and the numbers that its matches give.
 use Rattle.std.specs.Prelude.{◌≡◌, ℕ, Bool, true, false, List, [], ◌∷◌, codes, Option, None, Some, pos, MatchOption, ◌^◌, ◌<◌, ◌≤◌}
-use Rattle.std.specs.Option.{option_map}
-use Rattle.std.specs.Str.Parse.{IsNumeral, digits_value, without_leading_plus}
-use Rattle.clap.specs.Simple.{argument_words, names_of, on_top}
-use Rattle.clap.specs.Walk.{nothing_held, settled, walk}
+use Rattle.std.specs.{Option.option_map, Str.Parse.IsNumeral, Str.Parse.digits_value, Str.Parse.without_leading_plus}
+use Rattle.clap.specs.{Simple.argument_words, Simple.names_of, Simple.on_top, Walk.nothing_held, Walk.settled, Walk.walk, Words.without_minus}
 use Rattle.clap.specs.Words.{App, IsSignedIn, Kinds, Row, Rule, Text, built, fault_of, first_of, matches_of, new_app, new_rule, one_of, with_rule}
-use Rattle.clap.specs.Words.{without_minus}
 use Rattle.clap.specs.declared.builder.action.ArgAction.TheVariants as action
 use Rattle.clap.specs.declared.builder.value_parser.ValueParser.TheVariants as parser
 use Rattle.geometry.specs.Limits.{Numbers, numbers}
-use Rattle.player.specs.declared.arguments.NumberOption.{NumberOption}
-use Rattle.player.specs.declared.command_line.Options.{Options}
+use Rattle.player.specs.declared.{arguments.NumberOption.NumberOption, command_line.Options.Options}
 
 -- an option of a whole number: its name after two dashes, and one value from `least` to `most`, with a default
 abbrev pub option_rule : Text → Text → ℕ → ℕ → Rule
@@ -31,8 +27,7 @@ flag_rule name = record (new_rule name) { long = Some name; action = Some action
 
 -- an option of a whole number, by its name, its default and the numbers that it takes
 abbrev pub number_rule : NumberOption → Rule
-number_rule number =
-    record (option_rule number.name.now number.default.now 0 0) { parser = Some (parser.Signed number.least number.most) }
+number_rule number = record (option_rule number.name.now number.default.now 0 0) { parser = Some (parser.Signed number.least number.most) }
 
 -- a command line with one more such option
 abbrev pub with_number : App → NumberOption → App

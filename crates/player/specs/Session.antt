@@ -1,46 +1,25 @@
 -- How a session of the program ends.
-use Rattle.std.specs.Prelude.{◌≡◌, ◌≢◌, ◌⊎◌, ⊤, ℕ, zero, suc, Bool, not, List, [], true, MatchOption, IfSome}
-use Rattle.std.specs.Prelude.{Option, Some, is_some, option_map, if◌then◌else◌, Result, Ok, Err}
-use Rattle.std.specs.Io.KnownBytes.{IsAtEnd}
-use Rattle.clap.specs.Words.{IsAmong, Text, kind_of}
-use Rattle.clap.specs.declared.error.Error.{Error}
-use Rattle.clap.specs.declared.error.kind.ErrorKind.{ErrorKind}
+use Rattle.std.specs.Prelude.{◌≡◌, ◌≢◌, ◌⊎◌, ⊤, ℕ, zero, suc, Bool, not, List, [], true, MatchOption, IfSome, Option, Some, is_some, option_map, if◌then◌else◌}
+use Rattle.std.specs.{Prelude.Result, Prelude.Ok, Prelude.Err, Io.KnownBytes.IsAtEnd}
+use Rattle.clap.specs.{Words.IsAmong, Words.Text, Words.kind_of, declared.error.Error.Error, declared.error.kind.ErrorKind.ErrorKind}
 use Rattle.clap.specs.declared.error.kind.ErrorKind.TheVariants as kind
-use Rattle.geometry.specs.Geometry.{hosts_of, numbers_of}
-use Rattle.geometry.specs.Limits.{first_fault}
-use Rattle.geometry.specs.declared.geometry.Geometry.{Geometry}
+use Rattle.geometry.specs.{Geometry.hosts_of, Geometry.numbers_of, Limits.first_fault, declared.geometry.Geometry.Geometry}
 use Rattle.geometry.specs.declared.fault.GeometryFault.{GeometryFault}
-use Rattle.trace.specs.declared.fault.TraceFaultKind.{TraceFaultKind}
-use Rattle.trace.specs.declared.fault.TraceFaultKind.TheVariants as fault
-use Rattle.answers.specs.Outcome.{ExplainsRun}
+use Rattle.trace.specs.declared.{fault.TraceFaultKind.TraceFaultKind, named_file.OpenFault.OpenFault, watched.Watched.Watched}
 use Rattle.trace.specs.Watched.{inner_of}
-use Rattle.trace.specs.declared.named_file.OpenFault.{OpenFault}
-use Rattle.trace.specs.declared.named_file.OpenFault.TheVariants as open_fault
-use Rattle.trace.specs.declared.watched.Watched.{Watched}
+use Rattle.trace.specs.declared.fault.TraceFaultKind.TheVariants as fault
+use Rattle.answers.specs.{Outcome.ExplainsRun, declared.fault.RunFault.RunFault, declared.delivery.OutputFailed.OutputFailed}
 use Rattle.answers.specs.Streams.{Passage, Sends, SendsBeginning, Stream, Tells, TellsPart, over, stream_of}
-use Rattle.answers.specs.declared.fault.RunFault.{RunFault}
+use Rattle.trace.specs.declared.named_file.OpenFault.TheVariants as open_fault
 use Rattle.answers.specs.declared.fault.RunFault.TheVariants as run
-use Rattle.answers.specs.declared.delivery.OutputFailed.{OutputFailed}
-use Rattle.runs.specs.Brooms.{IsBroomLogOf}
-use Rattle.runs.specs.Collections.{IsLogOf}
-use Rattle.runs.specs.ByWorkers.{WasPlayed, answers_played, commands_played}
-use Rattle.runs.specs.Files.{LeavesLog}
-use Rattle.runs.specs.Outputs.{IsOutputByWorkers, IsOutputOf}
-use Rattle.runs.specs.Refusals.{IsRefusedCount, refused_by_workers}
-use Rattle.runs.specs.Wear.{IsWearOf}
-use Rattle.runs.specs.declared.files.RunFiles.{RunFiles}
-use Rattle.runs.specs.declared.files.RunOptions.{RunOptions}
-use Rattle.runs.specs.declared.played_by_workers.PlayedByWorkers.{PlayedByWorkers}
-use Rattle.player.specs.CommandLine.{AreOptionsOf, faults_given, numbers_given}
-use Rattle.player.specs.Telling.{TellsEnding}
-use Rattle.player.specs.declared.command_line.Options.{Options}
-use Rattle.player.specs.declared.refusal.Refusal.{Refusal}
+use Rattle.runs.specs.{Brooms.IsBroomLogOf, Collections.IsLogOf, ByWorkers.WasPlayed, ByWorkers.answers_played, ByWorkers.commands_played, Files.LeavesLog}
+use Rattle.runs.specs.{Outputs.IsOutputByWorkers, Outputs.IsOutputOf, Refusals.IsRefusedCount, Refusals.refused_by_workers, Wear.IsWearOf}
+use Rattle.runs.specs.declared.{files.RunFiles.RunFiles, files.RunOptions.RunOptions, played_by_workers.PlayedByWorkers.PlayedByWorkers}
+use Rattle.player.specs.{CommandLine.AreOptionsOf, CommandLine.faults_given, CommandLine.numbers_given, Telling.TellsEnding}
+use Rattle.player.specs.declared.{command_line.Options.Options, refusal.Refusal.Refusal, run_files.FileStop.FileStop, run_files.RunFile.RunFile, stop.Stop.Stop}
 use Rattle.player.specs.declared.refusal.Refusal.TheVariants as refusal
-use Rattle.player.specs.declared.run_files.FileStop.{FileStop}
 use Rattle.player.specs.declared.run_files.FileStop.TheVariants as file_stop
-use Rattle.player.specs.declared.run_files.RunFile.{RunFile}
 use Rattle.player.specs.declared.run_files.RunFile.TheVariants as run_file
-use Rattle.player.specs.declared.stop.Stop.{Stop}
 use Rattle.player.specs.declared.stop.Stop.TheVariants as stop
 
 -- the exit status if a trace is not played
@@ -179,8 +158,7 @@ IsOpened asked file = MatchOption asked ⊤ (λ name. file.is_opened_as name) ×
 -- options name it
 abbrev pub FailsToOpen : RunFile → OpenFault → Options → Filings → Type 0
 FailsToOpen run_file.Wear fault given files = HasFailedToOpen fault files.wear × IsUntouched files.collections
-FailsToOpen run_file.Collections fault given files =
-    HasFailedToOpen fault files.collections × IsOpened (name_given run_file.Wear given) files.wear
+FailsToOpen run_file.Collections fault given files = HasFailedToOpen fault files.collections × IsOpened (name_given run_file.Wear given) files.wear
 
 -- a file is written if the options name it: it was opened by that name, what was written to it is right for the bytes of the trace, and no
 -- call failed. Otherwise nothing is written
@@ -218,12 +196,7 @@ LeavesFiles found geo given input files =
 
 -- how the options have workers play, and what their run is to write
 abbrev pub run_options_of : Options → RunOptions
-run_options_of given = record {
-  patience = given.patience;
-  drains = given.drains;
-  answers = not given.quiet;
-  log = is_some given.collections;
-}
+run_options_of given = record { patience = given.patience; drains = given.drains; answers = not given.quiet; log = is_some given.collections }
 
 -- The run by this many workers refused so many writes: with no worker those that the worn device refused. By workers they are the lines that found
 -- no block, in a run of which all is: what was written to the output, and to the log, if the options name one
@@ -295,37 +268,26 @@ LosesOn file file_stop.NotOpened geo given input output files =
     (is_some (name_given file given) ≡ true) × IsIdle input output × FailsToOpen file open_fault.Refused given files
 LosesOn file file_stop.NotItsOwn geo given input output files =
     (is_some (name_given file given) ≡ true) × IsIdle input output × FailsToOpen file open_fault.InUse given files
-LosesOn file file_stop.Failed geo given input output files =
-    PlaysOn geo given input output files × LosesOne file geo given input.before files
+LosesOn file file_stop.Failed geo given input output files = PlaysOn geo given input output files × LosesOne file geo given input.before files
 
 -- how a run on a device ended, by the options
 abbrev pub EndsOn : Result (Unit {0}) Stop → Geometry → Options → Passage → Passage → Filings → Type 0
 EndsOn (Ok _) geo given input output files =
     (plays : PlaysOn geo given input output files) × TellsFiles geo given input.before files × (counted_refusals given plays.refused ≡ 0)
-EndsOn (Err (stop.Arguments text)) geo given input output files = ⊥
-EndsOn (Err (stop.Encoding place)) geo given input output files = ⊥
-EndsOn (Err (stop.Geometry found)) geo given input output files = ⊥
 EndsOn (Err (stop.Run found)) geo given input output files =
     ExplainsRun (IsTextFor given) geo input output found × LeavesFiles found geo given input.before files
-EndsOn (Err stop.Help) geo given input output files = ⊥
-EndsOn (Err stop.Memory) geo given input output files = ⊥
 EndsOn (Err (stop.File file why)) geo given input output files = LosesOn file why geo given input output files
 EndsOn (Err (stop.Refused why count)) geo given input output files =
     (plays : PlaysOn geo given input output files) × TellsFiles geo given input.before files
     × (count ≢ 0) × (counted_refusals given plays.refused ≡ count) × (why ≡ refusal_by (hosts_of geo))
+EndsOn _ _ _ _ _ _ = ⊥
 
 -- the files that the options name were opened, or one of them was not
 abbrev pub OpensFiles : Result (Unit {0}) Stop → Options → Filings → Type 0
 OpensFiles (Ok _) given files = IsOpened (name_given run_file.Wear given) files.wear × IsOpened (name_given run_file.Collections given) files.collections
-OpensFiles (Err (stop.Arguments text)) given files = ⊥
-OpensFiles (Err (stop.Encoding place)) given files = ⊥
-OpensFiles (Err (stop.Geometry found)) given files = ⊥
-OpensFiles (Err (stop.Run found)) given files = ⊥
-OpensFiles (Err stop.Help) given files = ⊥
-OpensFiles (Err stop.Memory) given files = ⊥
 OpensFiles (Err (stop.File file why)) given files =
     (fault : OpenFault) × (why ≡ stop_of_open fault) × (is_some (name_given file given) ≡ true) × FailsToOpen file fault given files
-OpensFiles (Err (stop.Refused why count)) given files = ⊥
+OpensFiles _ _ _ = ⊥
 
 -- how a run ends by how its log and its wear were written, and by how many refused writes are counted: the first file that failed is reported, and
 -- otherwise the refused writes
@@ -388,17 +350,12 @@ pub record AsksForText (words : List Text) : Type 0 where
 -- why a session stopped. Nothing is on the output except after `Output` of a run, `Help`, `Failed` of a file and `Refused`; only a run reads
 -- anything; and nothing is in a file except after `Output` of a run, the `Failed` of a file and `Refused`
 abbrev pub ExplainsStop : Stop → List Text → Passage → Passage → Filings → Type 0
-ExplainsStop (stop.Arguments text) words input output files =
-    IsRefused words × IsIdle input output × AreUntouched files
+ExplainsStop (stop.Arguments text) words input output files = IsRefused words × IsIdle input output × AreUntouched files
 ExplainsStop (stop.Encoding place) words input output files = ⊥
-ExplainsStop (stop.Geometry found) words input output files =
-    DescribesNone words found × IsIdle input output × AreUntouched files
-ExplainsStop (stop.Run found) words input output files =
-    Stopped words found input output files
-ExplainsStop stop.Help words input output files =
-    AsksForText words × (input.after ≡ input.before) × AppendsSome output × AreUntouched files
-ExplainsStop stop.Memory words input output files =
-    IsIdle input output × AreUntouched files
+ExplainsStop (stop.Geometry found) words input output files = DescribesNone words found × IsIdle input output × AreUntouched files
+ExplainsStop (stop.Run found) words input output files = Stopped words found input output files
+ExplainsStop stop.Help words input output files = AsksForText words × (input.after ≡ input.before) × AppendsSome output × AreUntouched files
+ExplainsStop stop.Memory words input output files = IsIdle input output × AreUntouched files
 ExplainsStop (stop.File file why) words input output files = ExplainsFile file why words input output files
 ExplainsStop (stop.Refused why count) words input output files = Unwritten why count words input output files
 
@@ -407,8 +364,7 @@ abbrev pub Explains : Result (Unit {0}) Stop → List Text → Passage → Passa
 Explains (Ok _) words input output files =
     Played words input output files
     ⊎ (Helped words input output × AreUntouched files)
-Explains (Err why) words input output files =
-    ExplainsStop why words input output files
+Explains (Err why) words input output files = ExplainsStop why words input output files
 
 -- the exit status
 abbrev pub status_after : Result (Unit {0}) Stop → ℕ
@@ -425,16 +381,9 @@ pub record EndsSession (status : ℕ) (words : List Text) (input output errors :
 -- what follows from the words that clap refused with an error: the help or the version is written, and every other text goes to standard
 -- error
 abbrev pub AnswersClap : Error → Result (Unit {0}) Stop → Passage → Type 0
-AnswersClap error (Ok _) output =
-    AsksClap (kind_of error) × (output.after.failures ≡ output.before.failures) × (text : List ℕ) × Sends output text
+AnswersClap error (Ok _) output = AsksClap (kind_of error) × (output.after.failures ≡ output.before.failures) × (text : List ℕ) × Sends output text
 AnswersClap error (Err (stop.Arguments text)) output =
     (kind_of error ≢ kind.OutOfMemory) × (AsksClap (kind_of error) → ⊥) × (output.after ≡ output.before)
-AnswersClap error (Err (stop.Encoding place)) output = ⊥
-AnswersClap error (Err (stop.Geometry found)) output = ⊥
-AnswersClap error (Err (stop.Run found)) output = ⊥
-AnswersClap error (Err stop.Help) output =
-    AsksClap (kind_of error) × AppendsSome output
-AnswersClap error (Err stop.Memory) output =
-    output.after ≡ output.before
-AnswersClap error (Err (stop.File file why)) output = ⊥
-AnswersClap error (Err (stop.Refused why count)) output = ⊥
+AnswersClap error (Err stop.Help) output = AsksClap (kind_of error) × AppendsSome output
+AnswersClap error (Err stop.Memory) output = output.after ≡ output.before
+AnswersClap _ _ _ = ⊥

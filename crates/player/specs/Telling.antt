@@ -1,15 +1,11 @@
 -- What a session writes to standard error.
 use Rattle.std.specs.Prelude.{◌≡◌, ℕ, List, [], ◌++◌, codes, decimal, string_bytes, Result, Ok, Err}
 use Rattle.geometry.specs.Faults.{fault_name}
-use Rattle.answers.specs.Faults.{run_text}
-use Rattle.answers.specs.Streams.{Passage, Sends, SendsBeginning}
-use Rattle.player.specs.declared.refusal.Refusal.{Refusal}
+use Rattle.answers.specs.{Faults.run_text, Streams.Passage, Streams.Sends, Streams.SendsBeginning}
+use Rattle.player.specs.declared.{refusal.Refusal.Refusal, run_files.FileStop.FileStop, run_files.RunFile.RunFile, stop.Stop.Stop}
 use Rattle.player.specs.declared.refusal.Refusal.TheVariants as refusal
-use Rattle.player.specs.declared.run_files.FileStop.{FileStop}
 use Rattle.player.specs.declared.run_files.FileStop.TheVariants as file_stop
-use Rattle.player.specs.declared.run_files.RunFile.{RunFile}
 use Rattle.player.specs.declared.run_files.RunFile.TheVariants as run_file
-use Rattle.player.specs.declared.stop.Stop.{Stop}
 use Rattle.player.specs.declared.stop.Stop.TheVariants as stop
 
 -- the name of a file of a run

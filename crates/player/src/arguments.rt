@@ -1,4 +1,4 @@
-ghost use Rattle.std.specs.Prelude.{◌≡◌, codes, map, false, Some, IfOk};
+ghost use Rattle.std.specs.Prelude.{◌≡◌, map, false, IfOk};
 ghost use Rattle.clap.specs.Words.{FailsBy, app_of, found_of, one_of, rows_of, rule_of};
 ghost use Rattle.player.specs.CommandLine.{AreOptionsOf, IsNumberRead, faults_given, file_rule, flag_rule, flashplay, named_rule};
 ghost use Rattle.player.specs.CommandLine.{number_rule, versioned, with_numbers, with_threads};
@@ -20,79 +20,35 @@ struct NumberOption {
     help: &'static str,
 }
 
+// The greatest number that an option of a device takes.
+const MAX: i64 = u32::MAX as i64;
+
+// A row for each option: its name, its default, the numbers that it takes, and its help.
+macro_rules! numbers {
+    ($($name:literal, $default:literal, $least:literal to $most:tt: $help:literal;)*) => {
+        [$(NumberOption {
+            name: $name,
+            default: $default,
+            least: $least,
+            most: $most,
+            help: $help,
+        }),*]
+    };
+}
+
 // The numbers of a device, then the threads of a run, the tries of a write, and the drains by one survey.
-const NUMBERS: [NumberOption; 10] = [
-    NumberOption {
-        name: "luns",
-        default: "1",
-        least: 0,
-        most: u32::MAX as i64,
-        help: "LUNs, from 1 to 8",
-    },
-    NumberOption {
-        name: "blocks",
-        default: "64",
-        least: 0,
-        most: u32::MAX as i64,
-        help: "Blocks over all LUNs, from 3 to 4096, a multiple of the LUNs",
-    },
-    NumberOption {
-        name: "pages",
-        default: "64",
-        least: 0,
-        most: u32::MAX as i64,
-        help: "Pages of a block, from 1 to 16384",
-    },
-    NumberOption {
-        name: "words",
-        default: "64",
-        least: 0,
-        most: u32::MAX as i64,
-        help: "64-bit words of a page, from 1 to 512",
-    },
-    NumberOption {
-        name: "sectors",
-        default: "3072",
-        least: 0,
-        most: u32::MAX as i64,
-        help: "Sectors of one page each, from 1 to 1048576",
-    },
-    NumberOption {
-        name: "endurance",
-        default: "1000",
-        least: 0,
-        most: u32::MAX as i64,
-        help: "Erase cycles of a block, from 1 to 1000000; the last one fails",
-    },
-    NumberOption {
-        name: "workers",
-        default: "0",
-        least: 0,
-        most: u32::MAX as i64,
-        help: "Workers that play the trace, each in a thread of its own, from 1 to 500; with 0 one thread plays all",
-    },
-    NumberOption {
-        name: "brooms",
-        default: "0",
-        least: 0,
-        most: u32::MAX as i64,
-        help: "Brooms that collect beside the workers, each in a thread of its own, from 0 to 32",
-    },
-    NumberOption {
-        name: "patience",
-        default: "1000000",
-        least: 1,
-        most: 1_000_000_000,
-        help: "Tries of a worker's write that finds no block, before it is full",
-    },
-    NumberOption {
-        name: "drains",
-        default: "1",
-        least: 1,
-        most: 4096,
-        help: "Blocks that a broom drains by one survey, from 1 to 4096",
-    },
-];
+const NUMBERS: [NumberOption; 10] = numbers! {
+    "luns", "1", 0 to MAX: "LUNs, from 1 to 8";
+    "blocks", "64", 0 to MAX: "Blocks over all LUNs, from 3 to 4096, a multiple of the LUNs";
+    "pages", "64", 0 to MAX: "Pages of a block, from 1 to 16384";
+    "words", "64", 0 to MAX: "64-bit words of a page, from 1 to 512";
+    "sectors", "3072", 0 to MAX: "Sectors of one page each, from 1 to 1048576";
+    "endurance", "1000", 0 to MAX: "Erase cycles of a block, from 1 to 1000000; the last one fails";
+    "workers", "0", 0 to MAX: "Workers that play the trace, each in a thread of its own, from 1 to 500; with 0 one thread plays all";
+    "brooms", "0", 0 to MAX: "Brooms that collect beside the workers, each in a thread of its own, from 0 to 32";
+    "patience", "1000000", 1 to 1_000_000_000: "Tries of a worker's write that finds no block, before it is full";
+    "drains", "1", 1 to 4096: "Blocks that a broom drains by one survey, from 1 to 4096";
+};
 
 /// The options that the words of a command line set. The first word is the program's name.
 pub fn options<'a>(alloc: Global, words: &'a [&'a str]) -> Result<Options<'a>, Error>

@@ -1,13 +1,10 @@
 ghost use Rattle.std.specs.Prelude.{◌≡◌, ◌≢◌, Some, is_some, map, option_map, true, IfErr, IfOk, OnErr, OnOk};
-ghost use Rattle.geometry.specs.Geometry.{hosts_of, numbers_of};
-ghost use Rattle.geometry.specs.Limits.{first_fault};
+ghost use Rattle.geometry.specs.{Geometry.hosts_of, Geometry.numbers_of, Limits.first_fault};
 ghost use Rattle.trace.specs.declared.named_file.OpenFault.{OpenFault};
 ghost use Rattle.answers.specs.Streams.{over, stream_of};
-ghost use Rattle.player.specs.CommandLine.{numbers_given};
-ghost use Rattle.player.specs.Session.{AnswersClap, EndsOn, EndsSession, Explains, HasFailedToOpen, IsOpened};
-ghost use Rattle.player.specs.Session.{OpensFiles, counted_refusals, filing, filings, outcome_of, stop_of_open};
-ghost use Rattle.runs.specs.ByWorkers.{IsAnswered, answers_played, commands_played};
-ghost use Rattle.runs.specs.Refusals.{refused_by_workers};
+ghost use Rattle.player.specs.{CommandLine.numbers_given, Session.outcome_of, Session.stop_of_open};
+ghost use Rattle.player.specs.Session.{AnswersClap, EndsOn, EndsSession, Explains, HasFailedToOpen, IsOpened, OpensFiles, counted_refusals, filing, filings};
+ghost use Rattle.runs.specs.{ByWorkers.IsAnswered, ByWorkers.answers_played, ByWorkers.commands_played, Refusals.refused_by_workers};
 
 use crate::arguments::options;
 use crate::command_line::Options;

@@ -1,9 +1,7 @@
 ghost use Rattle.std.specs.Prelude.{◌≡◌, ◌+◌, ◌≤◌, ◌++◌, codes, decimal, length};
 ghost use Rattle.trace.specs.Faults.{fault_text};
-ghost use Rattle.answers.specs.Faults.{run_text};
-ghost use Rattle.answers.specs.Streams.{over};
-ghost use Rattle.player.specs.Session.{status_of};
-ghost use Rattle.player.specs.Telling.{IsTold, TellsStop, line_of, refusal_text};
+ghost use Rattle.answers.specs.{Faults.run_text, Streams.over};
+ghost use Rattle.player.specs.{Session.status_of, Telling.IsTold, Telling.TellsStop, Telling.line_of, Telling.refusal_text};
 ghost use Rattle.player.specs.declared.telling.TheConstants.{LINE_BYTES};
 
 use crate::refusal::Refusal;
@@ -22,7 +20,7 @@ type Line = ArrayString<LINE_BYTES>;
 /// written doesn't change it.
 pub fn tell<E: Write>(stop: &Stop, errors: &mut Watched<E>) -> u8
     ensures status { result ≡ status_of stop.now }
-    ensures told { TellsStop stop.now (over E.contents errors.old errors.new) }
+    ensures reported { TellsStop stop.now (over E.contents errors.old errors.new) }
 {
     if let Stop::Arguments(text) = stop {
         tell_text(text.as_str(), errors);

@@ -1,25 +1,17 @@
 -- Rounds one behind another, each answered between two histories.
-use Rattle.std.proofs.Common.{◌≡◌, ℕ, ◌+◌, ◌<◌, ◌≤◌, All, Bool, true, false, List, [], ◌∷◌, ◌++◌, length, take, drop, refl}
-use Rattle.std.proofs.Common.{sym, ap, ◌∙◌, subst, arith, append_assoc, append-nil, length-append}
+use Rattle.std.proofs.Common.{◌≡◌, ℕ, ◌+◌, ◌<◌, ◌≤◌, All, Bool, true, false, List, [], ◌∷◌, ◌++◌, length, take, drop, refl, sym, ap, ◌∙◌, subst, arith}
+use Rattle.std.proofs.{Common.append_assoc, Common.append-nil, Common.length-append, lemmas.List.take-take, lemmas.List.drop-take, lemmas.List.drop-drop}
 use Rattle.std.specs.Prelude.{if◌then◌else◌, not, ◌&&◌, ◌==◌}
-use Rattle.std.proofs.lemmas.List.{take-take, drop-take, drop-drop}
 use Rattle.std.proofs.lemmas.List.Elements.{All-head, All-tail, All-nil, All-cons, All-append, filter-append}
 use Rattle.geometry.specs.History.{Call}
 use Rattle.flash_rule.specs.declared.view.View.{View}
 use Rattle.trace.specs.declared.commands.Command.{Command}
-use Rattle.rounds.specs.Lines.{Said}
-use Rattle.rounds.specs.Orders.{made, InOrder, LeaveSame}
-use Rattle.rounds.specs.Rounds.{AreInRange, PlayedRound}
-use Rattle.rounds.specs.Meetings.{AreTied, HavePlayed, HaveMet}
-use Rattle.rounds.specs.Told.{worker_of, sector_of, calls_in, is_right, AreAnswered}
+use Rattle.rounds.specs.{Lines.Said, Rounds.AreInRange, Rounds.PlayedRound, Rows.RoundAnswered, Rows.AreRounds, Runs.RoundsGoOn}
+use Rattle.rounds.specs.{Orders.made, Orders.InOrder, Orders.LeaveSame, Told.worker_of, Told.sector_of, Told.calls_in, Told.is_right, Told.AreAnswered}
+use Rattle.rounds.{specs.Meetings.AreTied, specs.Meetings.HavePlayed, specs.Meetings.HaveMet, proofs.Runs.run_begins, proofs.Runs.meeting_goes_on}
 use Rattle.rounds.specs.Merging.{is_meet, is_line_of, lines_for, line_count, merge, rows_after, rounds_of, AreSameFor, HaveNoMeeting, AreDisjointCommands}
-use Rattle.rounds.specs.Rows.{RoundAnswered, AreRounds}
-use Rattle.rounds.specs.Runs.{RoundsGoOn}
-use Rattle.rounds.proofs.Meetings.{round_between}
+use Rattle.rounds.proofs.{Meetings.round_between, Sequential.sequential, Sequential.leaves_same, Told.answered_more, Told.callers_in, Told.targets_in}
 use Rattle.rounds.proofs.Merging.{commands_in-merge, disjoint_lines, lines_in_range, merge-append, merge_same, rounds_of-meet, rounds_of-last}
-use Rattle.rounds.proofs.Runs.{run_begins, meeting_goes_on}
-use Rattle.rounds.proofs.Sequential.{sequential, leaves_same}
-use Rattle.rounds.proofs.Told.{answered_more, callers_in, targets_in}
 
 -- A round that passes have played between the history to which they were tied and the one at which they have met, disjoint or not
 pub round_answered : (hosts n : ℕ) (first last : List Call) (before played after : ℕ → View) (cs : List Command) (rows : ℕ → List Said) → 0 < hosts

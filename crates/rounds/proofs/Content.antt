@@ -1,15 +1,11 @@
 -- What one sector holds, as a fold of its own over the calls of a history.
 use Rattle.std.proofs.Common.{◌≡◌, ℕ, ◌<◌, All, List, [], ◌∷◌, ◌++◌, None, Some, eq-eqb, ne_eqb, length, refl, sym, ap, ◌∙◌, arith}
-use Rattle.std.specs.Prelude.{◌==◌, if◌then◌else◌, slice_set}
-use Rattle.std.specs.List.{fold}
-use Rattle.std.proofs.lemmas.List.{get_or-set_same, get_or-set_other}
-use Rattle.std.proofs.lemmas.List.Elements.{All-head, All-tail}
-use Rattle.std.proofs.lemmas.List.Sums.{fold-append}
+use Rattle.std.specs.{Prelude.◌==◌, Prelude.if◌then◌else◌, Prelude.slice_set, List.fold}
+use Rattle.std.proofs.lemmas.List.{get_or-set_same, get_or-set_other, Elements.All-head, Elements.All-tail, Sums.fold-append}
 use mathlib.Core.Logic.{dite}
 use native.Mathlib.Decide.{ℕ_discrete}
 use Rattle.geometry.specs.History.{Call, Write, WriteNew, Trim, put_new, step, after, held}
-use Rattle.geometry.specs.Sectors.{Sector, sector_at}
-use Rattle.geometry.proofs.Histories.{length-after, length-step}
+use Rattle.geometry.{specs.Sectors.Sector, specs.Sectors.sector_at, proofs.Histories.length-after, proofs.Histories.length-step}
 use Rattle.flash_rule.specs.Views.{caller, calls_of}
 
 -- the sector that a call is for
@@ -59,13 +55,11 @@ step_at a (Trim t r) s low =
 
 content_fold : (a : List Sector) (cs : List Call) (s : ℕ) → s < length a → sector_at (fold step a cs) s ≡ content s (sector_at a s) cs
 content_fold a [] s low = refl
-content_fold a (c ∷ cs) s low =
-    content_fold (step a c) cs s (omega (arith, length-step a c)) ∙ ap (λ x. content s x cs) (step_at a c s low)
+content_fold a (c ∷ cs) s low = content_fold (step a c) cs s (omega (arith, length-step a c)) ∙ ap (λ x. content s x cs) (step_at a c s low)
 
 -- a sector after more calls
 pub held-append : (n s : ℕ) → s < n → (h k : List Call) → held n (h ++ k) s ≡ content s (held n h s) k
-held-append n s low h k =
-    ap (λ a. sector_at a s) (fold-append step (after n []) h k) ∙ content_fold (after n h) k s (omega (arith, length-after n h))
+held-append n s low h k = ap (λ a. sector_at a s) (fold-append step (after n []) h k) ∙ content_fold (after n h) k s (omega (arith, length-after n h))
 
 -- the calls for a sector are of one host
 abbrev pub AreBy : ℕ → ℕ → List Call → Type 0

@@ -1,14 +1,8 @@
 -- What the meetings after a round make of the passes that played it.
 use Rattle.std.proofs.Common.{◌≡◌, ℕ, ◌<◌, List, ◌++◌, sym, ap, ◌∙◌}
-use Rattle.geometry.specs.History.{Call}
-use Rattle.geometry.specs.Sectors.{Sector}
-use Rattle.geometry.proofs.Histories.{Begins-trans}
-use Rattle.flash_rule.specs.declared.view.View.{View}
-use Rattle.flash_rule.specs.Views.{calls_of}
-use Rattle.flash_rule.proofs.Histories.{squeezed}
-use Rattle.rounds.specs.Orders.{made, lines_of}
-use Rattle.rounds.specs.Rounds.{PlayedRound}
-use Rattle.rounds.specs.Meetings.{AreTied, HavePlayed, HaveMet}
+use Rattle.geometry.{specs.History.Call, specs.Sectors.Sector, proofs.Histories.Begins-trans}
+use Rattle.flash_rule.{specs.declared.view.View.View, specs.Views.calls_of, proofs.Histories.squeezed}
+use Rattle.rounds.specs.{Orders.made, Orders.lines_of, Rounds.PlayedRound, Meetings.AreTied, Meetings.HavePlayed, Meetings.HaveMet}
 use Rattle.rounds.proofs.Playing.{plays_later, plays_from}
 
 -- in the history of the meetings each pass has made what it has made at their end

@@ -1,21 +1,16 @@
 -- What the merged rows of the workers' answers are, by commands and by workers.
-use Rattle.std.proofs.Common.{◌≡◌, ℕ, zero, suc, ◌<◌, ◌≤◌, All, List, [], ◌∷◌, ◌++◌, Bool, true, false, Option, None, Some}
-use Rattle.std.proofs.Common.{length, get_or, take, drop, refl, sym, ap, ◌∙◌, subst, arith, eq-eqb, ne_eqb}
+use Rattle.std.proofs.Common.{◌≡◌, ℕ, zero, suc, ◌<◌, ◌≤◌, All, List, [], ◌∷◌, ◌++◌, Bool, true, false, Option, None, Some, length, get_or, take, drop, refl}
+use Rattle.std.proofs.Common.{sym, ap, ◌∙◌, subst, arith, eq-eqb, ne_eqb}
 use Rattle.std.specs.Prelude.{slice_get, if◌then◌else◌, not, ◌&&◌, ◌==◌}
-use Rattle.std.proofs.lemmas.Bool.{false≢true}
-use Rattle.std.proofs.lemmas.List.Elements.{All-head, All-tail, All-nil, All-cons}
+use Rattle.std.proofs.lemmas.{Bool.false≢true, List.Elements.All-head, List.Elements.All-tail, List.Elements.All-nil, List.Elements.All-cons}
 use mathlib.Core.Logic.{dite}
 use native.Mathlib.Decide.{ℕ_discrete}
-use Rattle.trace.specs.declared.commands.Command.{Command}
-use Rattle.trace.specs.declared.commands.Op.{Op}
+use Rattle.trace.specs.declared.commands.{Command.Command, Op.Op}
 use Rattle.trace.specs.declared.commands.Op.TheVariants as op
-use Rattle.rounds.specs.Lines.{Said, calls_by, is_full}
-use Rattle.rounds.specs.Orders.{lines_of}
-use Rattle.rounds.specs.Rounds.{AreDisjoint, AreInRange}
+use Rattle.rounds.specs.{Lines.Said, Lines.calls_by, Lines.is_full, Orders.lines_of, Rounds.AreDisjoint, Rounds.AreInRange, Texts.commands_in}
 use Rattle.rounds.specs.Told.{Line, worker_of, sector_of, calls_in, line, told}
-use Rattle.rounds.specs.Texts.{commands_in}
-use Rattle.rounds.specs.Merging.{is_meet, changes, is_line_of, lines_for, line_count, answer_for, next_of, after_line, merge}
-use Rattle.rounds.specs.Merging.{rows_after, AreSameFor, HaveNoMeeting, AreDisjointCommands, in_first_round, rounds_of}
+use Rattle.rounds.specs.Merging.{is_meet, changes, is_line_of, lines_for, line_count, answer_for, next_of, after_line, merge, rows_after, AreSameFor}
+use Rattle.rounds.specs.Merging.{HaveNoMeeting, AreDisjointCommands, in_first_round, rounds_of}
 
 command_of_answer : (c : Command) (o : Option Said) → (answer_for c o).command ≡ c
 command_of_answer c None = refl
@@ -154,12 +149,10 @@ of_commands P (x ∷ xs) all =
 
 -- only a line that may change its sector makes a call
 calls_change : (full : Bool) (t : ℕ) (o : Op) (s : ℕ) (value : List ℕ) → ¬ ((if full then [] else calls_by t o s value) ≡ []) → changes o ≡ true
-calls_change true t o s value some = absurd (some refl)
-calls_change false t op.Read s value some = absurd (some refl)
 calls_change false t op.Write s value some = refl
 calls_change false t op.New s value some = refl
 calls_change false t op.Trim s value some = refl
-calls_change false t op.Meet s value some = absurd (some refl)
+calls_change _ _ _ _ _ some = absurd (some refl)
 
 -- lines of disjoint commands are at disjoint sectors, whatever they were answered
 pub disjoint_lines : (xs : List Line) → AreDisjointCommands (commands_in xs) → AreDisjoint worker_of sector_of calls_in xs

@@ -1,15 +1,12 @@
 -- Lines in order: another history that leaves the same array serves as well, and what is in order one after the other is so together.
 use Rattle.std.proofs.Common.{ℕ, List, [], ◌∷◌, ◌++◌, sym, ap, ◌∙◌, subst, append_assoc, append-nil}
-use Rattle.std.specs.List.{fold}
-use Rattle.std.proofs.lemmas.List.Sums.{fold-append}
-use Rattle.geometry.specs.History.{Call, step, after}
-use Rattle.geometry.specs.Sectors.{Sector, sector_at}
+use Rattle.std.{specs.List.fold, proofs.lemmas.List.Sums.fold-append}
+use Rattle.geometry.specs.{History.Call, History.step, History.after, Sectors.Sector, Sectors.sector_at}
 use Rattle.rounds.specs.Orders.{made, InOrder, LeaveSame}
 
 -- two histories that leave the same array do so after more calls
 pub same-append : (n : ℕ) (h k more : List Call) → LeaveSame n h k → LeaveSame n (h ++ more) (k ++ more)
-same-append n h k more same =
-    fold-append step (after n []) h more ∙ (ap (λ a. fold step a more) same ∙ sym (fold-append step (after n []) k more))
+same-append n h k more same = fold-append step (after n []) h more ∙ (ap (λ a. fold step a more) same ∙ sym (fold-append step (after n []) k more))
 
 module _ {X : Type 0} (sector : X → ℕ) (calls : X → List Call) (right : X → Sector → Type 0) (n : ℕ) where
   pub in_order_same : (h k : List Call) (xs : List X) → LeaveSame n h k → InOrder sector calls right n h xs → InOrder sector calls right n k xs

@@ -1,20 +1,13 @@
 -- Pages side by side: one more, and the one of an answer.
-use Rattle.std.proofs.Common.{◌≡◌, ℕ, zero, suc, ◌+◌, ◌≤◌, All, List, [], ◌∷◌, ◌++◌, Some, length, take, drop}
-use Rattle.std.proofs.Common.{refl, sym, ap, ◌∙◌, subst, arith, add-zero, length-append}
+use Rattle.std.proofs.Common.{◌≡◌, ℕ, zero, suc, ◌+◌, ◌≤◌, All, List, [], ◌∷◌, ◌++◌, Some, length, take, drop, refl, ap, ◌∙◌, subst, arith}
 use Rattle.std.specs.Prelude.{slice_get}
-use Rattle.std.proofs.lemmas.List.{drop-append-le, drop-drop, length-drop, length-take-le, take-append-le}
-use Rattle.std.proofs.lemmas.List.Elements.{All-nil, All-cons}
-use Rattle.rounds.specs.Lines.{Said}
-use Rattle.rounds.specs.Pages.{bytes_of, bytes_in, said_from}
-use Rattle.rounds.specs.declared.answer.Kind.{Kind}
+use Rattle.std.proofs.lemmas.List.{drop-append-le, drop-drop, length-drop, length-take-le, take-append-le, Elements.All-nil, Elements.All-cons}
+use Rattle.rounds.specs.{Lines.Said, Pages.bytes_of, Pages.bytes_in, Pages.said_from, declared.answer.Kind.Kind}
 use Rattle.rounds.specs.declared.answer.Kind.TheVariants as kind
 
 pub no_bytes : (n : ℕ) (k : Kind) → ¬ (k ≡ kind.Page) → bytes_of n k ≡ 0
-no_bytes n kind.Empty other = refl
-no_bytes n kind.Written other = refl
 no_bytes n kind.Page other = absurd (other refl)
-no_bytes n kind.Met other = refl
-no_bytes n kind.Full other = refl
+no_bytes _ _ _ = refl
 
 pub bytes_more : (n : ℕ) (kinds : List Kind) (k : Kind) → bytes_in n (kinds ++ k ∷ []) ≡ bytes_in n kinds + bytes_of n k
 bytes_more n [] k = omega arith

@@ -1,19 +1,15 @@
 -- One command more in a plan, and a round's places in a worker's row.
-use Rattle.std.proofs.Common.{◌≡◌, ℕ, zero, suc, ◌+◌, ◌<◌, All, Some, take, List, [], ◌∷◌, ◌++◌, Bool, true, false, map, length, replicate}
-use Rattle.std.proofs.Common.{get_or, refl, sym, ap, ◌∙◌, subst, arith, eq-eqb, ne_eqb, add-zero, zero-add, append-nil}
+use Rattle.std.proofs.Common.{◌≡◌, ℕ, zero, suc, ◌+◌, ◌<◌, All, Some, take, List, [], ◌∷◌, ◌++◌, Bool, true, false, map, length, replicate, get_or, refl, sym}
+use Rattle.std.proofs.Common.{ap, ◌∙◌, subst, arith, eq-eqb, ne_eqb, add-zero, zero-add, append-nil}
 use Rattle.std.specs.Prelude.{if◌then◌else◌, not, ◌&&◌, ◌==◌, slice_set, slice_get, Vec}
-use Rattle.std.specs.Global.{Global}
-use Rattle.std.specs.List.{range_with_len}
+use Rattle.std.{specs.Global.Global, specs.List.range_with_len, proofs.lemmas.Option.slice_get_within, proofs.lemmas.Option.get_or_from_slice_get}
 use Rattle.std.proofs.lemmas.List.{get_or-set_same, get_or-set_other, length-set, take_more, length-take-le, length-map, get_or-map, map-set}
-use Rattle.std.proofs.lemmas.Option.{slice_get_within, get_or_from_slice_get}
 use Rattle.std.proofs.lemmas.List.FromFn.{length-map-range_with_len, get_or-map-range_with_len, fill_by_all}
 use mathlib.Core.Logic.{dite}
 use native.Mathlib.Decide.{ℕ_discrete}
-use Rattle.trace.specs.declared.commands.Command.{Command}
-use Rattle.rounds.specs.Merging.{is_meet, is_line_of}
-use Rattle.trace.specs.declared.commands.Op.{Op}
+use Rattle.trace.specs.declared.commands.{Command.Command, Op.Op}
+use Rattle.rounds.specs.{Merging.is_meet, Merging.is_line_of, Plans.items_of, Plans.places_from, Plans.places_for, Plans.meetings_from}
 use Rattle.trace.specs.declared.commands.Op.TheVariants as op
-use Rattle.rounds.specs.Plans.{items_of, places_from, places_for, meetings_from}
 
 -- commands in two parts
 pub places_from-append : (k t : ℕ) (cs ds : List Command) → places_from k t (cs ++ ds) ≡ places_from k t cs ++ places_from (k + length cs) t ds
@@ -133,11 +129,8 @@ row_there hosts n w rows cs is count low =
     omega (arith, long, length-map-range_with_len (λ t. places_for t cs) 0 hosts)
 
 pub is_line : (o : Op) → ¬ (o ≡ op.Meet) → is_meet o ≡ false
-is_line op.Read other = refl
-is_line op.Write other = refl
-is_line op.New other = refl
-is_line op.Trim other = refl
 is_line op.Meet other = absurd (other refl)
+is_line _ _ = refl
 
 -- the rows with a place more in one of them
 pub row_grown : (hosts i : ℕ) (rows : List (Vec ℕ Global)) (old new : Vec ℕ Global) (cs more : List Command) (c : Command)

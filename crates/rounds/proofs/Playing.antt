@@ -1,16 +1,11 @@
 -- One worker's play: by counting its calls, the history of each of its lines has just the calls of its lines before.
-use Rattle.std.proofs.Common.{◌≡◌, ℕ, ◌+◌, ◌≤◌, All, List, [], ◌∷◌, ◌++◌, eq-eqb, ne_eqb, length, take, refl}
-use Rattle.std.proofs.Common.{sym, ap, ◌∙◌, arith, subst, append_assoc, length-append}
-use Rattle.std.proofs.lemmas.List.{take_at}
+use Rattle.std.proofs.Common.{◌≡◌, ℕ, ◌+◌, ◌≤◌, All, List, [], ◌∷◌, ◌++◌, eq-eqb, ne_eqb, length, take, refl, sym, ap, ◌∙◌, arith, subst, append_assoc}
+use Rattle.std.proofs.{Common.length-append, lemmas.List.take_at, lemmas.List.Concat.flat_map-append}
 use Rattle.std.proofs.lemmas.List.Elements.{All-head, All-tail}
-use Rattle.std.proofs.lemmas.List.Concat.{flat_map-append}
 use mathlib.Core.Logic.{dite}
 use native.Mathlib.Decide.{ℕ_discrete}
-use Rattle.geometry.specs.History.{Call, held, Begins}
-use Rattle.geometry.specs.Sectors.{Sector}
-use Rattle.geometry.proofs.Histories.{Begins-trans}
-use Rattle.flash_rule.specs.Views.{caller, calls_of}
-use Rattle.flash_rule.proofs.Histories.{calls_of-append, calls_grow}
+use Rattle.geometry.{specs.History.Call, specs.History.held, specs.History.Begins, specs.Sectors.Sector, proofs.Histories.Begins-trans}
+use Rattle.flash_rule.{specs.Views.caller, specs.Views.calls_of, proofs.Histories.calls_of-append, proofs.Histories.calls_grow}
 use Rattle.rounds.specs.Orders.{made, lines_of, Plays}
 
 -- calls that are all of one host
@@ -33,8 +28,7 @@ begins_length k l b = omega (arith, length-append k b.0, ap (length {A = Call}) 
 
 -- two beginnings of one list that are equally long are one
 pub same_beginning : (k l m : List Call) → Begins k m → Begins l m → length k ≡ length l → k ≡ l
-same_beginning k l m a b long =
-    sym (take_at k a.0 (length l) long) ∙ (ap (take (length l)) (a.1 ∙ sym b.1) ∙ take_at l b.0 (length l) refl)
+same_beginning k l m a b long = sym (take_at k a.0 (length l) long) ∙ (ap (take (length l)) (a.1 ∙ sym b.1) ∙ take_at l b.0 (length l) refl)
 
 module _ {X : Type 0} (worker sector : X → ℕ) (calls : X → List Call) (right : X → Sector → Type 0) (n : ℕ) where
   pub plays_later : (a : List Call) (xs : List X) (b : List Call) → Plays sector calls right n a xs b → Begins a b

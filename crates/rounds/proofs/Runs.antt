@@ -1,17 +1,13 @@
 -- A run over all rounds: one round more, one meeting more, and the text at the end.
 use Rattle.std.proofs.Common.{◌≡◌, ℕ, ◌<◌, All, List, [], ◌∷◌, ◌++◌, true, None, refl, sym, ap, ◌∙◌, subst, append-nil}
-use Rattle.std.specs.Prelude.{slice_get, if◌then◌else◌}
-use Rattle.std.proofs.lemmas.Bool.{false≢true}
+use Rattle.std.{specs.Prelude.slice_get, specs.Prelude.if◌then◌else◌, proofs.lemmas.Bool.false≢true}
 use Rattle.geometry.specs.History.{Call, after}
 use Rattle.trace.specs.declared.commands.Op.{Op}
 use Rattle.trace.specs.declared.commands.Op.TheVariants as op
-use Rattle.rounds.specs.Orders.{InOrder, LeaveSame}
-use Rattle.rounds.specs.Told.{Line, sector_of, calls_in, is_right, AreAnswered, RoundOf}
-use Rattle.rounds.specs.Texts.{IsTextOfSome, lines_text}
+use Rattle.rounds.specs.{Orders.InOrder, Orders.LeaveSame, Told.Line, Told.sector_of, Told.calls_in, Told.is_right, Told.AreAnswered, Told.RoundOf}
+use Rattle.rounds.specs.{Texts.IsTextOfSome, Texts.lines_text, Runs.RunBegins, Runs.RunGoesOn, Runs.MeetingGoesOn, Runs.RunIsText}
 use Rattle.rounds.specs.Merging.{is_meet, answer_for, merge, rows_after, AreDisjointCommands}
-use Rattle.rounds.specs.Runs.{RunBegins, RunGoesOn, MeetingGoesOn, RunIsText}
-use Rattle.rounds.proofs.Told.{rounds_are_in_order, answered_more}
-use Rattle.rounds.proofs.Texts.{order_is_text}
+use Rattle.rounds.proofs.{Told.rounds_are_in_order, Told.answered_more, Texts.order_is_text}
 use Rattle.rounds.proofs.Merging.{commands_in-merge, merge-append, merge_same, disjoint_lines, lines_in_range}
 
 pub run_begins : RunBegins

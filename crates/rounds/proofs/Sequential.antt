@@ -1,23 +1,16 @@
 -- A round of lines at disjoint sectors: each line's answer is the one that it has where the lines are done one after another, and the array is the
 -- same at the end.
-use Rattle.std.proofs.Common.{◌≡◌, ℕ, ◌<◌, ◌⊎◌, inl, inr, ⊎_elim, All, List, [], ◌∷◌, ◌++◌, None, true, eq-eqb, ne_eqb}
-use Rattle.std.proofs.Common.{length, refl, sym, ap, ◌∙◌, arith, subst, append_assoc, append-nil}
-use Rattle.std.specs.Prelude.{◌==◌}
-use Rattle.std.proofs.lemmas.List.{append_cancel_left, ext_get_or}
+use Rattle.std.proofs.Common.{◌≡◌, ℕ, ◌<◌, ◌⊎◌, inl, inr, ⊎_elim, All, List, [], ◌∷◌, ◌++◌, None, true, eq-eqb, ne_eqb, length, refl, sym, ap, ◌∙◌, arith}
+use Rattle.std.{proofs.Common.subst, proofs.Common.append_assoc, proofs.Common.append-nil, specs.Prelude.◌==◌}
+use Rattle.std.proofs.lemmas.{List.append_cancel_left, List.ext_get_or, List.Concat.flat_map-append, Bool.eqb-true}
 use Rattle.std.proofs.lemmas.List.Elements.{All-head, All-tail, All-nil, All-cons, All-append, All-filter, All-weaker, filter-append, filter_passes}
-use Rattle.std.proofs.lemmas.List.Concat.{flat_map-append}
-use Rattle.std.proofs.lemmas.Bool.{eqb-true}
 use mathlib.Core.Logic.{dite}
 use native.Mathlib.Decide.{ℕ_discrete}
-use Rattle.geometry.specs.History.{Call, after, held}
-use Rattle.geometry.specs.Sectors.{Sector}
-use Rattle.geometry.proofs.Histories.{length-after}
-use Rattle.flash_rule.specs.Views.{caller, calls_of}
-use Rattle.flash_rule.proofs.Histories.{calls_of-append, rest_callers}
+use Rattle.geometry.{specs.History.Call, specs.History.after, specs.History.held, specs.Sectors.Sector, proofs.Histories.length-after}
+use Rattle.flash_rule.{specs.Views.caller, specs.Views.calls_of, proofs.Histories.calls_of-append, proofs.Histories.rest_callers}
 use Rattle.rounds.specs.Orders.{made, lines_of, Plays, InOrder, LeaveSame}
 use Rattle.rounds.specs.Rounds.{AreDisjoint, AreInRange, PlayedRound}
-use Rattle.rounds.proofs.Content.{target, content, held-append, AreBy, content_own}
-use Rattle.rounds.proofs.Playing.{calls_of-made, at_line}
+use Rattle.rounds.proofs.{Content.target, Content.content, Content.held-append, Content.AreBy, Content.content_own, Playing.calls_of-made, Playing.at_line}
 
 -- all of the first part of a list, and of the second
 All-first : {X : Type 0} (P : X → Type 0) (xs ys : List X) → All P (xs ++ ys) → All P xs

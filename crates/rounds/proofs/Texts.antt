@@ -1,26 +1,16 @@
 -- Lines that are answered in order are the answers of their commands, as text.
-use Rattle.std.proofs.Common.{◌≡◌, ℕ, ◌+◌, ◌⊎◌, inl, inr, ⊎_elim, List, [], ◌∷◌, ◌++◌, Bool, true, false, None, Some, zero}
-use Rattle.std.proofs.Common.{suc, length, refl, sym, ap, ◌∙◌, subst, append_assoc, append-nil, codes}
-use Rattle.std.specs.Prelude.{slice_get, if◌then◌else◌}
-use Rattle.std.specs.List.{fold}
-use Rattle.std.specs.Option.{option_map, option_map_or}
-use Rattle.std.proofs.lemmas.Bool.{false≢true}
-use Rattle.std.proofs.lemmas.List.{length-append, length-map}
-use Rattle.std.proofs.lemmas.List.Sums.{fold-append}
-use Rattle.std.proofs.lemmas.Option.{slice_get-map, same_Some}
-use Rattle.geometry.specs.History.{Call, step, after, held}
-use Rattle.geometry.specs.Sectors.{Sector, sector_at}
-use Rattle.trace.specs.declared.commands.Command.{Command}
-use Rattle.trace.specs.declared.commands.Op.{Op}
+use Rattle.std.proofs.Common.{◌≡◌, ℕ, ◌+◌, ◌⊎◌, inl, inr, ⊎_elim, List, [], ◌∷◌, ◌++◌, Bool, true, false, None, Some, zero, suc, length, refl, sym, ap, ◌∙◌}
+use Rattle.std.proofs.{Common.subst, Common.append_assoc, Common.append-nil, Common.codes, lemmas.Bool.false≢true}
+use Rattle.std.specs.{Prelude.slice_get, Prelude.if◌then◌else◌, List.fold, Option.option_map, Option.option_map_or}
+use Rattle.std.proofs.lemmas.{List.length-append, List.length-map, List.Sums.fold-append, Option.slice_get-map, Option.same_Some}
+use Rattle.geometry.specs.{History.Call, History.step, History.after, History.held, Sectors.Sector, Sectors.sector_at}
+use Rattle.trace.specs.declared.commands.{Command.Command, Op.Op}
 use Rattle.trace.specs.declared.commands.Op.TheVariants as op
 use Rattle.answers.specs.Answers.{answer_of, calls_of, history_before, lines_before, line_text}
 use Rattle.answers.proofs.Texts.{array_more, lines_more}
-use Rattle.rounds.specs.declared.answer.Kind.{Kind}
+use Rattle.rounds.specs.{declared.answer.Kind.Kind, Lines.calls_by, Lines.is_full, Lines.IsRight, Told.Line, Told.sector_of, Told.calls_in, Told.is_right}
+use Rattle.rounds.specs.{Orders.InOrder, Orders.LeaveSame, Texts.answer_text, Texts.lines_text, Texts.commands_in, Texts.refused_in, Texts.OrderIsText}
 use Rattle.rounds.specs.declared.answer.Kind.TheVariants as kind
-use Rattle.rounds.specs.Lines.{calls_by, is_full, IsRight}
-use Rattle.rounds.specs.Orders.{InOrder, LeaveSame}
-use Rattle.rounds.specs.Told.{Line, sector_of, calls_in, is_right}
-use Rattle.rounds.specs.Texts.{answer_text, lines_text, commands_in, refused_in, OrderIsText}
 
 -- a right answer is the text that the array gives
 answer_is : (o : Op) (x : Sector) (k : Kind) (page : List ℕ) → IsRight o x k page → answer_text k page ≡ answer_of (codes "full") (is_full k) o x

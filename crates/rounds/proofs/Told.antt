@@ -1,22 +1,16 @@
 -- The law of rounds, of lines with what they were told, and what a pass that plays its worker's lines makes of it.
 use Rattle.std.proofs.Common.{◌≡◌, ℕ, All, List, [], ◌∷◌, ◌++◌, Bool, true, false, refl, sym, ap, ◌∙◌, subst}
-use Rattle.std.specs.Prelude.{if◌then◌else◌}
+use Rattle.std.{specs.Prelude.if◌then◌else◌, proofs.lemmas.List.Concat.flat_map-append}
 use Rattle.std.proofs.lemmas.List.Elements.{All-head, All-tail, All-nil, All-cons}
-use Rattle.std.proofs.lemmas.List.Concat.{flat_map-append}
 use Rattle.geometry.specs.History.{Call, after}
 use Rattle.flash_rule.specs.Views.{caller}
-use Rattle.trace.specs.declared.commands.Command.{Command}
-use Rattle.trace.specs.declared.commands.Op.{Op}
+use Rattle.trace.specs.declared.commands.{Command.Command, Op.Op}
 use Rattle.trace.specs.declared.commands.Op.TheVariants as op
-use Rattle.rounds.specs.Lines.{Said, calls_by, is_full}
-use Rattle.rounds.specs.Playing as playing
-use Rattle.rounds.specs.Orders.{made, Plays, InOrder, LeaveSame}
-use Rattle.rounds.specs.Rounds.{PlayedRound}
+use Rattle.rounds.specs.{Lines.Said, Lines.calls_by, Lines.is_full, Orders.made, Orders.Plays, Orders.InOrder, Orders.LeaveSame, Rounds.PlayedRound}
 use Rattle.rounds.specs.Told.{Line, worker_of, sector_of, calls_in, is_right, line, told, AreAnswered, RoundsAreInOrder}
-use Rattle.rounds.proofs.Content.{target}
-use Rattle.rounds.proofs.Sequential.{sequential, leaves_same}
-use Rattle.rounds.proofs.Orders.{same-append, in_order_same, in_order_append}
+use Rattle.rounds.proofs.{Content.target, Sequential.sequential, Sequential.leaves_same, Orders.same-append, Orders.in_order_same, Orders.in_order_append}
 use Rattle.rounds.proofs.Meetings.{tied_again, round_between}
+use Rattle.rounds.specs.Playing as playing
 
 -- what holds of the calls of each op holds of those of a line
 of_calls : (P : Call → Type 0) (b : Bool) (cs : List Call) → All P cs → All P (if b then [] else cs)
@@ -25,17 +19,13 @@ of_calls P false cs all = all
 
 by_worker : (t : ℕ) (o : Op) (s : ℕ) (value : List ℕ) → All (λ c. caller c ≡ t) (calls_by t o s value)
 by_worker t op.Read s value = All-nil (λ c. caller c ≡ t)
-by_worker t op.Write s value = All-cons (λ c. caller c ≡ t) _ [] refl (All-nil (λ c. caller c ≡ t))
-by_worker t op.New s value = All-cons (λ c. caller c ≡ t) _ [] refl (All-nil (λ c. caller c ≡ t))
-by_worker t op.Trim s value = All-cons (λ c. caller c ≡ t) _ [] refl (All-nil (λ c. caller c ≡ t))
 by_worker t op.Meet s value = All-nil (λ c. caller c ≡ t)
+by_worker t _ _ _ = All-cons (λ c. caller c ≡ t) _ [] refl (All-nil (λ c. caller c ≡ t))
 
 at_sector : (t : ℕ) (o : Op) (s : ℕ) (value : List ℕ) → All (λ c. target c ≡ s) (calls_by t o s value)
 at_sector t op.Read s value = All-nil (λ c. target c ≡ s)
-at_sector t op.Write s value = All-cons (λ c. target c ≡ s) _ [] refl (All-nil (λ c. target c ≡ s))
-at_sector t op.New s value = All-cons (λ c. target c ≡ s) _ [] refl (All-nil (λ c. target c ≡ s))
-at_sector t op.Trim s value = All-cons (λ c. target c ≡ s) _ [] refl (All-nil (λ c. target c ≡ s))
 at_sector t op.Meet s value = All-nil (λ c. target c ≡ s)
+at_sector _ _ s _ = All-cons (λ c. target c ≡ s) _ [] refl (All-nil (λ c. target c ≡ s))
 
 pub callers_in : (x : Line) → All (λ c. caller c ≡ worker_of x) (calls_in x)
 callers_in x =

@@ -1,12 +1,8 @@
 -- Answers side by side: what they say, and the room for more.
 use Rattle.std.specs.Prelude.{◌≡◌, ℕ, ◌+◌, ◌≤◌, List, [], ◌∷◌, length, take, vec_capacity}
-use Rattle.trace.specs.declared.commands.Command.{Command}
-use Rattle.trace.specs.declared.commands.Op.{Op}
+use Rattle.trace.specs.declared.commands.{Command.Command, Op.Op}
 use Rattle.trace.specs.declared.commands.Op.TheVariants as op
-use Rattle.rounds.specs.Lines.{Said}
-use Rattle.rounds.specs.Pages.{bytes_in, said_from}
-use Rattle.rounds.specs.declared.answer_list.Answers.{Answers}
-use Rattle.rounds.specs.declared.answer_list.Cursor.{Cursor}
+use Rattle.rounds.specs.{Lines.Said, Pages.bytes_in, Pages.said_from, declared.answer_list.Answers.Answers, declared.answer_list.Cursor.Cursor}
 
 -- all answers, in order
 abbrev pub said_in : Answers → List Said
@@ -24,10 +20,7 @@ pub record HasSpace (answers : Answers) (lines bytes : ℕ) : Type 0 where
 -- how many bytes the answer of an op can have
 abbrev pub space_for : ℕ → Op → ℕ
 space_for n op.Read = n
-space_for n op.Write = 0
-space_for n op.New = 0
-space_for n op.Trim = 0
-space_for n op.Meet = 0
+space_for _ _ = 0
 
 -- and how many the answers of lines can have
 abbrev pub space_of : ℕ → List Command → ℕ

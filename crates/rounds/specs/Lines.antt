@@ -1,14 +1,10 @@
 -- A line of a trace with its answer: who does it, which calls it adds to the history, and when its answer is right.
 use Rattle.std.specs.Prelude.{◌≡◌, ◌⊎◌, ℕ, Bool, true, false, if◌then◌else◌, List, [], ◌∷◌, None, Some}
-use Rattle.geometry.specs.Sectors.{Sector, was_of}
-use Rattle.geometry.specs.History.{Call, Write, WriteNew, Trim}
-use Rattle.geometry.specs.declared.answer.Was.{Was}
+use Rattle.geometry.specs.{Sectors.Sector, Sectors.was_of, History.Call, History.Write, History.WriteNew, History.Trim, declared.answer.Was.Was}
 use Rattle.geometry.specs.declared.answer.Was.TheVariants as was
-use Rattle.trace.specs.declared.commands.Command.{Command}
-use Rattle.trace.specs.declared.commands.Op.{Op}
+use Rattle.trace.specs.declared.commands.{Command.Command, Op.Op}
 use Rattle.trace.specs.declared.commands.Op.TheVariants as op
-use Rattle.rounds.specs.declared.answer.Answer.{Answer}
-use Rattle.rounds.specs.declared.answer.Kind.{Kind}
+use Rattle.rounds.specs.declared.answer.{Answer.Answer, Kind.Kind}
 use Rattle.rounds.specs.declared.answer.Kind.TheVariants as kind
 
 -- what the answer of a line is made of: its kind, and the bytes of its page
@@ -27,19 +23,15 @@ kind_of was.Written = kind.Written
 
 -- whether a write was turned away
 abbrev pub is_full : Kind → Bool
-is_full kind.Empty = false
-is_full kind.Written = false
-is_full kind.Page = false
-is_full kind.Met = false
 is_full kind.Full = true
+is_full _ = false
 
 -- the call that a pass makes for a line: a read makes none
 abbrev pub calls_by : ℕ → Op → ℕ → List ℕ → List Call
-calls_by t op.Read s value = []
 calls_by t op.Write s value = Write t s value ∷ []
 calls_by t op.New s value = WriteNew t s value ∷ []
 calls_by t op.Trim s value = Trim t s ∷ []
-calls_by t op.Meet s value = []
+calls_by _ _ _ _ = []
 
 -- the calls that a line has added, made by this pass: none if it was turned away
 abbrev pub calls_made : ℕ → Command → Said → List Call

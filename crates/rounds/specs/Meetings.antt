@@ -1,9 +1,7 @@
 -- What the passes know before a round, after it, and after the meetings that end it. The views are those of the passes, by their numbers.
 use Rattle.std.specs.Prelude.{◌≡◌, ℕ, ◌<◌, All, List, ◌++◌}
-use Rattle.geometry.specs.Sectors.{Sector}
-use Rattle.geometry.specs.History.{Call, Begins}
-use Rattle.flash_rule.specs.declared.view.View.{View}
-use Rattle.flash_rule.specs.Views.{caller, calls_of}
+use Rattle.geometry.specs.{Sectors.Sector, History.Call, History.Begins}
+use Rattle.flash_rule.specs.{declared.view.View.View, Views.caller, Views.calls_of}
 use Rattle.rounds.specs.Orders.{made, lines_of, Plays}
 
 -- All passes have seen one history, and its calls are those of the passes, each with exactly its own

@@ -1,29 +1,21 @@
 -- The lines of a trace from the answers of its workers: each worker's answers are a row, in the order of its lines.
-use Rattle.std.specs.Prelude.{◌≡◌, ℕ, ◌≤◌, ◌==◌, ◌&&◌, not, All, Bool, true, false, if◌then◌else◌, List, []}
-use Rattle.std.specs.Prelude.{◌∷◌, length, take, drop, Option, None, Some, slice_get}
-use Rattle.std.specs.List.{filter}
-use Rattle.trace.specs.declared.commands.Command.{Command}
-use Rattle.trace.specs.declared.commands.Op.{Op}
+use Rattle.std.specs.Prelude.{◌≡◌, ℕ, ◌≤◌, ◌==◌, ◌&&◌, not, All, Bool, true, false, if◌then◌else◌, List, [], ◌∷◌, length, take, drop, Option, None, Some}
+use Rattle.std.specs.{Prelude.slice_get, List.filter}
+use Rattle.trace.specs.declared.commands.{Command.Command, Op.Op}
 use Rattle.trace.specs.declared.commands.Op.TheVariants as op
-use Rattle.rounds.specs.Lines.{Said}
+use Rattle.rounds.specs.{Lines.Said, Told.Line, Told.line}
 use Rattle.rounds.specs.declared.answer.Kind.TheVariants as kind
-use Rattle.rounds.specs.Told.{Line, line}
 
 -- whether an op ends a round
 abbrev pub is_meet : Op → Bool
-is_meet op.Read = false
-is_meet op.Write = false
-is_meet op.New = false
-is_meet op.Trim = false
 is_meet op.Meet = true
+is_meet _ = false
 
 -- whether an op may change its sector
 abbrev pub changes : Op → Bool
 changes op.Read = false
-changes op.Write = true
-changes op.New = true
-changes op.Trim = true
 changes op.Meet = false
+changes _ = true
 
 -- a line that this worker does: a meeting is nobody's
 abbrev pub is_line_of : ℕ → Command → Bool

@@ -1,10 +1,8 @@
 -- Lines of a trace, each done by a worker at a sector: the calls that they make, and the histories at which they are answered. What a line
 -- is is left open here; who does it, at which sector, by which calls, and which answer is right for what its sector holds, are functions of
 -- it.
-use Rattle.std.specs.Prelude.{◌≡◌, ℕ, ◌==◌, List, [], ◌∷◌, ◌++◌}
-use Rattle.std.specs.List.{flat_map, filter}
-use Rattle.geometry.specs.Sectors.{Sector}
-use Rattle.geometry.specs.History.{Call, after, held, Begins}
+use Rattle.std.specs.{Prelude.◌≡◌, Prelude.ℕ, Prelude.◌==◌, Prelude.List, Prelude.[], Prelude.◌∷◌, Prelude.◌++◌, List.flat_map, List.filter}
+use Rattle.geometry.specs.{Sectors.Sector, History.Call, History.after, History.held, History.Begins}
 
 -- all calls that lines make, in the order of the lines
 abbrev pub made : {X : Type 0} → (X → List Call) → List X → List Call

@@ -1,16 +1,12 @@
 -- Pages side by side, by the kinds of their answers.
 use Rattle.std.specs.Prelude.{ℕ, ◌+◌, List, [], ◌∷◌, take, drop}
-use Rattle.rounds.specs.Lines.{Said}
-use Rattle.rounds.specs.declared.answer.Kind.{Kind}
+use Rattle.rounds.specs.{Lines.Said, declared.answer.Kind.Kind}
 use Rattle.rounds.specs.declared.answer.Kind.TheVariants as kind
 
 -- how many bytes an answer of this kind has, if a page has n
 abbrev pub bytes_of : ℕ → Kind → ℕ
-bytes_of n kind.Empty = 0
-bytes_of n kind.Written = 0
 bytes_of n kind.Page = n
-bytes_of n kind.Met = 0
-bytes_of n kind.Full = 0
+bytes_of _ _ = 0
 
 -- and how many the answers of these kinds have
 abbrev pub bytes_in : ℕ → List Kind → ℕ

@@ -1,7 +1,6 @@
 -- Rounds of lines that several workers play at once.
 use Rattle.std.specs.Prelude.{◌≡◌, ℕ, ◌<◌, All, List, [], ◌++◌}
-use Rattle.geometry.specs.Sectors.{Sector}
-use Rattle.geometry.specs.History.{Call, Begins}
+use Rattle.geometry.specs.{Sectors.Sector, History.Call, History.Begins}
 use Rattle.flash_rule.specs.Views.{caller, calls_of}
 use Rattle.rounds.specs.Orders.{made, lines_of, Plays}
 

@@ -3,13 +3,8 @@ use Rattle.std.specs.Prelude.{◌≡◌, ℕ, ◌<◌, All, List, [], ◌∷◌,
 use Rattle.geometry.specs.History.{Call}
 use Rattle.flash_rule.specs.Views.{caller, calls_of}
 use Rattle.trace.specs.declared.commands.Command.{Command}
-use Rattle.rounds.specs.Lines.{Said}
-use Rattle.rounds.specs.Answers.{said_in}
-use Rattle.rounds.specs.declared.answer_list.Answers.{Answers}
-use Rattle.rounds.specs.Playing.{Plays, calls_done}
-use Rattle.rounds.specs.Orders.{made, InOrder, LeaveSame}
-use Rattle.rounds.specs.Rounds.{PlayedRound}
-use Rattle.rounds.specs.Told.{worker_of, sector_of, calls_in, is_right}
+use Rattle.rounds.specs.{Lines.Said, Answers.said_in, declared.answer_list.Answers.Answers, Playing.Plays, Playing.calls_done, Rounds.PlayedRound}
+use Rattle.rounds.specs.{Orders.made, Orders.InOrder, Orders.LeaveSame, Told.worker_of, Told.sector_of, Told.calls_in, Told.is_right}
 use Rattle.rounds.specs.Merging.{lines_for, merge, rows_after, AreDisjointCommands, rounds_of}
 
 -- the answers of worker t, from a list in the order of the workers; none if the list is too short

@@ -3,12 +3,9 @@ use Rattle.std.specs.Prelude.{◌≡◌, ℕ, ◌<◌, All, true, List, [], ◌�
 use Rattle.geometry.specs.History.{Call}
 use Rattle.flash_rule.specs.declared.view.View.{View}
 use Rattle.trace.specs.declared.commands.Command.{Command}
-use Rattle.rounds.specs.Lines.{Said}
-use Rattle.rounds.specs.Meetings.{AreTied, HavePlayed, HaveMet}
+use Rattle.rounds.specs.{Lines.Said, Meetings.AreTied, Meetings.HavePlayed, Meetings.HaveMet, Texts.lines_text, Texts.IsTextOfSome, Rows.AreRounds}
 use Rattle.rounds.specs.Told.{worker_of, sector_of, calls_in, is_right, AreAnswered}
-use Rattle.rounds.specs.Texts.{lines_text, IsTextOfSome}
 use Rattle.rounds.specs.Merging.{is_meet, merge, rows_after, rounds_of, AreSameFor, AreDisjointCommands, IsDisjointTrace}
-use Rattle.rounds.specs.Rows.{AreRounds}
 
 -- A round of commands at disjoint sectors was played behind others: the answers before it stay, each pass has played its worker's commands, and the
 -- passes have met

@@ -5,11 +5,8 @@ use Rattle.hex.specs.Hex.{encode_lower}
 use Rattle.trace.specs.declared.commands.Command.{Command}
 use Rattle.trace.specs.declared.commands.Op.TheVariants as op
 use Rattle.answers.specs.Answers.{answers, line_text}
-use Rattle.rounds.specs.declared.answer.Kind.{Kind}
+use Rattle.rounds.specs.{declared.answer.Kind.Kind, Lines.is_full, Orders.InOrder, Told.Line, Told.sector_of, Told.calls_in, Told.is_right}
 use Rattle.rounds.specs.declared.answer.Kind.TheVariants as kind
-use Rattle.rounds.specs.Lines.{is_full}
-use Rattle.rounds.specs.Orders.{InOrder}
-use Rattle.rounds.specs.Told.{Line, sector_of, calls_in, is_right}
 
 -- an answer as text: a page is given by its bytes in lower-case hexadecimal digits
 abbrev pub answer_text : Kind → List ℕ → List ℕ

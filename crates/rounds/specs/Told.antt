@@ -1,14 +1,10 @@
 -- The lines of a trace with their answers.
 use Rattle.std.specs.Prelude.{ℕ, ◌<◌, if◌then◌else◌, List, [], ◌∷◌, ◌++◌}
-use Rattle.geometry.specs.Sectors.{Sector}
-use Rattle.geometry.specs.History.{Call}
+use Rattle.geometry.specs.{Sectors.Sector, History.Call}
 use Rattle.flash_rule.specs.declared.view.View.{View}
 use Rattle.trace.specs.declared.commands.Command.{Command}
-use Rattle.rounds.specs.declared.answer.Kind.{Kind}
-use Rattle.rounds.specs.Lines.{Said, calls_by, is_full, IsRight}
-use Rattle.rounds.specs.Orders.{made, InOrder, LeaveSame}
-use Rattle.rounds.specs.Rounds.{AreDisjoint, AreInRange}
-use Rattle.rounds.specs.Meetings.{AreTied, HavePlayed, HaveMet}
+use Rattle.rounds.specs.{declared.answer.Kind.Kind, Lines.Said, Lines.calls_by, Lines.is_full, Lines.IsRight, Orders.made, Orders.InOrder, Orders.LeaveSame}
+use Rattle.rounds.specs.{Rounds.AreDisjoint, Rounds.AreInRange, Meetings.AreTied, Meetings.HavePlayed, Meetings.HaveMet}
 
 -- a line with the kind of its answer, and the bytes that a read found
 pub record Line : Type 0 where
@@ -38,9 +34,8 @@ line c a = record { command = c; kind = a.kind; page = a.page }
 
 -- commands with their answers, one each
 abbrev pub told : List Command → List Said → List Line
-told [] answers = []
-told (c ∷ lines) [] = []
 told (c ∷ lines) (a ∷ answers) = line c a ∷ told lines answers
+told _ _ = []
 
 -- lines that are rightly answered one after another, from an unused device on, and a history with the array that they leave
 pub record AreAnswered (n : ℕ) (h : List Call) (xs : List Line) : Type 0 where

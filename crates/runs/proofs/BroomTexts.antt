@@ -1,20 +1,12 @@
 -- The log of one broom more.
-use Rattle.std.proofs.Common.{◌≡◌, ℕ, ◌+◌, ◌-◌, ◌<◌, ◌≤◌, List, [], ◌++◌, Option, None, Some, get_or, length}
-use Rattle.std.proofs.Common.{refl, subst, sym, ap, ◌∙◌, append-nil, append_assoc, arith}
-use Rattle.std.specs.Prelude.{IfSome, Ok}
-use Rattle.std.specs.Option.{option_map_or}
-use Rattle.std.specs.List.{flat_map, range_with_len}
-use Rattle.std.proofs.lemmas.Option.{slice_get_read}
-use Rattle.geometry.specs.History.{Begins}
-use Rattle.geometry.specs.declared.geometry.Geometry.{Geometry}
-use Rattle.trace.specs.Trace.{commands_of}
-use Rattle.trace.specs.declared.commands.Command.{Command}
-use Rattle.answers.specs.Answers.{broom_names}
-use Rattle.answers.specs.Delivery.{IsUnderWay}
-use Rattle.answers.proofs.Deliveries.{IsUnderWay-more, IsUnderWay-trans}
-use Rattle.answers.proofs.Texts.{flat_map_begins, flat_map_more}
-use Rattle.workers.specs.Served.{AllHaveServed}
-use Rattle.workers.specs.declared.collector_end.CollectorEnd.{CollectorEnd}
+use Rattle.std.proofs.Common.{◌≡◌, ℕ, ◌+◌, ◌-◌, ◌<◌, ◌≤◌, List, [], ◌++◌, Option, None, Some, get_or, length, refl, subst, sym, ap, ◌∙◌, append-nil}
+use Rattle.std.{proofs.Common.append_assoc, proofs.Common.arith, specs.List.flat_map, specs.List.range_with_len, proofs.lemmas.Option.slice_get_read}
+use Rattle.std.specs.{Prelude.IfSome, Prelude.Ok, Option.option_map_or}
+use Rattle.geometry.specs.{History.Begins, declared.geometry.Geometry.Geometry}
+use Rattle.trace.specs.{Trace.commands_of, declared.commands.Command.Command}
+use Rattle.answers.specs.{Answers.broom_names, Delivery.IsUnderWay}
+use Rattle.answers.proofs.{Deliveries.IsUnderWay-more, Deliveries.IsUnderWay-trans, Texts.flat_map_begins, Texts.flat_map_more}
+use Rattle.workers.specs.{Served.AllHaveServed, declared.collector_end.CollectorEnd.CollectorEnd}
 use Rattle.runs.specs.Brooms.{IsBroomLogOf, brooms_before, brooms_text, end_line, line_of_broom}
 
 pub brooms_none : (ends : List CollectorEnd) → brooms_before ends 0 ≡ broom_names

@@ -1,19 +1,13 @@
 -- The text grows line by line.
-use Rattle.std.proofs.Common.{◌≡◌, ℕ, ◌+◌, ◌≤◌, List, [], ◌∷◌, ◌++◌, Option, None, Some, suc, length, take, drop, sym, ap}
-use Rattle.std.proofs.Common.{◌∙◌, subst, append_assoc, append-nil, add-zero, zero-add, arith}
-use Rattle.std.specs.Prelude.{slice_get}
+use Rattle.std.proofs.Common.{◌≡◌, ℕ, ◌+◌, ◌≤◌, List, [], ◌∷◌, ◌++◌, Option, None, Some, suc, length, take, drop, sym, ap, ◌∙◌, subst, append_assoc, append-nil}
+use Rattle.std.{proofs.Common.add-zero, proofs.Common.zero-add, proofs.Common.arith, specs.Prelude.slice_get}
 use Rattle.std.proofs.lemmas.List.{length-map, take_all, take-append-drop}
 use Rattle.geometry.specs.History.{Begins}
 use Rattle.trace.specs.declared.commands.Command.{Command}
-use Rattle.answers.specs.Answers.{end_text, line_text}
-use Rattle.answers.specs.Delivery.{IsUnderWay}
+use Rattle.answers.specs.{Answers.end_text, Answers.line_text, Delivery.IsUnderWay}
 use Rattle.answers.proofs.Deliveries.{IsUnderWay-more, IsUnderWay-trans}
-use Rattle.rounds.specs.Lines.{Said}
-use Rattle.rounds.specs.Told.{Line}
-use Rattle.rounds.specs.Texts.{answer_text, lines_text}
-use Rattle.rounds.specs.Merging.{answer_for, merge, next_of, rows_after}
-use Rattle.rounds.proofs.Merging.{commands_in-merge, merge-append}
-use Rattle.rounds.proofs.Planning.{commands_more}
+use Rattle.rounds.specs.{Lines.Said, Told.Line, Texts.answer_text, Texts.lines_text, Merging.answer_for, Merging.merge, Merging.next_of, Merging.rows_after}
+use Rattle.rounds.proofs.{Merging.commands_in-merge, Merging.merge-append, Planning.commands_more}
 use Rattle.runs.specs.Delivering.{text_of}
 
 -- lines in two parts

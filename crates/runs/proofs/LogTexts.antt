@@ -1,30 +1,17 @@
 -- The log of one command more, and how a log ends.
-use Rattle.std.proofs.Common.{◌≡◌, ◌≢◌, ℕ, ◌+◌, ◌-◌, ◌≤◌, Bool, true, false, List, ◌++◌, Option, None, Some, length}
-use Rattle.std.proofs.Common.{refl, subst, sym, ap, ◌∙◌, append_assoc, append-nil, arith}
+use Rattle.std.proofs.Common.{◌≡◌, ◌≢◌, ℕ, ◌+◌, ◌-◌, ◌≤◌, Bool, true, false, List, ◌++◌, Option, None, Some, length, refl, subst, sym, ap, ◌∙◌, append_assoc}
+use Rattle.std.{proofs.Common.append-nil, proofs.Common.arith, specs.List.flat_map, specs.List.range_with_len, specs.Io.KnownBytes.Appends}
 use Rattle.std.specs.Prelude.{IfSome, OnOk, Result, Ok, Err}
-use Rattle.std.specs.List.{flat_map, range_with_len}
-use Rattle.std.specs.Io.KnownBytes.{Appends}
-use Rattle.geometry.specs.History.{Begins}
-use Rattle.geometry.specs.declared.geometry.Geometry.{Geometry}
-use Rattle.ftl_one.specs.Collections.{collection_between}
-use Rattle.ftl_one.specs.Stock.{Stock}
-use Rattle.ftl_one.specs.declared.collection.Collection.{Collection}
-use Rattle.trace.specs.Trace.{commands_of}
-use Rattle.trace.specs.declared.commands.Command.{Command}
-use Rattle.answers.specs.Answers.{collection_names}
+use Rattle.geometry.specs.{History.Begins, declared.geometry.Geometry.Geometry}
+use Rattle.ftl_one.specs.{Collections.collection_between, Stock.Stock, declared.collection.Collection.Collection}
+use Rattle.trace.specs.{Trace.commands_of, declared.commands.Command.Command}
+use Rattle.answers.specs.{Answers.collection_names, Lines.waiting_of, Streams.Passage, Streams.Stream, Streams.WritesOut, declared.lines.Lines.Lines}
 use Rattle.answers.specs.Delivery.{AppendsBeginning, AppendsPart, AppendsText, IsUnderWay}
-use Rattle.answers.specs.Lines.{waiting_of}
-use Rattle.answers.specs.Streams.{Passage, Stream, WritesOut}
-use Rattle.answers.specs.declared.delivery.OutputFailed.{OutputFailed}
-use Rattle.answers.specs.declared.lines.Lines.{Lines}
+use Rattle.answers.{specs.declared.delivery.OutputFailed.OutputFailed, proofs.Texts.flat_map_begins, proofs.Texts.flat_map_more}
 use Rattle.answers.proofs.Deliveries.{AppendsBeginning-part, IsUnderWay-more, IsUnderWay-trans, WritesOut-rest}
-use Rattle.answers.proofs.Texts.{flat_map_begins, flat_map_more}
 use Rattle.runs.specs.Collections.{IsLogOf, log_before, log_line, log_part, log_text, told_at}
-use Rattle.runs.specs.Files.{EndsFile, EndsText, LeavesFile, LeavesText}
-use Rattle.runs.specs.Logs.{IsLogged, is_wanted}
-use Rattle.runs.specs.Playing.{stock_before}
-use Rattle.runs.specs.Wear.{IsStockOf, IsWearOf, wear_text}
-use Rattle.runs.specs.declared.log.Log.{Log}
+use Rattle.runs.specs.{Files.EndsFile, Files.EndsText, Files.LeavesFile, Files.LeavesText, Logs.IsLogged, Logs.is_wanted, Playing.stock_before}
+use Rattle.runs.specs.{Wear.IsStockOf, Wear.IsWearOf, Wear.wear_text, declared.log.Log.Log}
 use Rattle.runs.specs.declared.log.Log.TheVariants as log
 
 pub log_none : (geo : Geometry) (commands : List Command) → log_before geo commands 0 ≡ collection_names
@@ -114,10 +101,8 @@ shut_more log.Failed file text more shut (failed, part) = (failed, longer file.b
 pub ends_open : (lines : Lines) (before old new : Stream) (text : List ℕ) (r : Result (Unit {0}) OutputFailed)
     → IsLogged (log.Open lines) (record { before = before; after = old }) text
     → WritesOut (waiting_of lines) (record { before = old; after = new }) r → EndsText true text (record { before = before; after = new }) r
-ends_open lines before old new text (Ok x) (unfailed, moves) sent =
-    WritesOut-rest text (waiting_of lines) before old new (Ok x) unfailed moves sent
-ends_open lines before old new text (Err e) (unfailed, moves) sent =
-    WritesOut-rest text (waiting_of lines) before old new (Err e) unfailed moves sent
+ends_open lines before old new text (Ok x) (unfailed, moves) sent = WritesOut-rest text (waiting_of lines) before old new (Ok x) unfailed moves sent
+ends_open lines before old new text (Err e) (unfailed, moves) sent = WritesOut-rest text (waiting_of lines) before old new (Err e) unfailed moves sent
 
 -- the end of a text is that of the text that is right for the bytes
 pub ends_file : (wanted : Bool) (IsTextOf : List ℕ → List ℕ → Type 0) (input : Stream) (file : Passage) (text : List ℕ) (r : Result (Unit {0}) OutputFailed)

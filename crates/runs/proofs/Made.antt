@@ -1,23 +1,14 @@
 -- The collection of a command is the one that was due, if a page was programmed.
 use Rattle.std.proofs.Common.{◌≡◌, ℕ, ◌+◌, Bool, true, false, cond, ltb, List, Option, None, Some, refl, sym, ap, ◌∙◌, subst, arith}
-use Rattle.std.specs.Prelude.{unwrap_or}
-use Rattle.std.specs.Option.{option_and_then, option_map_or}
-use Rattle.std.proofs.lemmas.Bool.Decides.{nat_tests}
-use Rattle.geometry.specs.Geometry.{endurance_of, pages_of}
-use Rattle.geometry.specs.History.{Trim, Write, WriteNew}
-use Rattle.geometry.specs.declared.geometry.Geometry.{Geometry}
-use Rattle.ftl_one.specs.Collections.{collection_between, collection_due}
-use Rattle.ftl_one.specs.Stock.{Stock, has_page, next, ready, write_of}
-use Rattle.ftl_one.specs.declared.collection.Collection.{Collection}
-use Rattle.ftl_one.proofs.CollectionLemmas.{between_nothing, write-makes}
-use Rattle.ftl_one.proofs.Current.{next_empty, next_written}
-use Rattle.ftl_one.proofs.LawLemmas.{map-erases, nothing_same, write-programs}
-use Rattle.trace.specs.declared.commands.Command.{Command}
-use Rattle.trace.specs.declared.commands.Op.{Op}
+use Rattle.std.{specs.Prelude.unwrap_or, specs.Option.option_and_then, specs.Option.option_map_or, proofs.lemmas.Bool.Decides.nat_tests}
+use Rattle.geometry.specs.{Geometry.endurance_of, Geometry.pages_of, History.Trim, History.Write, History.WriteNew, declared.geometry.Geometry.Geometry}
+use Rattle.ftl_one.specs.{Collections.collection_between, Collections.collection_due, Stock.Stock, Stock.has_page, Stock.next, Stock.ready, Stock.write_of}
+use Rattle.ftl_one.{specs.declared.collection.Collection.Collection, proofs.CollectionLemmas.between_nothing, proofs.CollectionLemmas.write-makes}
+use Rattle.ftl_one.proofs.{Current.next_empty, Current.next_written, LawLemmas.map-erases, LawLemmas.nothing_same, LawLemmas.write-programs}
+use Rattle.trace.specs.declared.commands.{Command.Command, Op.Op}
 use Rattle.trace.specs.declared.commands.Op.TheVariants as op
 use Rattle.answers.specs.Answers.{call_by}
-use Rattle.runs.specs.Logs.{due_by}
-use Rattle.runs.specs.Playing.{after_call, stock_after}
+use Rattle.runs.specs.{Logs.due_by, Playing.after_call, Playing.stock_after}
 
 not_less : (a b : ℕ) → b ≡ a → ltb a b ≡ false
 not_less a b same = grind (arith, nat_tests)

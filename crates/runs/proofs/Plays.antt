@@ -1,25 +1,17 @@
 -- One command more: the stock grows by its own part, and with it the array and the text, if the answers are written.
-use Rattle.std.proofs.Common.{◌≡◌, ℕ, ◌+◌, ◌≤◌, Bool, true, false, List, [], ◌∷◌, ◌++◌, Option, Some, length, take, subst}
-use Rattle.std.proofs.Common.{sym, ap, ◌∙◌, ◌-◌, append-nil, append_assoc, arith, codes, refl}
+use Rattle.std.proofs.Common.{◌≡◌, ℕ, ◌+◌, ◌≤◌, Bool, true, false, List, [], ◌∷◌, ◌++◌, Option, Some, length, take, subst, sym, ap, ◌∙◌, ◌-◌, append-nil}
+use Rattle.std.proofs.{Common.append_assoc, Common.arith, Common.codes, Common.refl, lemmas.List.Sums.fold_push, lemmas.List.take_more}
 use Rattle.std.specs.Prelude.{if◌then◌else◌, slice_get}
-use Rattle.std.specs.List.{All, fold}
-use Rattle.std.specs.Option.{option_map_or}
-use Rattle.std.proofs.lemmas.List.Sums.{fold_push}
-use Rattle.std.proofs.lemmas.List.{take_more}
-use Rattle.std.proofs.lemmas.Option.{get_or_from_slice_get, slice_get_within}
-use Rattle.geometry.specs.Geometry.{sectors_of}
-use Rattle.geometry.specs.History.{step, after, held, Begins}
-use Rattle.geometry.specs.Sectors.{Sector, sector_at}
+use Rattle.std.{specs.List.All, specs.List.fold, specs.Option.option_map_or, proofs.lemmas.Option.get_or_from_slice_get, proofs.lemmas.Option.slice_get_within}
+use Rattle.geometry.specs.{Geometry.sectors_of, History.step, History.after, History.held, History.Begins, Sectors.Sector, Sectors.sector_at}
 use Rattle.geometry.specs.declared.geometry.Geometry.{Geometry}
 use Rattle.ftl_one.specs.Stock.{Stock, opening}
 use Rattle.trace.specs.declared.commands.Command.{Command}
 use Rattle.answers.specs.Answers.{calls_of, history_before, line_at, lines_before, line_text, answer_of}
-use Rattle.answers.specs.Delivery.{IsUnderWay}
+use Rattle.answers.{specs.Delivery.IsUnderWay, proofs.Texts.array_more, proofs.Texts.flat_map_begins, proofs.Texts.lines_more}
 use Rattle.answers.proofs.Deliveries.{IsUnderWay-more, IsUnderWay-start, IsUnderWay-trans}
-use Rattle.answers.proofs.Texts.{array_more, flat_map_begins, lines_more}
-use Rattle.runs.specs.Outputs.{written_of}
+use Rattle.runs.specs.{Outputs.written_of, Steps.ArePlayed, Steps.answers_written}
 use Rattle.runs.specs.Playing.{is_refused, stock_after, stock_before, refused_at, end_text, last_line}
-use Rattle.runs.specs.Steps.{ArePlayed, answers_written}
 
 -- what holds of each command holds of the one at a place
 pub All-at : {X : Type 0} (P : X → Type 0) (xs : List X) (i : ℕ) (x : X) → All P xs → slice_get xs i ≡ Some x → P x
@@ -81,11 +73,7 @@ ArePlayed-more wanted geo commands k c array next_array stock next_stock old new
 pub ArePlayed-none : (wanted : Bool) (geo : Geometry) (commands : List Command) (array : List Sector) (stock : Stock) (old : Option (List ℕ))
     (waiting : List ℕ) → array ≡ after (sectors_of geo) [] → stock ≡ opening geo → waiting ≡ [] → ArePlayed wanted geo commands 0 array stock old old waiting
 ArePlayed-none wanted geo commands array stock old waiting array_is stock_is none =
-    record {
-      array_is = array_is;
-      stock_is = stock_is;
-      text = nothing wanted;
-    }
+    record { array_is = array_is; stock_is = stock_is; text = nothing wanted }
   where
     nothing : (w : Bool) → IsUnderWay old old waiting (answers_written w geo commands 0)
     nothing true = subst (λ w. IsUnderWay old old w []) (sym none) (IsUnderWay-start old [])

@@ -1,29 +1,17 @@
 -- How many writes are refused, by one command more.
-use Rattle.std.proofs.Common.{◌≡◌, ℕ, ◌+◌, ◌≤◌, Bool, true, false, List, [], ◌∷◌, ◌++◌, Option, None, Some, length, replicate}
-use Rattle.std.proofs.Common.{take, refl, sym, ap, ◌∙◌, zero-add, arith}
-use Rattle.std.specs.Prelude.{if◌then◌else◌, slice_get}
-use Rattle.std.specs.List.{filter, range_with_len}
-use Rattle.std.specs.Option.{option_map_or}
-use Rattle.std.proofs.lemmas.List.{length-append, length-replicate, length-take, take-replicate}
-use Rattle.std.proofs.lemmas.List.Elements.{filter-append}
-use Rattle.std.proofs.lemmas.List.FromFn.{length-range_with_len}
-use Rattle.std.proofs.lemmas.List.Sums.{count_by-le-length, length-filter}
+use Rattle.std.proofs.Common.{◌≡◌, ℕ, ◌+◌, ◌≤◌, Bool, true, false, List, [], ◌∷◌, ◌++◌, Option, None, Some, length, replicate, take, refl, sym, ap, ◌∙◌}
+use Rattle.std.proofs.{Common.zero-add, Common.arith, lemmas.List.Elements.filter-append, lemmas.List.FromFn.length-range_with_len}
+use Rattle.std.specs.{Prelude.if◌then◌else◌, Prelude.slice_get, List.filter, List.range_with_len, Option.option_map_or}
+use Rattle.std.proofs.lemmas.List.{length-append, length-replicate, length-take, take-replicate, Sums.count_by-le-length, Sums.length-filter}
 use mir.Val.{bool_byte}
 use Rattle.geometry.specs.declared.geometry.Geometry.{Geometry}
 use Rattle.ftl_one.specs.Stock.{Stock}
 use Rattle.trace.specs.declared.commands.Command.{Command}
 use Rattle.answers.proofs.Texts.{range_with_len_more}
-use Rattle.rounds.specs.Answers.{first_place}
-use Rattle.rounds.specs.Lines.{Said, is_full}
-use Rattle.rounds.specs.Merging.{answer_for, merge, next_of, rows_after}
-use Rattle.rounds.specs.Told.{Line}
-use Rattle.rounds.specs.declared.answer_list.Cursor.{Cursor}
-use Rattle.rounds.proofs.Merging.{merge-append}
-use Rattle.rounds.proofs.Planning.{commands_more}
-use Rattle.runs.specs.Playing.{is_refused, refused_at, stock_before}
-use Rattle.runs.specs.Refusals.{is_full_line, refused_before}
-use Rattle.runs.proofs.Deliveries.{length-merge}
-use Rattle.runs.proofs.Plays.{refused_is}
+use Rattle.rounds.specs.{Answers.first_place, Lines.Said, Lines.is_full, Merging.answer_for, Merging.merge, Merging.next_of, Merging.rows_after, Told.Line}
+use Rattle.rounds.{specs.declared.answer_list.Cursor.Cursor, proofs.Merging.merge-append, proofs.Planning.commands_more}
+use Rattle.runs.specs.{Playing.is_refused, Playing.refused_at, Playing.stock_before, Refusals.is_full_line, Refusals.refused_before}
+use Rattle.runs.proofs.{Deliveries.length-merge, Plays.refused_is}
 
 -- of a list and one more, as many pass a test as of the list, and perhaps one
 one_more : {X : Type 0} (p : X → Bool) (xs : List X) (x : X) → length (filter p (xs ++ x ∷ [])) ≡ length (filter p xs) + (if p x then 1 else 0)

@@ -1,24 +1,17 @@
 -- The next answer of each worker, where so many commands have theirs.
-use Rattle.std.proofs.Common.{◌≡◌, ℕ, ◌+◌, ◌*◌, ◌<◌, All, List, [], ◌∷◌, ◌++◌, Bool, true, false, Option, None, Some, zero, suc, length}
-use Rattle.std.proofs.Common.{replicate, get_or, take, drop, refl, sym, ap, ◌∙◌, subst, arith, eq-eqb, ne_eqb}
+use Rattle.std.proofs.Common.{◌≡◌, ℕ, ◌+◌, ◌*◌, ◌<◌, All, List, [], ◌∷◌, ◌++◌, Bool, true, false, Option, None, Some, zero, suc, length, replicate, get_or}
+use Rattle.std.proofs.Common.{take, drop, refl, sym, ap, ◌∙◌, subst, arith, eq-eqb, ne_eqb}
 use Rattle.std.specs.Prelude.{slice_get, slice_set, if◌then◌else◌, not, ◌&&◌, ◌==◌}
-use Rattle.std.proofs.lemmas.List.{get_or-map, get_or-replicate, get_or_default, get_or-set_same, get_or-set_other}
-use Rattle.std.proofs.lemmas.List.{length-append, length-map, length-replicate, length-set, take-append-drop}
+use Rattle.std.proofs.lemmas.List.{get_or-map, get_or-replicate, get_or_default, get_or-set_same, get_or-set_other, length-append, length-map, length-replicate}
+use Rattle.std.proofs.lemmas.{List.length-set, List.take-append-drop, List.Elements.filter-append, Option.slice_get_within}
 use Rattle.std.proofs.Math.Seq.{take-append_seam}
-use Rattle.std.proofs.lemmas.List.Elements.{filter-append}
-use Rattle.std.proofs.lemmas.Option.{slice_get_within}
 use mathlib.Core.Logic.{dite}
 use native.Mathlib.Decide.{ℕ_discrete}
 use Rattle.trace.specs.declared.commands.Command.{Command}
-use Rattle.rounds.specs.Lines.{Said}
+use Rattle.rounds.specs.{Lines.Said, Rows.answers_by, Answers.first_place, Answers.page_size_of, Answers.place_of, Answers.said_in, Answers.IsCursorOf}
 use Rattle.rounds.specs.Merging.{is_meet, is_line_of, line_count, lines_for, next_of, rows_after, HaveAnswers}
-use Rattle.rounds.proofs.Merging.{own_line}
-use Rattle.rounds.proofs.Planning.{at_place, commands_more}
-use Rattle.rounds.specs.Rows.{answers_by}
-use Rattle.rounds.specs.Answers.{first_place, page_size_of, place_of, said_in, IsCursorOf}
-use Rattle.rounds.specs.declared.answer_list.Answers.{Answers}
-use Rattle.rounds.specs.declared.answer_list.Cursor.{Cursor}
-use Rattle.rounds.proofs.Pages.{said_whole}
+use Rattle.rounds.proofs.{Merging.own_line, Planning.at_place, Planning.commands_more, Pages.said_whole}
+use Rattle.rounds.specs.declared.answer_list.{Answers.Answers, Cursor.Cursor}
 use Rattle.runs.specs.Delivering.{AreAt, HasDigits, passed_in}
 
 -- the row of a worker

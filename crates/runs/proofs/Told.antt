@@ -1,29 +1,16 @@
 -- What a run's answers are for a delivery: one for each line, with a whole page where one is told.
-use Rattle.std.proofs.Common.{◌≡◌, ℕ, ◌*◌, ◌<◌, ◌≤◌, suc, Bool, true, false, List, [], ◌∷◌, ◌++◌, Option, None}
-use Rattle.std.proofs.Common.{Some, length, get_or, refl, sym, ap, subst, arith, ne_eqb}
-use Rattle.std.specs.Prelude.{All, IfSome, Ok, if◌then◌else◌, not, ◌&&◌, ◌==◌}
-use Rattle.std.specs.Io.KnownBytes.{Appends}
-use Rattle.std.proofs.lemmas.List.Elements.{All-head, All-tail, All-weaker}
+use Rattle.std.proofs.Common.{◌≡◌, ℕ, ◌*◌, ◌<◌, ◌≤◌, suc, Bool, true, false, List, [], ◌∷◌, ◌++◌, Option, None, Some, length, get_or, refl, sym, ap, subst}
+use Rattle.std.proofs.{Common.arith, Common.ne_eqb, lemmas.List.Elements.All-head, lemmas.List.Elements.All-tail, lemmas.List.Elements.All-weaker}
+use Rattle.std.specs.{Prelude.All, Prelude.IfSome, Prelude.Ok, Prelude.if◌then◌else◌, Prelude.not, Prelude.◌&&◌, Prelude.◌==◌, Io.KnownBytes.Appends}
 use mathlib.Core.Logic.{dite}
 use native.Mathlib.Decide.{dec_lt}
-use Rattle.geometry.specs.Geometry.{hosts_of, page_bytes_of, sectors_of}
-use Rattle.geometry.specs.History.{Call}
-use Rattle.geometry.specs.declared.geometry.Geometry.{Geometry}
-use Rattle.trace.specs.Trace.{commands_of}
-use Rattle.trace.specs.declared.commands.Command.{Command}
-use Rattle.answers.specs.Delivery.{AppendsBeginning, AppendsPart, AppendsText}
-use Rattle.answers.specs.Playable.{IsPlayable}
-use Rattle.rounds.specs.Playing.{Plays}
-use Rattle.rounds.specs.Lines.{Said, calls_made}
-use Rattle.rounds.specs.Merging.{is_meet, line_count, lines_for, merge, HaveAnswers}
-use Rattle.rounds.specs.Answers.{page_size_of}
-use Rattle.rounds.specs.declared.answer_list.Answers.{Answers}
-use Rattle.rounds.specs.Rows.{answers_by}
-use Rattle.rounds.specs.Texts.{lines_text}
-use Rattle.runs.specs.Delivering.{text_of}
+use Rattle.geometry.specs.{Geometry.hosts_of, Geometry.page_bytes_of, Geometry.sectors_of, History.Call, declared.geometry.Geometry.Geometry}
+use Rattle.trace.specs.{Trace.commands_of, declared.commands.Command.Command}
+use Rattle.answers.specs.{Delivery.AppendsBeginning, Delivery.AppendsPart, Delivery.AppendsText, Playable.IsPlayable}
+use Rattle.rounds.specs.{Playing.Plays, Lines.Said, Lines.calls_made, Answers.page_size_of, declared.answer_list.Answers.Answers, Rows.answers_by}
+use Rattle.rounds.specs.{Merging.is_meet, Merging.line_count, Merging.lines_for, Merging.merge, Merging.HaveAnswers, Texts.lines_text}
+use Rattle.runs.specs.{Delivering.text_of, Outputs.IsOutputByWorkers, Outputs.written_by_workers, Texts.IsTextOf}
 use Rattle.workers.specs.Commands.{ArePlayed}
-use Rattle.runs.specs.Outputs.{IsOutputByWorkers, written_by_workers}
-use Rattle.runs.specs.Texts.{IsTextOf}
 
 -- each line that was played has one answer
 plays_long : (n t : ℕ) (seen : List Call) (lines : List Command) (answers : List Said) (last : List Call) → Plays n t seen lines answers last

@@ -3,10 +3,8 @@ use Rattle.std.proofs.Common.{◌≡◌, ℕ, ◌+◌, ◌-◌, ◌≤◌, List,
 use Rattle.std.specs.List.{flat_map, range_with_len}
 use Rattle.geometry.specs.History.{Begins}
 use Rattle.ftl_one.specs.Stock.{Stock}
-use Rattle.answers.specs.Answers.{wear_names}
-use Rattle.answers.specs.Delivery.{IsUnderWay}
-use Rattle.answers.proofs.Deliveries.{IsUnderWay-more, IsUnderWay-trans}
-use Rattle.answers.proofs.Texts.{flat_map_begins, flat_map_more}
+use Rattle.answers.specs.{Answers.wear_names, Delivery.IsUnderWay}
+use Rattle.answers.proofs.{Deliveries.IsUnderWay-more, Deliveries.IsUnderWay-trans, Texts.flat_map_begins, Texts.flat_map_more}
 use Rattle.runs.specs.Wear.{block_line, wear_before}
 
 pub wear_more : (stock : Stock) (n : ℕ) → wear_before stock n ++ block_line stock n ≡ wear_before stock (n + 1)

@@ -1,15 +1,10 @@
 -- The log of a run by workers: what each broom has done.
 use Rattle.std.specs.Prelude.{◌≡◌, ℕ, List, [], ◌++◌, length, slice_get, Ok}
-use Rattle.std.specs.Option.{option_map_or}
-use Rattle.std.specs.List.{flat_map, range_with_len}
+use Rattle.std.specs.{Option.option_map_or, List.flat_map, List.range_with_len}
 use Rattle.geometry.specs.declared.geometry.Geometry.{Geometry}
-use Rattle.trace.specs.Trace.{commands_of}
-use Rattle.trace.specs.declared.commands.Command.{Command}
-use Rattle.answers.specs.Answers.{broom_line, broom_names}
-use Rattle.answers.specs.declared.broom_line.BroomLine.{BroomLine}
-use Rattle.workers.specs.Served.{AllHaveServed}
-use Rattle.workers.specs.declared.collector_end.CollectorEnd.{CollectorEnd}
-use Rattle.workers.specs.declared.tally.Tally.{Tally}
+use Rattle.trace.specs.{Trace.commands_of, declared.commands.Command.Command}
+use Rattle.answers.specs.{Answers.broom_line, Answers.broom_names, declared.broom_line.BroomLine.BroomLine}
+use Rattle.workers.specs.{Served.AllHaveServed, declared.collector_end.CollectorEnd.CollectorEnd, declared.tally.Tally.Tally}
 
 -- what a line has for a broom: its number, and each of its counts
 abbrev pub counts_of : ℕ → Tally → BroomLine

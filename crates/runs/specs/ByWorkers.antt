@@ -1,20 +1,11 @@
 -- What a run by workers has played, and what it has written of that.
-use Rattle.std.specs.Prelude.{◌≡◌, ◌≤◌, ℕ, List, IfSome, Ok, length}
-use Rattle.std.specs.Arc.{arc_value}
-use Rattle.geometry.specs.Geometry.{hosts_of}
-use Rattle.geometry.specs.declared.geometry.Geometry.{Geometry}
-use Rattle.trace.specs.Trace.{commands_of}
-use Rattle.trace.specs.declared.commands.Command.{Command}
+use Rattle.std.specs.{Prelude.◌≡◌, Prelude.◌≤◌, Prelude.ℕ, Prelude.List, Prelude.IfSome, Prelude.Ok, Prelude.length, Arc.arc_value}
+use Rattle.geometry.specs.{Geometry.hosts_of, declared.geometry.Geometry.Geometry}
+use Rattle.trace.specs.{Trace.commands_of, declared.commands.Command.Command}
 use Rattle.answers.specs.Streams.{Passage, Sends, Stream}
-use Rattle.rounds.specs.Lines.{Said}
-use Rattle.rounds.specs.Merging.{HaveAnswers}
-use Rattle.rounds.specs.Rows.{answers_by}
-use Rattle.workers.specs.Commands.{ArePlayed}
-use Rattle.workers.specs.Served.{AllHaveServed}
-use Rattle.runs.specs.Brooms.{brooms_text}
-use Rattle.runs.specs.Files.{EndsText}
-use Rattle.runs.specs.Outputs.{written_by_workers}
-use Rattle.runs.specs.declared.files.RunOptions.{RunOptions}
+use Rattle.rounds.specs.{Lines.Said, Merging.HaveAnswers, Rows.answers_by}
+use Rattle.workers.specs.{Commands.ArePlayed, Served.AllHaveServed}
+use Rattle.runs.specs.{Brooms.brooms_text, Files.EndsText, Outputs.written_by_workers, declared.files.RunOptions.RunOptions}
 use Rattle.runs.specs.declared.played_by_workers.PlayedByWorkers.{PlayedByWorkers}
 
 -- the commands that a run has played

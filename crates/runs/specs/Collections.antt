@@ -1,12 +1,9 @@
 -- The collections of a run by one thread, and the log that lists them.
 use Rattle.std.specs.Prelude.{◌≡◌, ℕ, ◌+◌, List, [], ◌++◌, length, Option, Ok}
-use Rattle.std.specs.Option.{option_map_or}
-use Rattle.std.specs.List.{flat_map, range_with_len}
+use Rattle.std.specs.{Option.option_map_or, List.flat_map, List.range_with_len}
 use Rattle.geometry.specs.declared.geometry.Geometry.{Geometry}
-use Rattle.ftl_one.specs.Collections.{collection_between}
-use Rattle.ftl_one.specs.declared.collection.Collection.{Collection}
-use Rattle.trace.specs.Trace.{commands_of}
-use Rattle.trace.specs.declared.commands.Command.{Command}
+use Rattle.ftl_one.specs.{Collections.collection_between, declared.collection.Collection.Collection}
+use Rattle.trace.specs.{Trace.commands_of, declared.commands.Command.Command}
 use Rattle.answers.specs.Answers.{collection_line, collection_names}
 use Rattle.runs.specs.Playing.{stock_before}
 

@@ -2,16 +2,10 @@
 use Rattle.std.specs.Borrow.{Bor}
 use Rattle.std.specs.Prelude.{◌≡◌, ℕ, ◌+◌, ◌*◌, ◌<◌, List, ◌++◌, Option, None, if◌then◌else◌, length, map, slice_get, slice_index_or, slice_set, vec_len}
 use Rattle.trace.specs.declared.commands.Command.{Command}
-use Rattle.answers.specs.Answers.{end_text, line_text}
-use Rattle.answers.specs.Lines.{page_digits_of}
-use Rattle.rounds.specs.Lines.{Said}
-use Rattle.rounds.specs.Answers.{place_of, IsCursorOf}
-use Rattle.rounds.specs.declared.answer.Kind.{Kind}
+use Rattle.answers.specs.{Answers.end_text, Answers.line_text, Lines.page_digits_of}
+use Rattle.rounds.specs.{Lines.Said, Answers.place_of, Answers.IsCursorOf, declared.answer.Kind.Kind, declared.answer_list.Answers.Answers}
+use Rattle.rounds.specs.{declared.answer_list.Cursor.Cursor, Merging.answer_for, Merging.is_meet, Merging.merge, Texts.answer_text, Texts.lines_text}
 use Rattle.rounds.specs.declared.answer.Kind.TheVariants as kind
-use Rattle.rounds.specs.declared.answer_list.Answers.{Answers}
-use Rattle.rounds.specs.declared.answer_list.Cursor.{Cursor}
-use Rattle.rounds.specs.Merging.{answer_for, is_meet, merge}
-use Rattle.rounds.specs.Texts.{answer_text, lines_text}
 use Rattle.runs.specs.declared.delivery.Delivery.{Delivery}
 
 -- the whole text: the lines of all commands, each with its answer, and the last line
@@ -44,8 +38,7 @@ HasDigits n answer = answer.kind ≡ kind.Page → n ≡ 2 * length answer.page
 
 -- the next answer of a command's worker, from each worker's answers and the indexes of the next ones; a meeting has none of its own
 abbrev pub next_of : (ℕ → List Said) → List ℕ → Command → Option Said
-next_of rows next command =
-    if is_meet command.op then None else slice_get (rows command.worker) (slice_index_or next command.worker 0)
+next_of rows next command = if is_meet command.op then None else slice_get (rows command.worker) (slice_index_or next command.worker 0)
 
 -- the indexes of the next answers after that answer was used
 abbrev pub passed : List ℕ → Command → List ℕ

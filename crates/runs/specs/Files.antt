@@ -2,8 +2,7 @@
 use Rattle.std.specs.Prelude.{◌≡◌, ◌≢◌, ℕ, Bool, true, false, List, Result, Ok, Err}
 use Rattle.geometry.specs.declared.geometry.Geometry.{Geometry}
 use Rattle.answers.specs.Streams.{Passage, SendsBeginning, Stream, Tells, TellsPart, WritesOut}
-use Rattle.answers.specs.declared.delivery.OutputFailed.{OutputFailed}
-use Rattle.answers.specs.declared.fault.RunFault.{RunFault}
+use Rattle.answers.specs.declared.{delivery.OutputFailed.OutputFailed, fault.RunFault.RunFault}
 use Rattle.answers.specs.declared.fault.RunFault.TheVariants as run
 use Rattle.runs.specs.Collections.{IsLogOf}
 
@@ -33,7 +32,5 @@ LeavesFile false IsTextOf input file = file.after ≡ file.before
 
 -- what a run that stopped leaves in the file of its log: a beginning of the log if the answers could not be written, and otherwise nothing
 abbrev pub LeavesLog : RunFault → Bool → Geometry → Stream → Passage → Type 0
-LeavesLog (run.Trace found) wanted geo input file = file.after ≡ file.before
-LeavesLog run.Memory wanted geo input file = file.after ≡ file.before
-LeavesLog run.Threads wanted geo input file = file.after ≡ file.before
 LeavesLog run.Output wanted geo input file = LeavesFile wanted (IsLogOf geo) input file
+LeavesLog _ _ _ _ file = file.after ≡ file.before

@@ -1,22 +1,17 @@
 -- The log of collections while a run is played.
 use Rattle.std.specs.Prelude.{◌≡◌, ◌≢◌, ⊤, ℕ, Bool, true, false, List, IfSome, Option, None}
 use Rattle.geometry.specs.declared.geometry.Geometry.{Geometry}
-use Rattle.ftl_one.specs.Collections.{collection_due}
-use Rattle.ftl_one.specs.Stock.{Stock}
-use Rattle.ftl_one.specs.declared.collection.Collection.{Collection}
+use Rattle.ftl_one.specs.{Collections.collection_due, Stock.Stock, declared.collection.Collection.Collection}
 use Rattle.trace.specs.declared.commands.Op.{Op}
 use Rattle.trace.specs.declared.commands.Op.TheVariants as op
-use Rattle.answers.specs.Lines.{waiting_of}
-use Rattle.answers.specs.Streams.{Moves, Passage, SendsBeginning, Stream}
-use Rattle.runs.specs.Collections.{IsLogOf}
-use Rattle.runs.specs.declared.log.Log.{Log}
+use Rattle.answers.specs.{Lines.waiting_of, Streams.Moves, Streams.Passage, Streams.SendsBeginning, Streams.Stream}
+use Rattle.runs.specs.{Collections.IsLogOf, declared.log.Log.Log}
 use Rattle.runs.specs.declared.log.Log.TheVariants as log
 
 -- whether a log is wanted
 abbrev pub is_wanted : Log → Bool
 is_wanted log.Unwanted = false
-is_wanted (log.Open lines) = true
-is_wanted log.Failed = true
+is_wanted _ = true
 
 -- its file still takes lines
 abbrev pub IsOpen : Log → Type 0
@@ -32,11 +27,9 @@ IsLogged log.Failed file text = (file.after.failures ≢ file.before.failures) �
 
 -- the collection that a command may make: the one that is needed before a page is programmed, if the command may program a page
 abbrev pub due_by : Op → Geometry → Stock → Option Collection
-due_by op.Read geo stock = None
 due_by op.Write geo stock = collection_due geo stock
 due_by op.New geo stock = collection_due geo stock
-due_by op.Trim geo stock = None
-due_by op.Meet geo stock = None
+due_by _ _ _ = None
 
 -- the text of a log is right for the bytes of the trace, and this much of it was written
 pub record IsLogUnderWay (geo : Geometry) (input : Stream) (state : Log) (file : Passage) : Type 0 where

@@ -1,13 +1,10 @@
 -- What a run writes to its output: the whole text, or without the answers only its last line.
 use Rattle.std.specs.Prelude.{◌≡◌, ℕ, Bool, true, false, List, ◌++◌, Ok}
 use Rattle.geometry.specs.declared.geometry.Geometry.{Geometry}
-use Rattle.trace.specs.Trace.{commands_of}
-use Rattle.trace.specs.declared.commands.Command.{Command}
+use Rattle.trace.specs.{Trace.commands_of, declared.commands.Command.Command}
 use Rattle.answers.specs.Answers.{end_text}
 use Rattle.rounds.specs.Lines.{Said}
-use Rattle.runs.specs.Delivering.{text_of}
-use Rattle.runs.specs.Playing.{IsTextOf, last_line, text_of_commands}
-use Rattle.runs.specs.Texts.{IsTextOf as IsSharedTextOf}
+use Rattle.runs.specs.{Delivering.text_of, Playing.IsTextOf, Playing.last_line, Playing.text_of_commands, Texts.IsTextOf as IsSharedTextOf}
 
 -- what a run by one thread writes of the text of its commands: all of it, or if the answers aren't wanted only the last line
 abbrev pub written_of : Bool → Geometry → List Command → List ℕ

@@ -1,16 +1,9 @@
 -- The whole text of a run with one thread.
 use Rattle.std.specs.Prelude.{◌≡◌, ℕ, Bool, false, List, ◌++◌, length, take, codes, is_none, slice_get, unwrap_or, Ok}
-use Rattle.std.specs.Option.{option_map_or}
-use Rattle.std.specs.List.{fold}
-use Rattle.geometry.specs.Geometry.{sectors_of}
-use Rattle.geometry.specs.History.{Call}
-use Rattle.geometry.specs.Sectors.{sector_at}
-use Rattle.geometry.specs.declared.geometry.Geometry.{Geometry}
-use Rattle.ftl_one.specs.OneFtl.{geometry_of, stock_of, array_of}
-use Rattle.ftl_one.specs.Stock.{Stock, opening, next}
-use Rattle.ftl_one.specs.declared.one_ftl.OneFtl.{OneFtl}
-use Rattle.trace.specs.Trace.{commands_of}
-use Rattle.trace.specs.declared.commands.Command.{Command}
+use Rattle.std.specs.{Option.option_map_or, List.fold}
+use Rattle.geometry.specs.{Geometry.sectors_of, History.Call, Sectors.sector_at, declared.geometry.Geometry.Geometry}
+use Rattle.ftl_one.specs.{OneFtl.geometry_of, OneFtl.stock_of, OneFtl.array_of, Stock.Stock, Stock.opening, Stock.next, declared.one_ftl.OneFtl.OneFtl}
+use Rattle.trace.specs.{Trace.commands_of, declared.commands.Command.Command}
 use Rattle.answers.specs.Answers.{answer_of, answers, call_of, line_text, totals_text}
 
 -- whether a call is refused at a stock
@@ -55,8 +48,7 @@ last_line geo commands = end_text (stock_before geo commands (length commands))
 
 -- the whole text of a run: the answers of all commands, and the last line
 abbrev pub text_of_commands : Geometry → List Command → List ℕ
-text_of_commands geo commands =
-    answers (codes "worn") (sectors_of geo) (refused_at geo commands) commands ++ last_line geo commands
+text_of_commands geo commands = answers (codes "worn") (sectors_of geo) (refused_at geo commands) commands ++ last_line geo commands
 
 -- the text of the commands that these bytes mean
 pub record IsTextOf (geo : Geometry) (bytes text : List ℕ) : Type 0 where

@@ -1,12 +1,8 @@
 -- The writes that a run refuses, by how many there are.
-use Rattle.std.specs.Prelude.{◌≡◌, ℕ, Bool, List, length, Ok}
-use Rattle.std.specs.List.{filter, range_with_len}
+use Rattle.std.specs.{Prelude.◌≡◌, Prelude.ℕ, Prelude.Bool, Prelude.List, Prelude.length, Prelude.Ok, List.filter, List.range_with_len}
 use Rattle.geometry.specs.declared.geometry.Geometry.{Geometry}
-use Rattle.trace.specs.Trace.{commands_of}
-use Rattle.trace.specs.declared.commands.Command.{Command}
-use Rattle.rounds.specs.Lines.{Said, is_full}
-use Rattle.rounds.specs.Merging.{merge}
-use Rattle.rounds.specs.Told.{Line}
+use Rattle.trace.specs.{Trace.commands_of, declared.commands.Command.Command}
+use Rattle.rounds.specs.{Lines.Said, Lines.is_full, Merging.merge, Told.Line}
 use Rattle.runs.specs.Playing.{refused_at}
 
 -- how many of the first commands a run by one thread refuses

@@ -1,13 +1,9 @@
 -- A run while it is played.
 use Rattle.std.specs.Prelude.{◌≡◌, ℕ, Bool, true, false, List, [], codes, Option}
-use Rattle.geometry.specs.Geometry.{sectors_of}
-use Rattle.geometry.specs.History.{after}
-use Rattle.geometry.specs.Sectors.{Sector}
-use Rattle.geometry.specs.declared.geometry.Geometry.{Geometry}
+use Rattle.geometry.specs.{Geometry.sectors_of, History.after, Sectors.Sector, declared.geometry.Geometry.Geometry}
 use Rattle.ftl_one.specs.Stock.{Stock}
 use Rattle.trace.specs.declared.commands.Command.{Command}
-use Rattle.answers.specs.Answers.{history_before, lines_before}
-use Rattle.answers.specs.Delivery.{IsUnderWay}
+use Rattle.answers.specs.{Answers.history_before, Answers.lines_before, Delivery.IsUnderWay}
 use Rattle.runs.specs.Playing.{refused_at, stock_before}
 
 -- the answers of the first n commands, if they are written

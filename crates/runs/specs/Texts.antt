@@ -1,14 +1,9 @@
 -- The whole text of a run by several workers.
 use Rattle.std.specs.Prelude.{◌≡◌, ℕ, List, ◌++◌, Ok}
-use Rattle.geometry.specs.Geometry.{hosts_of, sectors_of}
-use Rattle.geometry.specs.declared.geometry.Geometry.{Geometry}
-use Rattle.trace.specs.Trace.{commands_of}
-use Rattle.trace.specs.declared.commands.Command.{Command}
+use Rattle.geometry.specs.{Geometry.hosts_of, Geometry.sectors_of, declared.geometry.Geometry.Geometry}
+use Rattle.trace.specs.{Trace.commands_of, declared.commands.Command.Command}
 use Rattle.answers.specs.Answers.{end_text}
-use Rattle.rounds.specs.Lines.{Said}
-use Rattle.rounds.specs.Merging.{IsDisjointTrace}
-use Rattle.rounds.specs.Rows.{AreAtOneHistory}
-use Rattle.rounds.specs.Texts.{IsTextOfSome}
+use Rattle.rounds.specs.{Lines.Said, Merging.IsDisjointTrace, Rows.AreAtOneHistory, Texts.IsTextOfSome}
 use Rattle.runs.specs.Delivering.{text_of}
 
 -- the text is the answers of the commands, with the writes turned away at some set of lines, and the last line

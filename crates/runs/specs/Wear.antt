@@ -1,12 +1,8 @@
 -- What a run reports of the wear of its device.
-use Rattle.std.specs.Prelude.{◌≡◌, ℕ, List, ◌++◌, length, Ok}
-use Rattle.std.specs.List.{flat_map, range_with_len}
-use Rattle.geometry.specs.Geometry.{blocks_of}
-use Rattle.geometry.specs.declared.geometry.Geometry.{Geometry}
-use Rattle.ftl_one.specs.Laws.{block_at}
-use Rattle.ftl_one.specs.Stock.{Stock, is_retired, live_of}
-use Rattle.trace.specs.Trace.{commands_of}
-use Rattle.trace.specs.declared.commands.Command.{Command}
+use Rattle.std.specs.{Prelude.◌≡◌, Prelude.ℕ, Prelude.List, Prelude.◌++◌, Prelude.length, Prelude.Ok, List.flat_map, List.range_with_len}
+use Rattle.geometry.specs.{Geometry.blocks_of, declared.geometry.Geometry.Geometry}
+use Rattle.ftl_one.specs.{Laws.block_at, Stock.Stock, Stock.is_retired, Stock.live_of}
+use Rattle.trace.specs.{Trace.commands_of, declared.commands.Command.Command}
 use Rattle.answers.specs.Answers.{wear_line, wear_names}
 use Rattle.runs.specs.Playing.{stock_before}
 

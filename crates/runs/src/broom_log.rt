@@ -1,9 +1,7 @@
 //! The log of a run by workers: what each broom has done.
 ghost use Rattle.std.specs.Prelude.{◌≡◌, [], IfOk, IfSome, is_some};
-ghost use Rattle.answers.specs.Lines.{waiting_of};
-ghost use Rattle.answers.specs.Streams.{WritesOut, over};
-ghost use Rattle.runs.specs.Brooms.{brooms_text, counts_of};
-ghost use Rattle.runs.specs.Files.{EndsText};
+ghost use Rattle.answers.specs.{Lines.waiting_of, Streams.WritesOut, Streams.over};
+ghost use Rattle.runs.specs.{Brooms.brooms_text, Brooms.counts_of, Files.EndsText};
 
 use answers::{BroomLine, Lines, OutputFailed};
 use geometry::Geometry;

@@ -1,19 +1,11 @@
-ghost use Rattle.std.specs.Prelude.{◌≡◌, ℕ, List, Some, ◌+◌, ◌*◌, ◌<◌, ◌≤◌, false, All, None, [], ◌++◌};
-ghost use Rattle.std.specs.Prelude.{length, option_map, slice_index_or, IfOk};
+ghost use Rattle.std.specs.Prelude.{◌≡◌, ℕ, List, Some, ◌+◌, ◌*◌, ◌<◌, ◌≤◌, false, All, None, [], ◌++◌, length, option_map, slice_index_or, IfOk};
 ghost use Rattle.geometry.specs.Geometry.{hosts_of, page_bytes_of};
 ghost use Rattle.hex.specs.Hex.{encode_lower};
-ghost use Rattle.answers.specs.Answers.{end_text};
-ghost use Rattle.answers.specs.Lines.{page_digits_of, waiting_of};
-ghost use Rattle.answers.specs.Replies.{reply_text};
-ghost use Rattle.answers.specs.declared.line.TheConstants.{PIECE_BYTES};
-ghost use Rattle.answers.specs.declared.reply.Reply.TheVariants as replies;
+ghost use Rattle.answers.specs.{Answers.end_text, Lines.page_digits_of, Lines.waiting_of, Replies.reply_text, declared.line.TheConstants.PIECE_BYTES};
 ghost use Rattle.answers.specs.Streams.{WritesOut, over};
-ghost use Rattle.rounds.specs.Answers.{page_size_of};
-ghost use Rattle.rounds.specs.Lines.{Said};
+ghost use Rattle.answers.specs.declared.reply.Reply.TheVariants as replies;
+ghost use Rattle.rounds.specs.{Answers.page_size_of, Lines.Said, Merging.is_meet, Merging.HaveAnswers, Texts.answer_text, Rows.answers_by};
 ghost use Rattle.rounds.specs.declared.answer.Kind.TheVariants as kinds;
-ghost use Rattle.rounds.specs.Merging.{is_meet, HaveAnswers};
-ghost use Rattle.rounds.specs.Texts.{answer_text};
-ghost use Rattle.rounds.specs.Rows.{answers_by};
 ghost use Rattle.runs.specs.Delivering.{AreAt, HasDigits, digits_in, line_of, next_of, passed, passed_in, said_as, text_of, workers_in};
 ghost use Rattle.runs.specs.Outputs.{written_by_workers};
 

@@ -1,18 +1,13 @@
 ghost use Rattle.std.specs.Prelude.{◌≡◌, ◌≢◌, ◌+◌, ◌*◌, ◌<◌, ◌≤◌, [], ◌++◌, length, vec_len, if◌then◌else◌, IfOk, OnOk, OnErr};
 ghost use Rattle.std.specs.List.{fold};
-ghost use Rattle.geometry.specs.Geometry.{blocks_of, page_bytes_of, sectors_of};
-ghost use Rattle.geometry.specs.History.{step};
-ghost use Rattle.geometry.specs.Sectors.{sector_at};
+ghost use Rattle.geometry.specs.{Geometry.blocks_of, Geometry.page_bytes_of, Geometry.sectors_of, History.step, Sectors.sector_at};
 ghost use Rattle.ftl_one.specs.OneFtl.{geometry_of, array_of, stock_of};
 ghost use Rattle.trace.specs.Watched.{failures_of};
 ghost use Rattle.trace.specs.declared.commands.Op.TheVariants as ops;
-ghost use Rattle.answers.specs.Answers.{calls_of, found_text, line_text, wear_names};
-ghost use Rattle.answers.specs.Lines.{page_digits_of, waiting_of};
-ghost use Rattle.answers.specs.Playable.{IsPlayable};
-ghost use Rattle.answers.specs.declared.line.TheConstants.{PIECE_BYTES};
+ghost use Rattle.answers.specs.{Answers.calls_of, Answers.found_text, Answers.line_text, Answers.wear_names, Lines.page_digits_of, Lines.waiting_of};
+ghost use Rattle.answers.specs.{Playable.IsPlayable, declared.line.TheConstants.PIECE_BYTES};
 ghost use Rattle.answers.specs.Streams.{Moves, SendsBeginning, WritesOut, over};
-ghost use Rattle.runs.specs.Playing.{end_text, is_refused, line_by, stock_after};
-ghost use Rattle.runs.specs.Wear.{block_line};
+ghost use Rattle.runs.specs.{Playing.end_text, Playing.is_refused, Playing.line_by, Playing.stock_after, Wear.block_line};
 
 use crate::perform::perform;
 use answers::{Lines, OutputFailed, Reply};

@@ -1,10 +1,7 @@
-ghost use Rattle.std.specs.Prelude.{◌≡◌, [], ◌++◌, List, ℕ, IfOk, false, true, Bool};
+ghost use Rattle.std.specs.Prelude.{◌≡◌, [], ◌++◌, List, ℕ, IfOk};
 ghost use Rattle.ftl_one.specs.OneFtl.{geometry_of, stock_of};
-ghost use Rattle.answers.specs.Answers.{collection_names};
-ghost use Rattle.answers.specs.Streams.{Stream, stream_of};
-ghost use Rattle.runs.specs.Collections.{log_part};
-ghost use Rattle.runs.specs.Files.{EndsText};
-ghost use Rattle.runs.specs.Logs.{IsLogged, IsOpen, due_by, is_wanted};
+ghost use Rattle.answers.specs.{Answers.collection_names, Streams.Stream, Streams.stream_of};
+ghost use Rattle.runs.specs.{Collections.log_part, Files.EndsText, Logs.IsLogged, Logs.IsOpen, Logs.due_by, Logs.is_wanted};
 
 use answers::{Lines, OutputFailed};
 use ftl_one::{Collection, OneFtl};
@@ -51,7 +48,7 @@ impl Log {
     /// Records the collection that was made for a line of the trace.
     pub fn tell<V: Write>(&mut self, line: u64, made: Option<Collection>, file: &mut Watched<V>)
         ensures wanted { is_wanted self.new ≡ is_wanted self.old }
-        ensures told { (before : Stream) → (text : List ℕ) → (more : List ℕ) → (IsOpen self.old → more ≡ log_part line made)
+        ensures logged { (before : Stream) → (text : List ℕ) → (more : List ℕ) → (IsOpen self.old → more ≡ log_part line made)
             → IsLogged self.old (record { before = before; after = stream_of V.contents file.old }) text
             → IsLogged self.new (record { before = before; after = stream_of V.contents file.new }) (text ++ more) }
     {

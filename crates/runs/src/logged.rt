@@ -1,17 +1,10 @@
-ghost use Rattle.std.specs.Prelude.{◌≡◌, ◌+◌, ◌*◌, ◌<◌, ◌≤◌, [], ◌++◌, ℕ, List, if◌then◌else◌, length, nat_lt, vec_len, None};
+ghost use Rattle.std.specs.Prelude.{◌≡◌, ◌+◌, ◌<◌, ◌≤◌, [], ◌++◌, ℕ, List, if◌then◌else◌, length, nat_lt, vec_len, None};
 ghost use Rattle.std.specs.List.{fold};
-ghost use Rattle.geometry.specs.Geometry.{page_bytes_of};
-ghost use Rattle.geometry.specs.History.{step};
-ghost use Rattle.ftl_one.specs.Collections.{collection_between};
-ghost use Rattle.ftl_one.specs.OneFtl.{geometry_of, array_of, stock_of};
-ghost use Rattle.answers.specs.Answers.{calls_of};
-ghost use Rattle.answers.specs.Lines.{waiting_of};
-ghost use Rattle.answers.specs.Playable.{IsPlayable};
-ghost use Rattle.answers.specs.Streams.{Stream, stream_of};
+ghost use Rattle.geometry.specs.{Geometry.page_bytes_of, History.step};
+ghost use Rattle.ftl_one.specs.{Collections.collection_between, OneFtl.geometry_of, OneFtl.array_of, OneFtl.stock_of};
+ghost use Rattle.answers.specs.{Answers.calls_of, Lines.waiting_of, Playable.IsPlayable, Streams.Stream, Streams.stream_of};
 ghost use Rattle.answers.specs.declared.line.TheConstants.{PIECE_BYTES};
-ghost use Rattle.runs.specs.Collections.{log_part};
-ghost use Rattle.runs.specs.Logs.{IsLogged, is_wanted};
-ghost use Rattle.runs.specs.Playing.{is_refused, line_by, stock_after};
+ghost use Rattle.runs.specs.{Collections.log_part, Logs.IsLogged, Logs.is_wanted, Playing.is_refused, Playing.line_by, Playing.stock_after};
 
 use crate::desk::Desk;
 use crate::log::Log;
@@ -41,7 +34,7 @@ pub fn answer_logged<V: Write>(
     ensures array { array_of ftl.new ≡ fold step (array_of ftl.old) (calls_of (is_refused (geometry_of ftl.old) (stock_of ftl.old) command.now) command.now) }
     ensures stock { stock_of ftl.new ≡ stock_after (geometry_of ftl.old) (stock_of ftl.old) command.now }
     ensures wanted { is_wanted log.new ≡ is_wanted log.old }
-    ensures told { (before : Stream) → (text : List ℕ)
+    ensures logged { (before : Stream) → (text : List ℕ)
         → IsLogged log.old (record { before = before; after = stream_of V.contents file.old }) text
         → IsLogged log.new (record { before = before; after = stream_of V.contents file.new })
         (text ++ log_part line (collection_between (geometry_of ftl.old) (stock_of ftl.old) (stock_of ftl.new))) }

@@ -2,13 +2,8 @@ ghost use Rattle.std.specs.Prelude.{◌≡◌, ◌+◌, ◌<◌, length, IfErr, 
 ghost use Rattle.std.specs.Io.KnownBytes.{IsAtEnd};
 ghost use Rattle.geometry.specs.Geometry.{brooms_of, hosts_of};
 ghost use Rattle.trace.specs.Watched.{failures_of, inner_of};
-ghost use Rattle.answers.specs.Outcome.{ExplainsRun};
-ghost use Rattle.answers.specs.Streams.{Tells, over, stream_of};
-ghost use Rattle.runs.specs.Brooms.{IsBroomLogOf};
-ghost use Rattle.runs.specs.ByWorkers.{WasPlayed};
-ghost use Rattle.runs.specs.Files.{EndsFile};
-ghost use Rattle.runs.specs.Outputs.{IsOutputByWorkers};
-ghost use Rattle.runs.specs.Texts.{IsTextOf};
+ghost use Rattle.answers.specs.{Outcome.ExplainsRun, Streams.Tells, Streams.over, Streams.stream_of};
+ghost use Rattle.runs.specs.{Brooms.IsBroomLogOf, ByWorkers.WasPlayed, Files.EndsFile, Outputs.IsOutputByWorkers, Texts.IsTextOf};
 
 use crate::broom_log::{log_room, tell_brooms_if};
 use crate::delivery::Delivery;

@@ -1,22 +1,13 @@
-ghost use Rattle.std.specs.Prelude.{◌≡◌, ◌≢◌, ℕ, ◌+◌, ◌*◌, ◌≤◌, ◌++◌, List, [], length, vec_len, All, IfErr, IfOk, IfSome, OnOk, OnErr, Err};
+ghost use Rattle.std.specs.Prelude.{◌≡◌, ◌+◌, [], length, vec_len, All, IfErr, IfOk, IfSome, OnOk, OnErr, Err};
 ghost use Rattle.std.specs.Io.KnownBytes.{IsAtEnd};
-ghost use Rattle.geometry.specs.Geometry.{hosts_of, page_bytes_of, sectors_of};
-ghost use Rattle.geometry.specs.History.{after};
-ghost use Rattle.ftl_one.specs.OneFtl.{geometry_of, array_of, stock_of};
-ghost use Rattle.ftl_one.specs.Stock.{opening};
+ghost use Rattle.geometry.specs.{Geometry.hosts_of, Geometry.page_bytes_of, Geometry.sectors_of, History.after};
+ghost use Rattle.ftl_one.specs.{OneFtl.geometry_of, OneFtl.array_of, OneFtl.stock_of, Stock.opening};
 ghost use Rattle.trace.specs.Watched.{failures_of, inner_of};
-ghost use Rattle.answers.specs.Answers.{collection_names};
-ghost use Rattle.answers.specs.Lines.{waiting_of};
-ghost use Rattle.answers.specs.Outcome.{ExplainsRun};
-ghost use Rattle.answers.specs.Playable.{IsPlayable};
+ghost use Rattle.answers.specs.{Answers.collection_names, Lines.waiting_of, Outcome.ExplainsRun, Playable.IsPlayable};
 ghost use Rattle.answers.specs.Streams.{Tells, WritesOut, over, stream_of};
-ghost use Rattle.runs.specs.Collections.{IsLogOf, log_text};
-ghost use Rattle.runs.specs.Files.{EndsFile, LeavesLog, LeavesText};
-ghost use Rattle.runs.specs.Logs.{IsLogUnderWay, IsLogged, is_wanted};
-ghost use Rattle.runs.specs.Outputs.{IsOutputOf, written_of};
-ghost use Rattle.runs.specs.Playing.{IsTextOf, stock_before};
+ghost use Rattle.runs.specs.{Collections.IsLogOf, Collections.log_text, Files.EndsFile, Files.LeavesLog, Files.LeavesText, Wear.IsStockOf, Wear.IsWearOf};
+ghost use Rattle.runs.specs.{Logs.IsLogUnderWay, Logs.IsLogged, Logs.is_wanted, Outputs.IsOutputOf, Outputs.written_of, Playing.IsTextOf, Playing.stock_before};
 ghost use Rattle.runs.specs.Refusals.{IsRefusedCount, refused_before};
-ghost use Rattle.runs.specs.Wear.{IsStockOf, IsWearOf};
 
 use crate::desk::Desk;
 use crate::files::{RunFiles, Wanted, Written};

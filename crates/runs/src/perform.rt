@@ -1,13 +1,9 @@
-ghost use Rattle.std.specs.Prelude.{◌≡◌, ◌≢◌, length};
-ghost use Rattle.std.specs.List.{fold};
-ghost use Rattle.geometry.specs.Geometry.{sectors_of, page_bytes_of};
-ghost use Rattle.geometry.specs.History.{step};
+ghost use Rattle.std.specs.{Prelude.◌≡◌, Prelude.◌≢◌, Prelude.length, List.fold};
+ghost use Rattle.geometry.specs.{Geometry.page_bytes_of, History.step};
 ghost use Rattle.ftl_one.specs.OneFtl.{geometry_of, array_of, stock_of};
 ghost use Rattle.hex.specs.Hex.{encode_lower};
 ghost use Rattle.trace.specs.declared.commands.Op.TheVariants as ops;
-ghost use Rattle.answers.specs.Answers.{calls_of};
-ghost use Rattle.answers.specs.Playable.{IsPlayable};
-ghost use Rattle.answers.specs.Replies.{is_worn_reply, reply_text};
+ghost use Rattle.answers.specs.{Answers.calls_of, Playable.IsPlayable, Replies.is_worn_reply, Replies.reply_text};
 ghost use Rattle.runs.specs.Playing.{answer_by, is_refused, stock_after};
 
 use answers::Reply;

@@ -1,13 +1,7 @@
 //! How many writes a run by workers refused.
-ghost use Rattle.std.specs.Prelude.{◌≡◌, false, length, option_map, replicate};
-ghost use Rattle.std.specs.Option.{option_map_or};
-ghost use Rattle.rounds.specs.Answers.{first_place};
-ghost use Rattle.rounds.specs.Lines.{Said, is_full};
-ghost use Rattle.rounds.specs.Merging.{HaveAnswers};
-ghost use Rattle.rounds.specs.Rows.{answers_by};
-ghost use Rattle.runs.specs.ByWorkers.{IsAnswered, answers_played, commands_played};
-ghost use Rattle.runs.specs.Delivering.{said_as};
-ghost use Rattle.runs.specs.Refusals.{refused_by_workers};
+ghost use Rattle.std.specs.{Prelude.◌≡◌, Prelude.false, Prelude.length, Prelude.option_map, Prelude.replicate, Option.option_map_or};
+ghost use Rattle.rounds.specs.{Answers.first_place, Lines.Said, Lines.is_full, Merging.HaveAnswers, Rows.answers_by};
+ghost use Rattle.runs.specs.{ByWorkers.IsAnswered, ByWorkers.answers_played, ByWorkers.commands_played, Delivering.said_as, Refusals.refused_by_workers};
 
 use crate::delivering::next_answer;
 use crate::played_by_workers::PlayedByWorkers;

@@ -1,9 +1,7 @@
 ghost use Rattle.std.specs.Prelude.{◌≡◌, []};
 ghost use Rattle.ftl_one.specs.OneFtl.{geometry_of, stock_of};
-ghost use Rattle.answers.specs.Lines.{waiting_of};
-ghost use Rattle.answers.specs.Streams.{WritesOut, over};
-ghost use Rattle.runs.specs.Files.{EndsText};
-ghost use Rattle.runs.specs.Wear.{wear_text};
+ghost use Rattle.answers.specs.{Lines.waiting_of, Streams.WritesOut, Streams.over};
+ghost use Rattle.runs.specs.{Files.EndsText, Wear.wear_text};
 
 use crate::desk::Desk;
 use crate::log::Log;

@@ -9,29 +9,21 @@ use std::test::Fail;
 use uses::NotStored;
 use workers::RoundFault;
 
-const OF_GEOMETRY: [(GeometryFault, &str); 9] = [
-    (GeometryFault::Luns, "Luns"),
-    (GeometryFault::Blocks, "Blocks"),
-    (GeometryFault::Pages, "Pages"),
-    (GeometryFault::Words, "Words"),
-    (GeometryFault::Sectors, "Sectors"),
-    (GeometryFault::Endurance, "Endurance"),
-    (GeometryFault::Passes, "Passes"),
-    (GeometryFault::TooManyWords, "TooManyWords"),
-    (GeometryFault::TooFewBlocks, "TooFewBlocks"),
+// Faults of a kind, each with its text.
+macro_rules! texts {
+    ($kind:ident: $($fault:ident prints $text:literal),* $(,)?) => {
+        [$(($kind::$fault, $text)),*]
+    };
+}
+
+const OF_GEOMETRY: [(GeometryFault, &str); 9] = texts![
+    GeometryFault: Luns prints "Luns", Blocks prints "Blocks", Pages prints "Pages", Words prints "Words", Sectors prints "Sectors",
+    Endurance prints "Endurance", Passes prints "Passes", TooManyWords prints "TooManyWords", TooFewBlocks prints "TooFewBlocks",
 ];
 
-const OF_TRACES: [(TraceFaultKind, &str); 10] = [
-    (TraceFaultKind::Fields, "Fields"),
-    (TraceFaultKind::Worker, "Worker"),
-    (TraceFaultKind::Op, "Op"),
-    (TraceFaultKind::Sector, "Sector"),
-    (TraceFaultKind::Hex, "Hex"),
-    (TraceFaultKind::TooLong, "TooLong"),
-    (TraceFaultKind::Unused, "Unused"),
-    (TraceFaultKind::Read, "Read"),
-    (TraceFaultKind::Memory, "Memory"),
-    (TraceFaultKind::Big, "Big"),
+const OF_TRACES: [(TraceFaultKind, &str); 10] = texts![
+    TraceFaultKind: Fields prints "Fields", Worker prints "Worker", Op prints "Op", Sector prints "Sector", Hex prints "Hex",
+    TooLong prints "TooLong", Unused prints "Unused", Read prints "Read", Memory prints "Memory", Big prints "Big",
 ];
 
 const OF_LINE_TWO: TraceFault = TraceFault {

@@ -1,8 +1,8 @@
 //! Brooms that drain and erase blocks while two hosts make calls.
 use crate::calls::{Call, Done, EMPTY, WRITTEN};
 use crate::idle_actors::Who;
-use crate::playing_rows::{Row, check_row};
-use crate::row_calls::{ONE_BROOM, TWO_BROOMS, drained, erased};
+use crate::playing_rows::{Row, check_rows};
+use crate::row_calls::{ONE_BROOM, TWO_BROOMS, drained, erased, rows};
 use crate::schedule::{ExpectedCall, Step};
 use broom::{Drain, Erase};
 use flash_table::Point;
@@ -95,42 +95,43 @@ const DRAINS_A_PINNED_BLOCK_BESIDE: [(Who, ExpectedCall); 4] = [
     (Who::First, PINNED),
 ];
 
-// At the first look both sectors are written, and the block that had them is drained and erased.
-const LOOKS_TWICE: [Step; 3] = [
-    Step::By(Who::A, (Call::Write(0, 1), EMPTY)),
-    Step::By(Who::A, (Call::Write(1, 2), EMPTY)),
-    Step::During(
-        Who::B,
-        (Call::Read(0), Done::Read(Some(3), 2)),
-        Point::AfterLook,
-        4,
-    ),
-];
+// A read of sector 0 at whose look others act, with the byte that it finds and how often it has looked.
+macro_rules! read_beside {
+    ($found:literal, $looks:literal) => {
+        [
+            Step::By(Who::A, (Call::Write(0, 1), EMPTY)),
+            Step::By(Who::A, (Call::Write(1, 2), EMPTY)),
+            Step::During(
+                Who::B,
+                (Call::Read(0), Done::Read(Some($found), $looks)),
+                Point::AfterLook,
+                4,
+            ),
+        ]
+    };
+}
 
-const LOOKS_TWICE_BESIDE: [(Who, ExpectedCall); 4] = [
-    (Who::A, (Call::Write(0, 3), WRITTEN)),
-    (Who::A, (Call::Write(1, 4), WRITTEN)),
-    (Who::First, DRAINED),
-    (Who::First, ERASED),
-];
+// At the first look both sectors are written, and the block that had them is drained and erased. Then these calls are made.
+macro_rules! written_and_erased {
+    ($($call:expr),* $(,)?) => {
+        [
+            (Who::A, (Call::Write(0, 3), WRITTEN)),
+            (Who::A, (Call::Write(1, 4), WRITTEN)),
+            (Who::First, DRAINED),
+            (Who::First, ERASED),
+            $($call),*
+        ]
+    };
+}
+
+const LOOKS_TWICE: [Step; 3] = read_beside!(3, 2);
+
+const LOOKS_TWICE_BESIDE: [(Who, ExpectedCall); 4] = written_and_erased![];
 
 // The same at the second look.
-const LOOKS_THREE_TIMES: [Step; 3] = [
-    Step::By(Who::A, (Call::Write(0, 1), EMPTY)),
-    Step::By(Who::A, (Call::Write(1, 2), EMPTY)),
-    Step::During(
-        Who::B,
-        (Call::Read(0), Done::Read(Some(5), 3)),
-        Point::AfterLook,
-        4,
-    ),
-];
+const LOOKS_THREE_TIMES: [Step; 3] = read_beside!(5, 3);
 
-const LOOKS_THREE_TIMES_BESIDE: [(Who, ExpectedCall); 8] = [
-    (Who::A, (Call::Write(0, 3), WRITTEN)),
-    (Who::A, (Call::Write(1, 4), WRITTEN)),
-    (Who::First, DRAINED),
-    (Who::First, ERASED),
+const LOOKS_THREE_TIMES_BESIDE: [(Who, ExpectedCall); 8] = written_and_erased![
     (Who::A, (Call::Write(0, 5), WRITTEN)),
     (Who::A, (Call::Write(1, 6), WRITTEN)),
     (Who::First, drained!(Call::Drain, 1, 0)),
@@ -163,72 +164,22 @@ const ERASES_BY_TWO_BESIDE: [(Who, ExpectedCall); 1] = [(Who::Second, ERASED)];
 
 #[test]
 fn brooms_answer_as_the_rows_say(rt: HostRuntime) -> Result<(), Fail> {
-    for row in [
-        Row {
-            name: "a write before the exchange stays",
-            device: ONE_BROOM,
-            steps: &WRITES_BEFORE_A_MOVE,
-            meanwhile: &WRITES_BEFORE_A_MOVE_BESIDE,
-            sectors: [3, 5],
-        },
-        Row {
-            name: "nothing is gained while each closed block is all live",
-            device: ONE_BROOM,
-            steps: &GAINS_NOTHING,
-            meanwhile: &[],
-            sectors: [1, 2],
-        },
-        Row {
-            name: "a block whose host is gone is drained",
-            device: ONE_BROOM,
-            steps: &DRAINS_A_LEFT_BLOCK,
-            meanwhile: &[],
-            sectors: [1, 0],
-        },
-        Row {
-            name: "a block that is read is lost, and then drained under its reader",
-            device: ONE_BROOM,
-            steps: &LOSES_A_BLOCK_THAT_IS_READ,
-            meanwhile: &LOSES_A_BLOCK_THAT_IS_READ_BESIDE,
-            sectors: [3, 2],
-        },
-        Row {
-            name: "a pinned block is drained and not erased",
-            device: ONE_BROOM,
-            steps: &DRAINS_A_PINNED_BLOCK,
-            meanwhile: &DRAINS_A_PINNED_BLOCK_BESIDE,
-            sectors: [3, 4],
-        },
-        Row {
-            name: "a read looks again where its block was erased",
-            device: ONE_BROOM,
-            steps: &LOOKS_TWICE,
-            meanwhile: &LOOKS_TWICE_BESIDE,
-            sectors: [3, 4],
-        },
-        Row {
-            name: "a read looks three times where its block was erased twice",
-            device: ONE_BROOM,
-            steps: &LOOKS_THREE_TIMES,
-            meanwhile: &LOOKS_THREE_TIMES_BESIDE,
-            sectors: [5, 6],
-        },
-        Row {
-            name: "two brooms drain a block each, and no sector changes",
-            device: TWO_BROOMS,
-            steps: &DRAINS_BY_TWO,
-            meanwhile: &DRAINS_BY_TWO_BESIDE,
-            sectors: [4, 2],
-        },
-        Row {
-            name: "a block that another broom erased is not erased again",
-            device: TWO_BROOMS,
-            steps: &ERASES_BY_TWO,
-            meanwhile: &ERASES_BY_TWO_BESIDE,
-            sectors: [4, 3],
-        },
-    ] {
-        check_row(&rt, row)?;
-    }
-    Ok(())
+    let rows = rows! {
+        "a write before the exchange stays":
+            ONE_BROOM WRITES_BEFORE_A_MOVE beside WRITES_BEFORE_A_MOVE_BESIDE, leaves [3, 5];
+        "nothing is gained while each closed block is all live": ONE_BROOM GAINS_NOTHING beside [], leaves [1, 2];
+        "a block whose host is gone is drained": ONE_BROOM DRAINS_A_LEFT_BLOCK beside [], leaves [1, 0];
+        "a block that is read is lost, and then drained under its reader":
+            ONE_BROOM LOSES_A_BLOCK_THAT_IS_READ beside LOSES_A_BLOCK_THAT_IS_READ_BESIDE, leaves [3, 2];
+        "a pinned block is drained and not erased":
+            ONE_BROOM DRAINS_A_PINNED_BLOCK beside DRAINS_A_PINNED_BLOCK_BESIDE, leaves [3, 4];
+        "a read looks again where its block was erased": ONE_BROOM LOOKS_TWICE beside LOOKS_TWICE_BESIDE, leaves [3, 4];
+        "a read looks three times where its block was erased twice":
+            ONE_BROOM LOOKS_THREE_TIMES beside LOOKS_THREE_TIMES_BESIDE, leaves [5, 6];
+        "two brooms drain a block each, and no sector changes":
+            TWO_BROOMS DRAINS_BY_TWO beside DRAINS_BY_TWO_BESIDE, leaves [4, 2];
+        "a block that another broom erased is not erased again":
+            TWO_BROOMS ERASES_BY_TWO beside ERASES_BY_TWO_BESIDE, leaves [4, 3];
+    };
+    check_rows(&rt, &rows)
 }

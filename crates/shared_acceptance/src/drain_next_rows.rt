@@ -1,8 +1,8 @@
 //! Brooms that drain again with their last survey, and brooms that have lost their spare, while two hosts make calls.
 use crate::calls::{Call, Done, EMPTY, FULL, TRIMMED, WRITTEN};
 use crate::idle_actors::Who;
-use crate::playing_rows::{Row, check_row};
-use crate::row_calls::{ONCE, ONE_BROOM, TWICE, TWO_BROOMS, drained, erased};
+use crate::playing_rows::{Row, check_rows};
+use crate::row_calls::{ONCE, ONE_BROOM, TWICE, TWO_BROOMS, drained, erased, rows};
 use crate::schedule::{ExpectedCall, Step};
 use broom::{Drain, Erase};
 use flash_table::Point;
@@ -272,125 +272,40 @@ const RESTOCKS_TWICE: [Step; 30] = [
 
 #[test]
 fn drains_by_the_last_survey_answer_as_the_rows_say(rt: HostRuntime) -> Result<(), Fail> {
-    for row in [
-        Row {
-            name: "after a survey the drains go on in the order of its counts",
-            device: ONE_BROOM,
-            steps: &GOES_ON,
-            meanwhile: &[],
-            sectors: [6, 2],
-        },
-        Row {
-            name: "a page that was trimmed since is not moved",
-            device: ONE_BROOM,
-            steps: &GOES_ON_PAST_A_TRIM,
-            meanwhile: &[],
-            sectors: [6, 0],
-        },
-        Row {
-            name: "a page that was overwritten since is not moved, and the order stays",
-            device: ONE_BROOM,
-            steps: &GOES_ON_PAST_A_WRITE,
-            meanwhile: &[],
-            sectors: [7, 8],
-        },
-        Row {
-            name: "a block that another broom has drained is lost, and the next one is not",
-            device: TWO_BROOMS,
-            steps: &LOSES_A_BLOCK,
-            meanwhile: &[],
-            sectors: [6, 2],
-        },
-        Row {
-            name: "a block that the broom erased is not marked any more",
-            device: TWO_BROOMS,
-            steps: &ERASES_BETWEEN,
-            meanwhile: &[],
-            sectors: [6, 2],
-        },
-        Row {
-            name: "a block that was erased and filled again is not drained by the old survey",
-            device: ONE_BROOM,
-            steps: &ERASES_ITS_OWN,
-            meanwhile: &[],
-            sectors: [8, 2],
-        },
-        Row {
-            name: "before a survey nothing is gained, nor once no mark is left",
-            device: ONE_BROOM,
-            steps: &HAS_NO_SURVEY,
-            meanwhile: &[],
-            sectors: [0, 0],
-        },
-    ] {
-        check_row(&rt, row)?;
-    }
-    Ok(())
+    let rows = rows! {
+        "after a survey the drains go on in the order of its counts": ONE_BROOM GOES_ON beside [], leaves [6, 2];
+        "a page that was trimmed since is not moved": ONE_BROOM GOES_ON_PAST_A_TRIM beside [], leaves [6, 0];
+        "a page that was overwritten since is not moved, and the order stays":
+            ONE_BROOM GOES_ON_PAST_A_WRITE beside [], leaves [7, 8];
+        "a block that another broom has drained is lost, and the next one is not":
+            TWO_BROOMS LOSES_A_BLOCK beside [], leaves [6, 2];
+        "a block that the broom erased is not marked any more": TWO_BROOMS ERASES_BETWEEN beside [], leaves [6, 2];
+        "a block that was erased and filled again is not drained by the old survey":
+            ONE_BROOM ERASES_ITS_OWN beside [], leaves [8, 2];
+        "before a survey nothing is gained, nor once no mark is left": ONE_BROOM HAS_NO_SURVEY beside [], leaves [0, 0];
+    };
+    check_rows(&rt, &rows)
 }
 
 #[test]
 fn brooms_without_a_spare_answer_as_the_rows_say(rt: HostRuntime) -> Result<(), Fail> {
-    for row in [
-        Row {
-            name: "a broom is restocked until no block is left",
-            device: ONCE,
-            steps: &RESTOCKS_ONCE,
-            meanwhile: &[],
-            sectors: [6, 4],
-        },
-        Row {
-            name: "and so where each block may be erased twice",
-            device: TWICE,
-            steps: &RESTOCKS_TWICE,
-            meanwhile: &[],
-            sectors: [9, 10],
-        },
-    ] {
-        check_row(&rt, row)?;
-    }
-    Ok(())
+    let rows = rows! {
+        "a broom is restocked until no block is left": ONCE RESTOCKS_ONCE beside [], leaves [6, 4];
+        "and so where each block may be erased twice": TWICE RESTOCKS_TWICE beside [], leaves [9, 10];
+    };
+    check_rows(&rt, &rows)
 }
 
 #[test]
 fn drains_of_dead_blocks_answer_as_the_rows_say(rt: HostRuntime) -> Result<(), Fail> {
-    for row in [
-        Row {
-            name: "a broom without a spare drains a block without live pages, and keeps it",
-            device: ONE_BROOM,
-            steps: &LIVES_ON,
-            meanwhile: &[],
-            sectors: [0, 0],
-        },
-        Row {
-            name: "by turns too, and a host can write again",
-            device: ONE_BROOM,
-            steps: &LIVES_ON_BY_TURNS,
-            meanwhile: &[],
-            sectors: [10, 0],
-        },
-        Row {
-            name: "and so does a broom that has one",
-            device: ONE_BROOM,
-            steps: &HAS_A_SPARE,
-            meanwhile: &[],
-            sectors: [6, 2],
-        },
-        Row {
-            name: "there is nothing to gain of blocks that are not closed",
-            device: ONE_BROOM,
-            steps: &SWEEPS_NOTHING,
-            meanwhile: &[],
-            sectors: [1, 0],
-        },
-        Row {
-            name: "a block that another broom drains meanwhile is lost",
-            device: TWO_BROOMS,
-            steps: &LOSES_DEAD,
-            meanwhile: &[(Who::Second, DRAINS_ONE)],
-            sectors: [6, 2],
-        },
-    ] {
-        check_row(&rt, row)?;
-    }
-    Ok(())
+    let rows = rows! {
+        "a broom without a spare drains a block without live pages, and keeps it":
+            ONE_BROOM LIVES_ON beside [], leaves [0, 0];
+        "by turns too, and a host can write again": ONE_BROOM LIVES_ON_BY_TURNS beside [], leaves [10, 0];
+        "and so does a broom that has one": ONE_BROOM HAS_A_SPARE beside [], leaves [6, 2];
+        "there is nothing to gain of blocks that are not closed": ONE_BROOM SWEEPS_NOTHING beside [], leaves [1, 0];
+        "a block that another broom drains meanwhile is lost":
+            TWO_BROOMS LOSES_DEAD beside [(Who::Second, DRAINS_ONE)], leaves [6, 2];
+    };
+    check_rows(&rt, &rows)
 }

@@ -1,8 +1,8 @@
 //! Two hosts at a device, without a broom or with one that does nothing.
 use crate::calls::{Call, Done, EMPTY, FULL, TRIMMED, WRITTEN};
 use crate::idle_actors::Who;
-use crate::playing_rows::{Row, check_row};
-use crate::row_calls::{NO_BROOM, ONE_BROOM};
+use crate::playing_rows::{Row, check_rows};
+use crate::row_calls::{NO_BROOM, ONE_BROOM, rows};
 use crate::schedule::{ExpectedCall, Step};
 use flash_table::Point;
 use std::test::Fail;
@@ -127,79 +127,20 @@ const WINS_BY_THE_FIRST_EXCHANGE_BESIDE: [(Who, ExpectedCall); 1] = [(
 
 #[test]
 fn hosts_answer_as_the_rows_say(rt: HostRuntime) -> Result<(), Fail> {
-    for row in [
-        Row {
-            name: "what one host writes another reads without a meeting",
-            device: ONE_BROOM,
-            steps: &READS_THE_OTHERS,
-            meanwhile: &[],
-            sectors: [1, 0],
-        },
-        Row {
-            name: "ten writes fill five blocks, and nothing is lost",
-            device: NO_BROOM,
-            steps: &FILLS_ALL,
-            meanwhile: &[],
-            sectors: [0, 9],
-        },
-        Row {
-            name: "hosts leave a broom's spare alone",
-            device: ONE_BROOM,
-            steps: &LEAVES_THE_SPARE,
-            meanwhile: &[],
-            sectors: [0, 7],
-        },
-        Row {
-            name: "hosts that met close with what both wrote",
-            device: NO_BROOM,
-            steps: &MEET,
-            meanwhile: &[],
-            sectors: [1, 2],
-        },
-        Row {
-            name: "a trim before the swap is the earlier call",
-            device: NO_BROOM,
-            steps: &TRIMS_BEFORE_A_SWAP,
-            meanwhile: &TRIMS_BEFORE_A_SWAP_BESIDE,
-            sectors: [2, 0],
-        },
-        Row {
-            name: "a hold keeps its value until it is released",
-            device: NO_BROOM,
-            steps: &HOLDS,
-            meanwhile: &[],
-            sectors: [3, 0],
-        },
-        Row {
-            name: "a host that holds a page meets another one, and the page stays",
-            device: NO_BROOM,
-            steps: &MEETS_WHILE_IT_HOLDS,
-            meanwhile: &[],
-            sectors: [2, 3],
-        },
-        Row {
-            name: "a host that is given up keeps no block",
-            device: NO_BROOM,
-            steps: &LEAVES,
-            meanwhile: &[],
-            sectors: [9, 0],
-        },
-        Row {
-            name: "a written sector is not written anew until it is trimmed",
-            device: NO_BROOM,
-            steps: &WRITES_ANEW,
-            meanwhile: &[],
-            sectors: [3, 0],
-        },
-        Row {
-            name: "the first exchange wins, and not the first call",
-            device: NO_BROOM,
-            steps: &WINS_BY_THE_FIRST_EXCHANGE,
-            meanwhile: &WINS_BY_THE_FIRST_EXCHANGE_BESIDE,
-            sectors: [2, 0],
-        },
-    ] {
-        check_row(&rt, row)?;
-    }
-    Ok(())
+    let rows = rows! {
+        "what one host writes another reads without a meeting": ONE_BROOM READS_THE_OTHERS beside [], leaves [1, 0];
+        "ten writes fill five blocks, and nothing is lost": NO_BROOM FILLS_ALL beside [], leaves [0, 9];
+        "hosts leave a broom's spare alone": ONE_BROOM LEAVES_THE_SPARE beside [], leaves [0, 7];
+        "hosts that met close with what both wrote": NO_BROOM MEET beside [], leaves [1, 2];
+        "a trim before the swap is the earlier call":
+            NO_BROOM TRIMS_BEFORE_A_SWAP beside TRIMS_BEFORE_A_SWAP_BESIDE, leaves [2, 0];
+        "a hold keeps its value until it is released": NO_BROOM HOLDS beside [], leaves [3, 0];
+        "a host that holds a page meets another one, and the page stays":
+            NO_BROOM MEETS_WHILE_IT_HOLDS beside [], leaves [2, 3];
+        "a host that is given up keeps no block": NO_BROOM LEAVES beside [], leaves [9, 0];
+        "a written sector is not written anew until it is trimmed": NO_BROOM WRITES_ANEW beside [], leaves [3, 0];
+        "the first exchange wins, and not the first call":
+            NO_BROOM WINS_BY_THE_FIRST_EXCHANGE beside WINS_BY_THE_FIRST_EXCHANGE_BESIDE, leaves [2, 0];
+    };
+    check_rows(&rt, &rows)
 }

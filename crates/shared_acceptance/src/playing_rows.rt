@@ -90,8 +90,8 @@ fn play<'x, 's, R: Wait, H: Home>(
     (passes, done)
 }
 
-/// Plays a row. Each call has to return its expected answer, and the sectors have to hold the expected values.
-pub(crate) fn check_row<R: Wait + Abort + AllocGlobal>(rt: &R, row: Row<'_>) -> Result<(), Fail> {
+// Plays a row. Each call has to return its expected answer, and the sectors have to hold the expected values.
+fn check_row<R: Wait + Abort + AllocGlobal>(rt: &R, row: Row<'_>) -> Result<(), Fail> {
     let Row {
         name,
         device,
@@ -112,5 +112,16 @@ pub(crate) fn check_row<R: Wait + Abort + AllocGlobal>(rt: &R, row: Row<'_>) -> 
     assert!(rt; !passes.is_empty());
     let closed = close(rt, volume, passes);
     expect(rt, hold(closed.as_slice(), &sectors), &name);
+    Ok(())
+}
+
+/// Plays the rows, each on a device of its own.
+pub(crate) fn check_rows<R: Wait + Abort + AllocGlobal>(
+    rt: &R,
+    rows: &[Row<'_>],
+) -> Result<(), Fail> {
+    for row in rows {
+        check_row(rt, *row)?;
+    }
     Ok(())
 }

@@ -64,22 +64,25 @@ struct ThreadGroup {
     times: u32,
 }
 
+// A thread that puts numbers.
+macro_rules! put {
+    (from $first:literal, by $step:literal, $times:literal times) => {
+        Job::Put {
+            first: $first,
+            step: $step,
+            times: $times,
+        }
+    };
+}
+
 const GROUPS: [(&str, ThreadGroup); 2] = [
     (
         "each number that two threads put is taken once by two others",
         ThreadGroup {
             places: 1000,
             jobs: [
-                Job::Put {
-                    first: 0,
-                    step: 1,
-                    times: 500,
-                },
-                Job::Put {
-                    first: 500,
-                    step: 1,
-                    times: 500,
-                },
+                put!(from 0, by 1, 500 times),
+                put!(from 500, by 1, 500 times),
                 Job::Take { times: 500 },
                 Job::Take { times: 500 },
             ],
@@ -91,16 +94,8 @@ const GROUPS: [(&str, ThreadGroup); 2] = [
         ThreadGroup {
             places: 1,
             jobs: [
-                Job::Put {
-                    first: 0,
-                    step: 0,
-                    times: 500,
-                },
-                Job::Put {
-                    first: 0,
-                    step: 0,
-                    times: 300,
-                },
+                put!(from 0, by 0, 500 times),
+                put!(from 0, by 0, 300 times),
                 Job::Take { times: 400 },
                 Job::Take { times: 400 },
             ],

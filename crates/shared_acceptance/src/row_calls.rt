@@ -50,5 +50,19 @@ macro_rules! erased {
     };
 }
 
+// Rows: what each shows, its device, its steps, what others do at the gate of a call, and what the sectors hold at the end.
+macro_rules! rows {
+    ($($name:literal: $device:ident $steps:ident beside $meanwhile:expr, leaves $sectors:expr;)*) => {
+        [$(Row {
+            name: $name,
+            device: $device,
+            steps: &$steps,
+            meanwhile: &$meanwhile,
+            sectors: $sectors,
+        }),*]
+    };
+}
+
 pub(crate) use drained;
 pub(crate) use erased;
+pub(crate) use rows;

@@ -1,18 +1,16 @@
 //! The words of a small device after each call, as the seat of a second broom reads them.
 ghost use Rattle.std.specs.Prelude.{◌≡◌, ◌<◌};
 ghost use Rattle.geometry.specs.Geometry.{blocks_of, sectors_of, page_bytes_of};
-ghost use Rattle.flash_table.specs.declared.broom_seat.ReclaimedBlock.{ReclaimedBlock};
-ghost use Rattle.flash_table.specs.Erasing.{IsErasing, words_in_block};
-ghost use Rattle.flash_table.specs.Flash.{IsBroomOf, broom_view, device, geometry_of, own_blocks};
+ghost use Rattle.flash_table.specs.Flash.{geometry_of};
 ghost use Rattle.broom.specs.Once.{IsReady-prop};
 ghost use Rattle.broom.specs.Ready.{IsRested, IsReady as IsBroomReady};
 ghost use Rattle.host.specs.Ready.{IsReady};
 ghost use Rattle.shared_acceptance.specs.Kept.{IsRested-prop};
 
-use broom::{Broom, Drain, Erase, fold_seat};
+use broom::{Broom, Drain, Erase, fold_seat, wipe_all};
 use erase_queue::EraseQueue;
-use flash_table::{BroomSeat, Flash, NoGate, Pass, Reclaiming};
-use geometry::{Geometry, MapWord, Phase, UNMAPPED};
+use flash_table::{BroomSeat, Flash, NoGate, Pass};
+use geometry::{Geometry, Phase, UNMAPPED};
 use host::Holding;
 use std::process::Abort;
 use std::test::Fail;
@@ -175,30 +173,6 @@ const WORDS: [[u64; 5]; 10] = [
         0x1000,
     ],
 ];
-
-// Sets all words of the block that the seat erases to all ones.
-fn wipe_all(flash: &Flash, seat: &mut BroomSeat)
-    requires seat { IsBroomOf flash.now seat.old }
-    requires erasing { (o : ReclaimedBlock) × IsErasing flash.now seat.old o }
-    requires none { (broom_view seat.old).wiped ≡ 0 }
-    ensures wiped { broom_view seat.new ≡ record (broom_view seat.old) { wiped = words_in_block (device flash.now) } }
-    ensures seat { IsBroomOf flash.now seat.new }
-    ensures blocks { own_blocks seat.new ≡ own_blocks seat.old }
-{
-    let Reclaiming::Erasing(erased) = seat.blocks().reclaiming else {
-        unreachable!()
-    };
-    let first = MapWord {
-        generation: erased.generation,
-        block: erased.block,
-        page: 0,
-    };
-    let start = flash.page_start(first);
-    let geometry = flash.geometry();
-    for i in 0..geometry.pages() * (geometry.words() + 1) {
-        flash.wipe(seat, start, i);
-    }
-}
 
 // Erases a drained block in its last generation, step by step. Returns its pin word between the condemn and the retirement, as another seat
 // reads it, or none if it isn't such a block.

@@ -1,33 +1,21 @@
 -- The check of one record, field by field, and of all records.
 use Rattle.std.proofs.Common.{◌≡◌, ◌≢◌, ℕ, ◌+◌, inl, inr, true, List, [], ◌∷◌, ◌++◌, length, map, Result, Ok, Err, refl, ap, ◌∙◌, arith, append_assoc}
-use Rattle.std.proofs.lemmas.List.{map-append}
-use Rattle.geometry.specs.Geometry.{page_bytes_of, sectors_of}
-use Rattle.geometry.specs.declared.geometry.Geometry.{Geometry}
-use Rattle.hex.specs.Hex.{decode_of}
-use Rattle.hex.specs.declared.error.FromHexError.{FromHexError}
+use Rattle.std.{proofs.lemmas.List.map-append, specs.Bool.OnTrue, specs.Str.bytes_eq}
 use Rattle.std.specs.Prelude.{Bool, false, MatchBool, if◌then◌else◌, slice_index_or}
-use Rattle.std.specs.Bool.{OnTrue}
-use Rattle.std.specs.Str.{bytes_eq}
-use Rattle.trace.specs.Parsing.{Adds, RefusesBy, fault_at}
-use Rattle.trace.specs.Trace.{IsFirstFault, all_or_first, checked, command_of, commands_of, is_of_record, name_of}
-use Rattle.trace.specs.Trace.{number_below, op_of, page_of, page_of_bytes, whole_fault, workers_of, ◌>>=◌}
-use Rattle.trace.specs.declared.commands.Command.{Command}
-use Rattle.trace.specs.declared.commands.Op.{Op}
+use Rattle.geometry.specs.{Geometry.page_bytes_of, Geometry.sectors_of, declared.geometry.Geometry.Geometry}
+use Rattle.hex.specs.{Hex.decode_of, declared.error.FromHexError.FromHexError}
+use Rattle.trace.specs.{Parsing.Adds, Parsing.RefusesBy, Parsing.fault_at, Trace.whole_fault, Trace.workers_of, Trace.◌>>=◌, declared.commands.Command.Command}
+use Rattle.trace.specs.Trace.{IsFirstFault, all_or_first, checked, command_of, commands_of, is_of_record, name_of, number_below, op_of, page_of, page_of_bytes}
+use Rattle.trace.specs.declared.{commands.Op.Op, fault.TraceFault.TraceFault, fault.TraceFaultKind.TraceFaultKind}
 use Rattle.trace.specs.declared.commands.Op.TheVariants as op
-use Rattle.trace.specs.declared.fault.TraceFault.{TraceFault}
-use Rattle.trace.specs.declared.fault.TraceFaultKind.{TraceFaultKind}
 use Rattle.trace.specs.declared.fault.TraceFaultKind.TheVariants as fault
 
 -- ---- the steps of one check
 
 -- a record of four fields
 pub four : (fs : List (List ℕ)) → length fs ≡ 4 → fs ≡ slice_index_or fs 0 [] ∷ slice_index_or fs 1 [] ∷ slice_index_or fs 2 [] ∷ slice_index_or fs 3 [] ∷ []
-four [] n = absurd (omega arith)
-four (x ∷ []) n = absurd (omega arith)
-four (x ∷ y ∷ []) n = absurd (omega arith)
-four (x ∷ y ∷ z ∷ []) n = absurd (omega arith)
 four (x ∷ y ∷ z ∷ w ∷ []) n = refl
-four (x ∷ y ∷ z ∷ w ∷ v ∷ fs) n = absurd (omega arith)
+four xs n = absurd (omega arith)
 
 -- a record of another number of fields
 pub refuses_fields : (geo : Geometry) (fs : List (List ℕ)) → length fs ≢ 4 → command_of geo fs ≡ Err fault.Fields
@@ -211,27 +199,16 @@ first_other text geo commands fields rows left e first count = record {
 
 -- a fault of a record keeps its line
 fault_kept : (line : ℕ) (k : TraceFaultKind) → is_of_record k ≡ true → fault_at line k ≡ record { line = line; kind = k }
-fault_kept line fault.Fields h = refl
-fault_kept line fault.Worker h = refl
-fault_kept line fault.Op h = refl
-fault_kept line fault.Sector h = refl
-fault_kept line fault.Hex h = refl
-fault_kept line fault.TooLong h = refl
-fault_kept line fault.Unused h = refl
 fault_kept line fault.Read h = cc h
 fault_kept line fault.Memory h = cc h
 fault_kept line fault.Big h = cc h
+fault_kept _ _ _ = refl
 
 -- a record that is refused behind commands is the first fault
 first_kept : (text : List ℕ) (geo : Geometry) (commands : List Command) (fields : List (List ℕ)) (left : List (List (List ℕ))) (k : TraceFaultKind)
     → checked geo text ≡ map Ok commands ++ map (command_of geo) (fields ∷ left) → command_of geo fields ≡ Err k
     → IsFirstFault (checked geo text) (record { line = length commands + 1; kind = k })
-first_kept text geo commands fields left k e h = record {
-  before = commands;
-  after = map (command_of geo) left;
-  order = e ∙ rw h refl;
-  line = refl;
-}
+first_kept text geo commands fields left k e h = record { before = commands; after = map (command_of geo) left; order = e ∙ rw h refl; line = refl }
 
 pub first_refused : (text : List ℕ) (geo : Geometry) (commands : List Command) (fields : List (List ℕ)) (rows left : List (List (List ℕ))) (k : TraceFaultKind)
     → checked geo text ≡ map Ok commands ++ map (command_of geo) rows → rows ≡ fields ∷ left → RefusesBy (command_of geo fields) k

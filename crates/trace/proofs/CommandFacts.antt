@@ -1,30 +1,18 @@
 -- The commands that are kept, by the places of their digits.
-use Rattle.std.proofs.Common.{◌≡◌, ℕ, zero, suc, ◌+◌, ◌-◌, ◌<◌, ◌≤◌, inl, inr, List, [], ◌∷◌, ◌++◌, length, map, take, drop}
-use Rattle.std.proofs.Common.{refl, sym, subst, ap, ap₂, ◌∙◌, append_assoc, arith, length-append}
-use Rattle.std.proofs.lemmas.List.{length-map, map-append, take-append-le, take_all}
-use Rattle.std.proofs.lemmas.List.Elements.{All-append, All-cons, All-nil}
-use Rattle.std.proofs.Math.Seq.{drop-append-add, drop-append_seam}
+use Rattle.std.proofs.Common.{◌≡◌, ℕ, zero, suc, ◌+◌, ◌-◌, ◌<◌, ◌≤◌, inl, inr, List, [], ◌∷◌, ◌++◌, length, map, take, drop, refl, sym, subst, ap, ap₂, ◌∙◌}
+use Rattle.std.proofs.{Common.append_assoc, Common.arith, Common.length-append, Math.Seq.drop-append-add, Math.Seq.drop-append_seam}
+use Rattle.std.proofs.lemmas.List.{length-map, map-append, take-append-le, take_all, Elements.All-append, Elements.All-cons, Elements.All-nil}
 use Rattle.std.specs.Prelude.{All, Some, slice_get, slice_index_or}
-use Rattle.trace.specs.Digits.{IsData}
-use Rattle.trace.specs.Parsing.{page_len}
+use Rattle.trace.specs.{Digits.IsData, Parsing.page_len}
 use Rattle.trace.specs.Stored.{IsKept, command_at, digits_at, drafted, head_of, stored_in, with_digits}
-use Rattle.trace.specs.declared.commands.Command.{Command}
-use Rattle.trace.specs.declared.draft.Draft.{Draft}
-use Rattle.trace.specs.declared.stored.Head.{Head}
-use Rattle.trace.specs.declared.stored.Stored.{Stored}
+use Rattle.trace.specs.declared.{commands.Command.Command, draft.Draft.Draft, stored.Head.Head, stored.Stored.Stored}
 
 -- what a list holds at a place and after it, seen through a function
-pub drop-map_at : {A B : Type 0} (f : A → B) (xs : List A) (i : ℕ) (x : A) → i < length xs → x ≡ slice_index_or xs i x
-    → drop i (map f xs) ≡ f x ∷ drop (suc i) (map f xs)
-drop-map_at f [] i x h e = absurd (omega arith)
-drop-map_at f (y ∷ xs) zero x h e = ap (λ v. f v ∷ map f xs) (sym e)
-drop-map_at f (y ∷ xs) (suc i) x h e = drop-map_at f xs i x (omega arith) e
-
-pub slice_get-map_at : {A B : Type 0} (f : A → B) (xs : List A) (i : ℕ) (x : A) → i < length xs → x ≡ slice_index_or xs i x
-    → slice_get (map f xs) i ≡ Some (f x)
-slice_get-map_at f [] i x h e = absurd (omega arith)
-slice_get-map_at f (y ∷ xs) zero x h e = ap (λ v. Some (f v)) (sym e)
-slice_get-map_at f (y ∷ xs) (suc i) x h e = slice_get-map_at f xs i x (omega arith) e
+pub map_at : {A B : Type 0} (f : A → B) (xs : List A) (i : ℕ) (x : A) → i < length xs → x ≡ slice_index_or xs i x
+    → (slice_get (map f xs) i ≡ Some (f x)) × (drop i (map f xs) ≡ f x ∷ drop (suc i) (map f xs))
+map_at f [] i x h e = absurd (omega arith)
+map_at f (y ∷ xs) zero x h e = (ap (λ v. Some (f v)) (sym e), ap (λ v. f v ∷ map f xs) (sym e))
+map_at f (y ∷ xs) (suc i) x h e = map_at f xs i x (omega arith) e
 
 -- a part of a list is the same where the list grows
 part-append : (start count : ℕ) (xs ys : List ℕ) → start + count ≤ length xs → take count (drop start (xs ++ ys)) ≡ take count (drop start xs)

@@ -1,16 +1,12 @@
 -- How the fields and the records of a text are cut, by the steps of csv's machine.
-use Rattle.std.proofs.Common.{◌≡◌, ◌≢◌, ℕ, zero, suc, subst, ◌+◌, ◌-◌, ◌<◌, ◌≤◌, Bool, true, false, List, [], ◌∷◌, ◌++◌, length}
-use Rattle.std.proofs.Common.{take, drop, get_or, refl, ap, sym, ◌∙◌, arith, length-drop, get_or-drop}
+use Rattle.std.proofs.Common.{◌≡◌, ◌≢◌, ℕ, zero, suc, subst, ◌+◌, ◌-◌, ◌<◌, ◌≤◌, Bool, true, false, List, [], ◌∷◌, ◌++◌, length, take, drop, get_or, refl, ap}
+use Rattle.std.proofs.Common.{sym, ◌∙◌, arith, length-drop, get_or-drop}
 use Rattle.std.specs.Prelude.{◌==◌, ◌||◌}
-use Rattle.std.proofs.lemmas.List.{drop-drop, drop_all, drop_more, length-take-le, take_more}
-use Rattle.std.proofs.lemmas.Bool.{eqb-true}
-use Rattle.csv.specs.Machine.{Runs, next_record, step}
-use Rattle.csv.specs.Reading.{default_config}
+use Rattle.std.proofs.lemmas.{List.drop-drop, List.drop_all, List.drop_more, List.length-take-le, List.take_more, Bool.eqb-true}
+use Rattle.csv.specs.{Machine.Runs, Machine.next_record, Machine.step, Reading.default_config, declared.parser.State.State}
+use Rattle.csv.proofs.{ReadFacts.part-rest, ReadFacts.run-copies, ReadFacts.runs-step, RoundTrip.after-quote-same, RoundTrip.start-same}
 use Rattle.csv.specs.declared.parser.Action.TheVariants as act
-use Rattle.csv.specs.declared.parser.State.{State}
 use Rattle.csv.specs.declared.parser.State.TheVariants as st
-use Rattle.csv.proofs.ReadFacts.{part-rest, run-copies, runs-step}
-use Rattle.csv.proofs.RoundTrip.{after-quote-same, start-same}
 use Rattle.trace.specs.Cutting.{EndsPlain, EndsQuoted, IsField, Joins, StandsBefore, begins_with, ends_field, is_field_end, is_line_end, read_on}
 
 -- ---- bytes

@@ -1,17 +1,12 @@
 -- Digits, from their values.
-use Rattle.std.proofs.Common.{◌≡◌, ℕ, ◌+◌, ◌*◌, ◌/◌, ◌%◌, ◌<◌, ◌≤◌, true, false, List, [], ◌∷◌, length, get_or, Option, Some, None}
-use Rattle.std.proofs.Common.{unwrap_or, Result, Ok, Err, is_some, refl, sym, ap, ◌∙◌, arith, eqb-true}
-use Rattle.std.proofs.lemmas.Bool.{eqb-false}
-use Rattle.std.proofs.lemmas.List.Elements.{All-from_get_or, All-get_or}
-use Rattle.std.specs.Prelude.{◌==◌, Bool, IsErr, MatchBool}
-use Rattle.std.specs.Result.{result_unwrap_or}
-use Rattle.hex.specs.Hex.{decode_of, hex_digit_value, is_hex_digit, pair_value}
+use Rattle.std.proofs.Common.{◌≡◌, ℕ, ◌+◌, ◌*◌, ◌/◌, ◌%◌, ◌<◌, ◌≤◌, true, false, List, [], ◌∷◌, length, get_or, Option, Some, None, unwrap_or, Result, Ok, Err}
+use Rattle.std.proofs.Common.{is_some, refl, sym, ap, ◌∙◌, arith, eqb-true}
+use Rattle.std.proofs.lemmas.{Bool.eqb-false, List.Elements.All-from_get_or, List.Elements.All-get_or}
+use Rattle.std.specs.{Prelude.◌==◌, Prelude.Bool, Prelude.IsErr, Prelude.MatchBool, Result.result_unwrap_or}
+use Rattle.hex.specs.{Hex.decode_of, Hex.hex_digit_value, Hex.is_hex_digit, Hex.pair_value, declared.error.FromHexError.FromHexError}
 use Rattle.hex.proofs.HexLemmas.{decode_of-digits, decode_of-odd, decode_of-ok}
-use Rattle.trace.specs.Digits.{EndsDigits, IsData, bytes_of}
-use Rattle.trace.specs.Parsing.{page_len}
-use Rattle.trace.specs.declared.commands.Op.{Op}
+use Rattle.trace.specs.{Digits.EndsDigits, Digits.IsData, Digits.bytes_of, Parsing.page_len, declared.commands.Op.Op}
 use Rattle.trace.specs.declared.commands.Op.TheVariants as op
-use Rattle.hex.specs.declared.error.FromHexError.{FromHexError}
 
 -- a value below 16 is a digit's
 some_below : (o : Option ℕ) (v : ℕ) → v ≡ unwrap_or o 16 → v ≤ 15 → o ≡ Some v
@@ -109,7 +104,4 @@ none_written digits none = by (bytes_of digits) (data_none 0 digits none).fits
 -- the digits of a page are at most twice as many as its bytes
 pub few_digits : (size : ℕ) (o : Op) (digits : List ℕ) → IsData (page_len o size) digits → length digits ≤ 2 * size
 few_digits size op.Write digits h = omega (arith, h.count, h.fits)
-few_digits size op.New digits h = omega (arith, h.count, h.fits)
-few_digits size op.Read digits h = omega (arith, h.count, h.fits)
-few_digits size op.Trim digits h = omega (arith, h.count, h.fits)
-few_digits size op.Meet digits h = omega (arith, h.count, h.fits)
+few_digits size _ digits h = omega (arith, h.count, h.fits)

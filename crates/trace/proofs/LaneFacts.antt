@@ -1,19 +1,15 @@
 -- Sixteen bytes of a text at once.
-use Rattle.std.proofs.Common.{◌≡◌, ℕ, zero, suc, ◌+◌, ◌*◌, ◌%◌, ◌^◌, ◌<◌, ◌≤◌, Bool, true, false, not, ◌&&◌, ◌||◌, cond, eqb, ltb, List}
-use Rattle.std.proofs.Common.{[], ◌∷◌, ◌++◌, map, length, get_or, take, drop, replicate, bit_and, unwrap_or, Ok, inl, inr, refl, sym}
-use Rattle.std.proofs.Common.{ap, ap₂, ◌∙◌, subst, arith, eqb-true, ltb-true, take-add, w8, Fits}
+use Rattle.std.proofs.Common.{◌≡◌, ℕ, zero, suc, ◌+◌, ◌*◌, ◌%◌, ◌^◌, ◌<◌, ◌≤◌, Bool, true, false, not, ◌&&◌, ◌||◌, cond, eqb, ltb, List, [], ◌∷◌, ◌++◌, map}
+use Rattle.std.proofs.Common.{length, get_or, take, drop, replicate, bit_and, unwrap_or, Ok, inl, inr, refl, sym, ap, ap₂, ◌∙◌, subst, arith, eqb-true}
+use Rattle.std.{proofs.Common.ltb-true, proofs.Common.take-add, proofs.Common.w8, proofs.Common.Fits, specs.List.prefix_len}
 use Rattle.std.proofs.lemmas.Bool.{agree_below, agree_below_at, and_parts, cases_lt, not-false, not-true}
 use Rattle.std.proofs.lemmas.List.{drop-drop, get_or-map, length-map, map-append, set-get_or, take-append-le, take-take, length-take-le}
-use Rattle.std.proofs.lemmas.Simd.{map-map, mask_l-mod, length-chunk, get_or-chunk, get_or-zip2, first_set_mask_l, run_in_chunk_le}
-use Rattle.std.proofs.lemmas.Simd.{run_in_chunk_fails, run_in_chunk_stops, length-put_chunk, take_more_put_chunk, get_or-put_chunk_at}
-use Rattle.std.proofs.lemmas.Simd.{get_or-replicate}
-use Rattle.std.specs.List.{prefix_len}
+use Rattle.std.proofs.lemmas.Simd.{map-map, mask_l-mod, length-chunk, get_or-chunk, get_or-zip2, first_set_mask_l, run_in_chunk_le, run_in_chunk_fails}
+use Rattle.std.proofs.lemmas.Simd.{run_in_chunk_stops, length-put_chunk, take_more_put_chunk, get_or-put_chunk_at, get_or-replicate}
 use lib.Lanes.{chunk, put_chunk, zip2, sel_l, mask_l, pick_l, top}
-use Rattle.hex.specs.Hex.{decode_pairs, hex_digit_value, is_hex_digit, pair_value}
-use Rattle.hex.proofs.Pairs.{decode_step, prepend}
-use Rattle.trace.specs.Cutting.{is_field_end}
+use Rattle.hex.{specs.Hex.decode_pairs, specs.Hex.hex_digit_value, specs.Hex.is_hex_digit, specs.Hex.pair_value, proofs.Pairs.decode_step, proofs.Pairs.prepend}
+use Rattle.trace.{specs.Cutting.is_field_end, proofs.DigitFacts.pair_read}
 use Rattle.trace.specs.Lanes.{AreDigits, Decodes, IsDigitRun, IsRun, digit_lane, first_set}
-use Rattle.trace.proofs.DigitFacts.{pair_read}
 
 -- ---- where fields end
 

@@ -1,11 +1,8 @@
 -- What small digits write, and what is kept of the first line.
 use Rattle.std.proofs.Common.{◌≡◌, ◌≤◌, List, [], ◌∷◌, ℕ, Result, Ok, Err, codes, length, refl, arith}
 use Rattle.std.specs.Prelude.{IsErr}
-use Rattle.hex.specs.Hex.{decode_of, decode_pairs}
-use Rattle.hex.specs.declared.error.FromHexError.{FromHexError}
-use Rattle.trace.specs.Digits.{IsData, bytes_of}
-use Rattle.trace.specs.Stored.{IsKept, IsWhole}
-use Rattle.trace.specs.declared.stored.Stored.{Stored}
+use Rattle.hex.specs.{Hex.decode_of, Hex.decode_pairs, declared.error.FromHexError.FromHexError}
+use Rattle.trace.specs.{Digits.IsData, Digits.bytes_of, Stored.IsKept, Stored.IsWhole, declared.stored.Stored.Stored}
 
 pub bytes-0a : bytes_of (codes "0a") ≡ 10 ∷ []
 unfolding bytes_of decode_pairs

@@ -1,12 +1,9 @@
 -- What a reader gave, piece by piece.
 use Rattle.std.proofs.Common.{◌≡◌, ◌≢◌, ℕ, ◌+◌, ◌-◌, ◌<◌, ◌≤◌, List, [], ◌++◌, length, Option, None, Some, sym, ap, ◌∙◌, append-nil, arith, take, length-append}
 use Rattle.std.specs.Prelude.{Result, Ok, Err, IfSome, false, if◌then◌else◌}
-use Rattle.std.specs.Result.{is_err, is_ok}
-use Rattle.std.specs.Io.KnownBytes.{Consumes, IsAtEnd}
-use Rattle.std.proofs.KnownBytes.{Consumes-trans}
-use Rattle.std.proofs.lemmas.List.{length-take-le, take-append-le}
-use Rattle.trace.specs.Loading.{TookOneTooMany, most_bytes}
-use Rattle.trace.specs.Watched.{one_more}
+use Rattle.std.specs.{Result.is_err, Result.is_ok, Io.KnownBytes.Consumes, Io.KnownBytes.IsAtEnd}
+use Rattle.std.proofs.{KnownBytes.Consumes-trans, lemmas.List.length-take-le, lemmas.List.take-append-le}
+use Rattle.trace.specs.{Loading.TookOneTooMany, Loading.most_bytes, Watched.one_more}
 
 -- at the end, what was taken is all that was held
 pub all_taken : (old mid new : Option (List ℕ)) (text piece : List ℕ) → Consumes old mid text → Consumes mid new piece → piece ≡ [] → IsAtEnd new

@@ -2,14 +2,10 @@
 use Rattle.std.proofs.Common.{◌≡◌, ℕ, ◌/◌, ◌<◌, ◌≤◌, ◌⊎◌, inl, inr, true, List, length, Ok, Err, refl, arith, eqb-true}
 use Rattle.std.specs.Prelude.{◌==◌}
 use Rattle.hex.specs.Hex.{decode_of}
-use Rattle.trace.specs.Digits.{IsData, bytes_of}
-use Rattle.trace.specs.Drafting.{MakePage}
-use Rattle.trace.specs.Trace.{page_of, page_of_bytes}
-use Rattle.trace.specs.declared.commands.Op.{Op}
+use Rattle.trace.specs.{Digits.IsData, Digits.bytes_of, Drafting.MakePage, Trace.page_of, Trace.page_of_bytes, declared.commands.Op.Op, Page.page_with}
+use Rattle.trace.proofs.DigitFacts.{data_is, data_none, none_written, written}
 use Rattle.trace.specs.declared.commands.Op.TheVariants as op
 use Rattle.trace.specs.declared.fault.TraceFaultKind.TheVariants as fault
-use Rattle.trace.specs.Page.{page_with}
-use Rattle.trace.proofs.DigitFacts.{data_is, data_none, none_written, written}
 
 -- digits of more bytes than a page has
 long_bytes : (size : ℕ) (digits : List ℕ) → decode_of digits ≡ Ok (bytes_of digits) → IsData (length digits) digits → size < length digits / 2

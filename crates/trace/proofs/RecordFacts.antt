@@ -1,27 +1,17 @@
 -- How the records of a text are cut, from the fields that are cut.
-use Rattle.std.proofs.Common.{◌≡◌, ◌≢◌, ℕ, ◌+◌, ◌<◌, ◌≤◌, Bool, true, false, List, [], ◌∷◌, ◌++◌, length, take, drop}
-use Rattle.std.proofs.Common.{get_or, Option, Some, None, refl, ap, sym, ◌∙◌, arith, length-drop}
+use Rattle.std.proofs.Common.{◌≡◌, ◌≢◌, ℕ, ◌+◌, ◌<◌, ◌≤◌, Bool, true, false, List, [], ◌∷◌, ◌++◌, length, take, drop, get_or, Option, Some, None, refl, ap, sym}
+use Rattle.std.{proofs.Common.◌∙◌, proofs.Common.arith, proofs.Common.length-drop, specs.Cmp.Lexicographic.pointwise, proofs.lemmas.Bool.Decides.Decides-eqb}
 use Rattle.std.specs.Prelude.{◌==◌, ◌||◌, ◌&&◌, not, nat_eq, IfSome}
-use Rattle.std.specs.Cmp.Lexicographic.{pointwise}
-use Rattle.std.proofs.lemmas.List.{drop-drop, drop_all, drop_more, length_push}
-use Rattle.std.proofs.lemmas.Bool.{and_parts, eqb-true}
-use Rattle.std.proofs.lemmas.Bool.Decides.{Decides-eqb}
-use Rattle.std.proofs.lemmas.Slice.Eq.{starts_is}
+use Rattle.std.proofs.lemmas.{List.drop-drop, List.drop_all, List.drop_more, List.length_push, Bool.and_parts, Bool.eqb-true, Slice.Eq.starts_is}
 use Rattle.csv.specs.Machine.{Read, ends_at_end, field_after, fields_after, in_field, is_end, next_record, step}
-use Rattle.csv.specs.Reading.{default_config, is_bom, strip_bom}
-use Rattle.csv.specs.declared.parser.Action.{Action}
-use Rattle.csv.specs.declared.parser.Action.TheVariants as act
-use Rattle.csv.specs.declared.parser.State.{State}
-use Rattle.csv.specs.declared.parser.State.TheVariants as st
+use Rattle.csv.specs.{Reading.default_config, Reading.is_bom, Reading.strip_bom, declared.parser.Action.Action, declared.parser.State.State}
 use Rattle.csv.proofs.RoundTrip.{record-same}
-use Rattle.trace.specs.Cutting.{AreValues, CutsField, HasOtherFields, IsField, IsMarkEnd, IsRecord, StandsBefore, StartsRecord}
-use Rattle.trace.specs.Cutting.{begins_with, ends_field, ends_no_line, fields_of_row, is_line_end, lines_of, read_on}
-use Rattle.trace.specs.Rows.{records_after}
-use Rattle.trace.specs.Trace.{records_of}
-use Rattle.trace.specs.declared.cutting.Field.{Field}
-use Rattle.trace.specs.declared.cutting.Row.{Row}
-use Rattle.trace.proofs.CutFacts.{begins, behind, or_false, within}
-use Rattle.trace.proofs.RowFacts.{after-none, after-some, both}
+use Rattle.csv.specs.declared.parser.Action.TheVariants as act
+use Rattle.csv.specs.declared.parser.State.TheVariants as st
+use Rattle.trace.specs.Cutting.{AreValues, CutsField, HasOtherFields, IsField, IsMarkEnd, IsRecord, StandsBefore, StartsRecord, begins_with, ends_field}
+use Rattle.trace.specs.{Cutting.ends_no_line, Cutting.fields_of_row, Cutting.is_line_end, Cutting.lines_of, Cutting.read_on, Rows.records_after}
+use Rattle.trace.specs.{Trace.records_of, declared.cutting.Field.Field, declared.cutting.Row.Row}
+use Rattle.trace.proofs.{CutFacts.begins, CutFacts.behind, CutFacts.or_false, CutFacts.within, RowFacts.after-none, RowFacts.after-some, RowFacts.both}
 
 -- ---- between two records
 
@@ -107,11 +97,7 @@ pub mark-there : (text : List ℕ) (at : ℕ) (r : Bool) → at ≤ length text 
 mark-there text at r h e there =
     let is = (starts_is Decides-eqb (drop at text) mark r e).0 there in
     let count : 3 ≤ length (drop at text) = omega (arith, ap length is) in
-    record {
-      low = omega arith;
-      high = omega (arith, length-drop at text, count);
-      strips = marked (drop at text) _ is ∙ drop-drop 3 at text;
-    }
+    record { low = omega arith; high = omega (arith, length-drop at text, count); strips = marked (drop at text) _ is ∙ drop-drop 3 at text }
 
 pub mark-not_there : (text : List ℕ) (at : ℕ) (r : Bool) → at ≤ length text → r ≡ pointwise nat_eq mark (take 3 (drop at text)) → r ≡ false
     → IsMarkEnd text at at
@@ -244,10 +230,8 @@ fields-kept act.EndField fields field = omega (arith, length_push fields field)
 fields-kept act.EndRecord fields field = omega (arith, length_push fields field)
 
 fields-ended : (a : Action) (fields : List (List ℕ)) (field : List ℕ) → is_end a ≡ true → length fields < length (fields_after a fields field)
-fields-ended act.Skip fields field h = cc h
-fields-ended act.Copy fields field h = cc h
-fields-ended act.EndField fields field h = cc h
 fields-ended act.EndRecord fields field h = omega (arith, length_push fields field)
+fields-ended _ _ _ h = cc h
 
 -- a record that is read on has more than these fields
 more_fields : (s : State) (fields : List (List ℕ)) (field xs : List ℕ) → is_inside s ≡ true → (p : Read) × (read_on s fields field xs ≡ Some p)

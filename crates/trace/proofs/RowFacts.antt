@@ -1,15 +1,11 @@
 -- How the records of a text are read one by one.
-use Rattle.std.proofs.Common.{Bor, ◌≡◌, ℕ, zero, suc, ◌+◌, ◌<◌, Bool, true, false, List, [], ◌∷◌, ◌++◌, length, Option}
-use Rattle.std.proofs.Common.{Some, None, Result, Ok, Err, refl, ap, subst, ◌∙◌, add-one, arith, inl}
+use Rattle.std.proofs.Common.{Bor, ◌≡◌, ℕ, zero, suc, ◌+◌, ◌<◌, Bool, true, false, List, [], ◌∷◌, ◌++◌, length, Option, Some, None, Result, Ok, Err, refl, ap}
+use Rattle.std.proofs.Common.{subst, ◌∙◌, add-one, arith, inl}
 use Rattle.std.specs.Prelude.{◌==◌, ◌||◌, IfOk, OnOk, IsSome, MatchBool, option_map, slice_index_or, if◌then◌else◌}
 use Rattle.csv.specs.Machine.{Read, ends_at_end, field_after, fields_after, in_field, is_end, next_record, start_field, start_record, step}
-use Rattle.csv.specs.Reading.{NextIs, pending_of, ReadRecord, ReadsNext, Ready, default_config, reader_trim}
-use Rattle.csv.specs.Reading.{records_from, records_next, took_first}
-use Rattle.csv.specs.Records.{field_at}
-use Rattle.csv.specs.declared.parser.Action.{Action}
-use Rattle.csv.specs.declared.parser.State.{State}
+use Rattle.csv.specs.Reading.{NextIs, pending_of, ReadRecord, ReadsNext, Ready, default_config, reader_trim, records_from, records_next, took_first}
+use Rattle.csv.specs.{Records.field_at, declared.parser.Action.Action, declared.parser.State.State, declared.reader.Reader.Reader}
 use Rattle.csv.specs.declared.parser.State.TheVariants as st
-use Rattle.csv.specs.declared.reader.Reader.{Reader}
 use Rattle.csv.specs.declared.reader.Trim.TheVariants as trim
 use Rattle.trace.specs.Rows.{IsReading, TakesNext, records_after, unread}
 

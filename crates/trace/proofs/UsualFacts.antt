@@ -1,33 +1,21 @@
 -- Lines of the usual form, field by field.
-use Rattle.std.proofs.Common.{◌≡◌, ℕ, zero, suc, ◌+◌, ◌-◌, ◌*◌, ◌/◌, ◌%◌, ◌<◌, ◌≤◌, ◌^◌, ◌⊎◌, inl, inr, Bool, true, false, List, [], ◌∷◌, ◌++◌}
-use Rattle.std.proofs.Common.{length, take, drop, get_or, Ok, refl, ap, sym, ◌∙◌, subst, arith, length-drop, get_or-drop}
-use Rattle.std.specs.Prelude.{◌==◌, MatchBool, codes}
-use Rattle.std.specs.Char.{digit_value, is_ascii_digit}
-use Rattle.std.specs.Str.{all_ascii_digits}
-use Rattle.std.specs.Str.Parse.{digits_value}
-use Rattle.std.proofs.lemmas.Bool.{and_parts, cases_lt, eqb-true}
-use Rattle.std.proofs.lemmas.Int.Digits.{digits_value_push}
+use Rattle.std.proofs.Common.{◌≡◌, ℕ, zero, suc, ◌+◌, ◌-◌, ◌*◌, ◌/◌, ◌%◌, ◌<◌, ◌≤◌, ◌^◌, ◌⊎◌, inl, inr, Bool, true, false, List, [], ◌∷◌, ◌++◌, length, take}
+use Rattle.std.proofs.Common.{drop, get_or, Ok, refl, ap, sym, ◌∙◌, subst, arith, length-drop, get_or-drop}
+use Rattle.std.specs.{Prelude.◌==◌, Prelude.MatchBool, Prelude.codes, Char.digit_value, Char.is_ascii_digit, Str.all_ascii_digits, Str.Parse.digits_value}
+use Rattle.std.proofs.lemmas.{Bool.and_parts, Bool.cases_lt, Bool.eqb-true, Int.Digits.digits_value_push}
 use Rattle.std.proofs.lemmas.List.{drop-drop, drop_at, drop_more, get_or-take, length-take-le, take_at}
-use Rattle.csv.specs.Machine.{Runs}
-use Rattle.csv.specs.Reading.{default_config, strip_bom}
+use Rattle.csv.specs.{Machine.Runs, Reading.default_config, Reading.strip_bom}
 use Rattle.csv.specs.declared.parser.State.TheVariants as st
-use Rattle.geometry.specs.Geometry.{page_bytes_of, sectors_of}
-use Rattle.geometry.specs.declared.geometry.Geometry.{Geometry}
+use Rattle.geometry.specs.{Geometry.page_bytes_of, Geometry.sectors_of, declared.geometry.Geometry.Geometry}
 use Rattle.hex.specs.Hex.{is_hex_digit}
 use Rattle.trace.specs.Cutting.{EndsPlain, Joins, begins_with, ends_field, ends_no_line, is_field_end, lines_of}
-use Rattle.trace.specs.Digits.{EndsDigits}
-use Rattle.trace.specs.Trace.{number_below, op_of, records_of, workers_of}
+use Rattle.trace.specs.{Digits.EndsDigits, Trace.number_below, Trace.op_of, Trace.records_of, Trace.workers_of, declared.commands.Op.Op}
 use Rattle.trace.specs.Usual.{IsLineStart, IsNumber, IsOpName, IsUsual, IsUsualData, part}
-use Rattle.trace.specs.declared.commands.Op.{Op}
-use Rattle.trace.specs.declared.commands.Op.TheVariants as op
-use Rattle.trace.specs.declared.fault.TraceFaultKind.{TraceFaultKind}
-use Rattle.trace.specs.declared.usual.Number.{Number}
-use Rattle.trace.specs.declared.usual.OpName.{OpName}
-use Rattle.trace.proofs.CheckFacts.{accepts}
+use Rattle.trace.specs.declared.{fault.TraceFaultKind.TraceFaultKind, usual.Number.Number, usual.OpName.OpName}
+use Rattle.trace.proofs.{CheckFacts.accepts, DigitFacts.few_digits, DigitFacts.pairs_are, PageFacts.makes_none, PageFacts.makes_write}
 use Rattle.trace.proofs.CutFacts.{begins, begins-at, behind, joins-none, part-more, plain-field, plain-more, plain-run, stops-at, within}
-use Rattle.trace.proofs.DigitFacts.{few_digits, pairs_are}
 use Rattle.trace.proofs.RecordFacts.{Reads, lf_records, reads-last, reads-next, record-begins, stays}
-use Rattle.trace.proofs.PageFacts.{makes_none, makes_write}
+use Rattle.trace.specs.declared.commands.Op.TheVariants as op
 
 -- ---- bytes
 
@@ -99,8 +87,7 @@ number_is bound n otherwise value some few digits is below = rw (digits, ← is)
 first_digit : (text : List ℕ) (start n : ℕ) → start < length text → 0 < n → all_ascii_digits (take n (drop start text)) ≡ true
     → is_ascii_digit (get_or text start 0) ≡ true
 first_digit text start zero below n h = absurd (omega arith)
-first_digit text start (suc n) below m h =
-    (and_parts (is_ascii_digit (get_or text start 0)) _ (rw (drop_more text start 0 below) at h)).0
+first_digit text start (suc n) below m h = (and_parts (is_ascii_digit (get_or text start 0)) _ (rw (drop_more text start 0 below) at h)).0
 
 -- a comma ends it
 pub number_ends : (text : List ℕ) (start at value bound : ℕ) → IsNumberSoFar text start at value → at < length text → start < at → at ≤ start + 7

@@ -1,15 +1,9 @@
 -- Where the records of a text are, and how csv's machine reads from one place of it to another.
 use Rattle.std.specs.Prelude.{◌≡◌, ◌≢◌, ◌≤◌, ◌<◌, ◌-◌, ◌==◌, ◌||◌, ℕ, Bool, true, false, not, List, [], ◌∷◌, Option, Some, IfSome, length, take, drop}
-use Rattle.csv.specs.Machine.{Read, Runs, next_record}
-use Rattle.csv.specs.Reading.{default_config, strip_bom}
-use Rattle.csv.specs.declared.parser.State.{State}
+use Rattle.csv.specs.{Machine.Read, Machine.Runs, Machine.next_record, Reading.default_config, Reading.strip_bom, declared.parser.State.State}
 use Rattle.csv.specs.declared.parser.State.TheVariants as st
-use Rattle.trace.specs.Rows.{records_after}
-use Rattle.trace.specs.Trace.{records_of}
-use Rattle.trace.specs.declared.cutting.Cut.{Cut}
+use Rattle.trace.specs.{Rows.records_after, Trace.records_of, declared.cutting.Cut.Cut, declared.cutting.Field.Field, declared.cutting.Row.Row}
 use Rattle.trace.specs.declared.cutting.Cut.TheVariants as cut
-use Rattle.trace.specs.declared.cutting.Field.{Field}
-use Rattle.trace.specs.declared.cutting.Row.{Row}
 
 -- ---- bytes
 

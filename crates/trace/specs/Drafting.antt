@@ -1,18 +1,9 @@
 -- What the check of a record gives, and the commands so far of a device.
 use Rattle.std.specs.Prelude.{◌≡◌, ℕ, ◌<◌, ◌^◌, List, length, Result, Ok}
-use Rattle.geometry.specs.Geometry.{page_bytes_of}
-use Rattle.geometry.specs.declared.geometry.Geometry.{Geometry}
-use Rattle.trace.specs.Cutting.{fields_of_row}
-use Rattle.trace.specs.Digits.{IsData, bytes_of}
-use Rattle.trace.specs.Page.{page_with}
-use Rattle.trace.specs.Parsing.{page_len}
-use Rattle.trace.specs.Stored.{AreKept, with_digits}
-use Rattle.trace.specs.Trace.{command_of}
-use Rattle.trace.specs.declared.commands.Op.{Op}
-use Rattle.trace.specs.declared.cutting.Row.{Row}
-use Rattle.trace.specs.declared.draft.Draft.{Draft}
-use Rattle.trace.specs.declared.stored.Head.{Head}
-use Rattle.trace.specs.declared.fault.TraceFaultKind.{TraceFaultKind}
+use Rattle.geometry.specs.{Geometry.page_bytes_of, declared.geometry.Geometry.Geometry}
+use Rattle.trace.specs.{Cutting.fields_of_row, Digits.IsData, Digits.bytes_of, Page.page_with, Parsing.page_len, Stored.AreKept, Stored.with_digits}
+use Rattle.trace.specs.{Trace.command_of, declared.commands.Op.Op, declared.cutting.Row.Row, declared.draft.Draft.Draft}
+use Rattle.trace.specs.declared.{stored.Head.Head, fault.TraceFaultKind.TraceFaultKind}
 
 -- these digits make the page of an op, if a page has this size, and write no more than fits in it
 pub record MakePage (size : ℕ) (op : Op) (digits : List ℕ) (page : Result (List ℕ) TraceFaultKind) : Type 0 where

@@ -1,7 +1,6 @@
 -- What is printed of a fault.
 use Rattle.std.specs.Prelude.{List, ℕ, ◌++◌, codes, decimal}
-use Rattle.trace.specs.declared.fault.TraceFault.{TraceFault}
-use Rattle.trace.specs.declared.fault.TraceFaultKind.{TraceFaultKind}
+use Rattle.trace.specs.declared.fault.{TraceFault.TraceFault, TraceFaultKind.TraceFaultKind}
 use Rattle.trace.specs.declared.fault.TraceFaultKind.TheVariants as kind
 
 -- the name of a kind of fault

@@ -1,7 +1,6 @@
 -- Sixteen bytes of a text at once.
 use Rattle.std.specs.Prelude.{◌≡◌, ◌+◌, ◌*◌, ◌^◌, ◌%◌, ◌<◌, ◌≤◌, ◌==◌, ℕ, true, false, List, length, if◌then◌else◌, slice_index, nat_lt, Ok}
-use Rattle.std.specs.Int.{w64, trailing_zeros}
-use Rattle.std.specs.Int.Bits.{bit_and}
+use Rattle.std.specs.Int.{w64, trailing_zeros, Bits.bit_and}
 use Rattle.hex.specs.Hex.{is_hex_digit, pair_value}
 use Rattle.trace.specs.Cutting.{is_field_end}
 

@@ -1,8 +1,7 @@
 -- Lines of the laws of what is kept.
 use Rattle.std.specs.Prelude.{ℕ}
 use Rattle.trace.specs.declared.commands.Op.TheVariants as op
-use Rattle.trace.specs.declared.stored.Brief.{Brief}
-use Rattle.trace.specs.declared.stored.Stored.{Stored}
+use Rattle.trace.specs.declared.stored.{Brief.Brief, Stored.Stored}
 
 -- a write of worker 3 to sector 65541, with two digits
 abbrev pub line_of_write : Brief

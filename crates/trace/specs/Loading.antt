@@ -20,10 +20,4 @@ abbrev pub ExplainsLoad : TraceFaultKind → ℕ → ℕ → Option (List ℕ) �
 ExplainsLoad fault.Read failures_old failures_new old new = failures_new ≢ failures_old
 ExplainsLoad fault.Memory failures_old failures_new old new = failures_new ≡ failures_old
 ExplainsLoad fault.Big failures_old failures_new old new = (failures_new ≡ failures_old) × TookOneTooMany old new
-ExplainsLoad fault.Fields failures_old failures_new old new = ⊥
-ExplainsLoad fault.Worker failures_old failures_new old new = ⊥
-ExplainsLoad fault.Op failures_old failures_new old new = ⊥
-ExplainsLoad fault.Sector failures_old failures_new old new = ⊥
-ExplainsLoad fault.Hex failures_old failures_new old new = ⊥
-ExplainsLoad fault.TooLong failures_old failures_new old new = ⊥
-ExplainsLoad fault.Unused failures_old failures_new old new = ⊥
+ExplainsLoad _ _ _ _ _ = ⊥

@@ -1,12 +1,9 @@
 -- What the steps of parsing make of one record.
 use Rattle.std.specs.Prelude.{◌≡◌, ℕ, List, [], ◌∷◌, ◌++◌, drop, map, Result, Ok, Err, ◌⊎◌}
 use Rattle.geometry.specs.declared.geometry.Geometry.{Geometry}
-use Rattle.trace.specs.Trace.{checked, command_of, records_of, whole_fault}
-use Rattle.trace.specs.declared.commands.Command.{Command}
-use Rattle.trace.specs.declared.commands.Op.{Op}
+use Rattle.trace.specs.{Trace.checked, Trace.command_of, Trace.records_of, Trace.whole_fault, declared.fault.TraceFaultKind.TraceFaultKind}
+use Rattle.trace.specs.declared.{commands.Command.Command, commands.Op.Op, fault.TraceFault.TraceFault}
 use Rattle.trace.specs.declared.commands.Op.TheVariants as op
-use Rattle.trace.specs.declared.fault.TraceFault.{TraceFault}
-use Rattle.trace.specs.declared.fault.TraceFaultKind.{TraceFaultKind}
 use Rattle.trace.specs.declared.fault.TraceFaultKind.TheVariants as fault
 
 -- a fault at a line: only a fault of a record has one
@@ -27,9 +24,7 @@ RefusesBy check kind = (kind ≡ fault.Memory) ⊎ (check ≡ Err kind)
 abbrev pub page_len : Op → ℕ → ℕ
 page_len op.Write size = size
 page_len op.New size = size
-page_len op.Read size = 0
-page_len op.Trim size = 0
-page_len op.Meet size = 0
+page_len _ _ = 0
 
 -- the records before a place of a text are these commands
 abbrev pub AreSoFar : Geometry → List ℕ → ℕ → List Command → Type 0

@@ -1,11 +1,9 @@
 -- A csv reader that has read some of a text, seen as the records that it has left.
 use Rattle.std.specs.Prelude.{◌≡◌, ℕ, ◌+◌, Bool, true, false, List, [], ◌∷◌, length, Option, Some, unwrap_or, IsSome, MatchBool}
-use Rattle.csv.specs.Machine.{ends_at_end}
-use Rattle.csv.specs.Reading.{Ready, default_config, reader_config, reader_state, reader_trim, records_from, source_of}
-use Rattle.csv.specs.declared.parser.State.{State}
-use Rattle.csv.specs.declared.reader.Reader.{Reader}
-use Rattle.csv.specs.declared.reader.Trim.TheVariants as trim
 use Rattle.std.specs.Borrow.{Bor}
+use Rattle.csv.specs.{Machine.ends_at_end, declared.parser.State.State, declared.reader.Reader.Reader}
+use Rattle.csv.specs.Reading.{Ready, default_config, reader_config, reader_state, reader_trim, records_from, source_of}
+use Rattle.csv.specs.declared.reader.Trim.TheVariants as trim
 
 -- the bytes that a reader over a slice has left
 abbrev pub unread : Reader (Bor (List ℕ)) → Option (List ℕ)

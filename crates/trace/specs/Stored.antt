@@ -1,17 +1,8 @@
 -- How the commands of a trace are kept: each with the place of its digits, in the text or after its end among the odd ones. The first ones
 -- have a place of four bytes.
 use Rattle.std.specs.Prelude.{◌≡◌, ◌⊎◌, ℕ, ◌+◌, ◌*◌, ◌^◌, ◌<◌, ◌≤◌, List, [], ◌∷◌, All, ◌++◌, length, map, take, drop}
-use Rattle.trace.specs.declared.commands.Command.{Command}
-use Rattle.trace.specs.declared.draft.Draft.{Draft}
-use Rattle.trace.specs.declared.stored.AllStored.{AllStored}
-use Rattle.trace.specs.declared.stored.Brief.{Brief}
-use Rattle.trace.specs.declared.stored.Head.{Head}
-use Rattle.trace.specs.declared.stored.Lent.{Lent}
-use Rattle.trace.specs.declared.stored.Near.{Near}
-use Rattle.trace.specs.declared.stored.Stored.{Stored}
-use Rattle.trace.specs.Digits.{IsData, bytes_of}
-use Rattle.trace.specs.Page.{page_with}
-use Rattle.trace.specs.Parsing.{page_len}
+use Rattle.trace.specs.{declared.commands.Command.Command, declared.draft.Draft.Draft, Digits.IsData, Digits.bytes_of, Page.page_with, Parsing.page_len}
+use Rattle.trace.specs.declared.stored.{AllStored.AllStored, Brief.Brief, Head.Head, Lent.Lent, Near.Near, Stored.Stored}
 
 -- a command whose place has four bytes, with a place of eight
 abbrev pub widened : Near → Stored

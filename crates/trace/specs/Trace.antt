@@ -1,19 +1,12 @@
 -- What a trace means: the commands of its records, or the fault of the first record that has one.
-use Rattle.std.specs.Prelude.{◌≡◌, ℕ, ◌+◌, ◌==◌, ◌&&◌, nat_lt, nat_le, Bool, true, false, if◌then◌else◌}
-use Rattle.std.specs.Prelude.{List, [], ◌∷◌, ◌++◌, length, map, codes, Result, Ok, Err}
-use Rattle.std.specs.Str.{all_ascii_digits, bytes_eq}
-use Rattle.std.specs.Str.Parse.{digits_value}
+use Rattle.std.specs.Prelude.{◌≡◌, ℕ, ◌+◌, ◌==◌, ◌&&◌, nat_lt, nat_le, Bool, true, false, if◌then◌else◌, List, [], ◌∷◌, ◌++◌, length, map, codes, Result, Ok}
+use Rattle.std.specs.{Prelude.Err, Str.all_ascii_digits, Str.bytes_eq, Str.Parse.digits_value}
 use Rattle.csv.specs.Reading.{default_config, records, strip_bom}
-use Rattle.geometry.specs.Geometry.{hosts_of, page_bytes_of, sectors_of}
-use Rattle.geometry.specs.declared.geometry.Geometry.{Geometry}
-use Rattle.hex.specs.Hex.{decode_of}
-use Rattle.hex.specs.declared.error.FromHexError.{FromHexError}
+use Rattle.geometry.specs.{Geometry.hosts_of, Geometry.page_bytes_of, Geometry.sectors_of, declared.geometry.Geometry.Geometry}
+use Rattle.hex.specs.{Hex.decode_of, declared.error.FromHexError.FromHexError}
 use Rattle.trace.specs.Page.{page_with}
-use Rattle.trace.specs.declared.commands.Command.{Command}
-use Rattle.trace.specs.declared.commands.Op.{Op}
+use Rattle.trace.specs.declared.{commands.Command.Command, commands.Op.Op, fault.TraceFault.TraceFault, fault.TraceFaultKind.TraceFaultKind}
 use Rattle.trace.specs.declared.commands.Op.TheVariants as op
-use Rattle.trace.specs.declared.fault.TraceFault.{TraceFault}
-use Rattle.trace.specs.declared.fault.TraceFaultKind.{TraceFaultKind}
 use Rattle.trace.specs.declared.fault.TraceFaultKind.TheVariants as fault
 
 -- the name of an op, in a trace and in the answers
@@ -36,8 +29,7 @@ is_number text = nat_lt 0 (length text) && nat_le (length text) 7 && all_ascii_d
 
 -- the number that a field writes, if it is below the bound, and otherwise this fault
 unfoldable pub number_below : ℕ → TraceFaultKind → List ℕ → Result ℕ TraceFaultKind
-number_below bound otherwise text =
-    if is_number text && nat_lt (digits_value 10 text) bound then Ok (digits_value 10 text) else Err otherwise
+number_below bound otherwise text = if is_number text && nat_lt (digits_value 10 text) bound then Ok (digits_value 10 text) else Err otherwise
 
 -- how many workers a trace may name: the hosts, or 500 for a device of one thread
 abbrev pub workers_of : Geometry → ℕ
@@ -117,16 +109,10 @@ pub record IsFirstFault (records : List (Result Command TraceFaultKind)) (first 
 
 -- whether a fault is of a record, and not of the reader, the memory or the size
 abbrev pub is_of_record : TraceFaultKind → Bool
-is_of_record fault.Fields = true
-is_of_record fault.Worker = true
-is_of_record fault.Op = true
-is_of_record fault.Sector = true
-is_of_record fault.Hex = true
-is_of_record fault.TooLong = true
-is_of_record fault.Unused = true
 is_of_record fault.Read = false
 is_of_record fault.Memory = false
 is_of_record fault.Big = false
+is_of_record _ = true
 
 -- a fault of no record, whose line is 0
 abbrev pub whole_fault : TraceFaultKind → TraceFault

@@ -1,19 +1,10 @@
 -- Lines of the usual form: short numbers, no quotes, no fault, and a line feed after the data.
 use Rattle.std.specs.Prelude.{◌≡◌, ℕ, ◌+◌, ◌-◌, ◌^◌, ◌<◌, ◌≤◌, true, List, ◌∷◌, length, take, drop, slice_index, Ok, MatchBool}
 use Rattle.std.specs.Char.{is_ascii_digit}
-use Rattle.geometry.specs.Geometry.{page_bytes_of}
-use Rattle.geometry.specs.declared.geometry.Geometry.{Geometry}
-use Rattle.trace.specs.Cutting.{IsField, begins_with}
-use Rattle.trace.specs.Digits.{IsData}
-use Rattle.trace.specs.Drafting.{MakePage}
-use Rattle.trace.specs.Parsing.{page_len}
-use Rattle.trace.specs.Stored.{with_digits}
-use Rattle.trace.specs.Trace.{command_of, number_below, op_of, page_of, records_of}
-use Rattle.trace.specs.declared.commands.Op.{Op}
-use Rattle.trace.specs.declared.fault.TraceFaultKind.{TraceFaultKind}
-use Rattle.trace.specs.declared.usual.Number.{Number}
-use Rattle.trace.specs.declared.usual.OpName.{OpName}
-use Rattle.trace.specs.declared.usual.UsualLine.{UsualLine}
+use Rattle.geometry.specs.{Geometry.page_bytes_of, declared.geometry.Geometry.Geometry}
+use Rattle.trace.specs.{Cutting.IsField, Cutting.begins_with, Digits.IsData, Drafting.MakePage, Parsing.page_len, Stored.with_digits, declared.commands.Op.Op}
+use Rattle.trace.specs.{Trace.command_of, Trace.number_below, Trace.op_of, Trace.page_of, Trace.records_of, declared.fault.TraceFaultKind.TraceFaultKind}
+use Rattle.trace.specs.declared.usual.{Number.Number, OpName.OpName, UsualLine.UsualLine}
 
 -- the bytes of a text between two places
 abbrev pub part : List ℕ → ℕ → ℕ → List ℕ

@@ -1,8 +1,6 @@
 ghost use Rattle.std.specs.Prelude.{◌≡◌, ◌⊎◌, ◌+◌, ◌^◌, ◌==◌, ◌<◌, ◌≤◌, ◌∷◌, ◌++◌, drop, length, slice_get, Some};
 ghost use Rattle.std.specs.Iterator.{YieldsFirst, item_count};
-ghost use Rattle.trace.specs.Trace.{name_of};
-ghost use Rattle.trace.specs.Parsing.{page_len};
-ghost use Rattle.trace.specs.Stored.{AreKept, digits_at, drafted, lent_as, stored_in};
+ghost use Rattle.trace.specs.{Trace.name_of, Parsing.page_len, Stored.AreKept, Stored.digits_at, Stored.drafted, Stored.lent_as, Stored.stored_in};
 
 use crate::draft::Draft;
 use crate::page::Page;

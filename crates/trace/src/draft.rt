@@ -1,9 +1,7 @@
 // The commands of the lines so far, while their text is still being read.
 
 ghost use Rattle.std.specs.Prelude.{◌≡◌, ◌+◌, ◌^◌, ◌<◌, ◌≤◌, [], true, take, drop, length, OnOk};
-ghost use Rattle.trace.specs.Digits.{IsData};
-ghost use Rattle.trace.specs.Parsing.{page_len};
-ghost use Rattle.trace.specs.Stored.{AreKept, Pushes, stored_in};
+ghost use Rattle.trace.specs.{Digits.IsData, Parsing.page_len, Stored.AreKept, Stored.Pushes, Stored.stored_in};
 
 use crate::stored::{AllStored, Head, NEAR_BYTES, Stored};
 use std::alloc::{AllocError, Global};

@@ -1,15 +1,10 @@
 //! Laws of how the commands of a trace are kept. Each function has no code: its clauses say where a definition holds and where it doesn't, and what it
 //! is on small values.
 ghost use Rattle.std.specs.Prelude.{◌≡◌, ℕ, ◌^◌, ◌<◌, List, [], ◌∷◌, All, codes, length};
-ghost use Rattle.trace.specs.Commands.{rest_of};
-ghost use Rattle.trace.specs.Laws.{line_of_read, line_of_write, placed};
-ghost use Rattle.trace.specs.Stored.{IsKept, IsWhole, command_at, stored_in, widened};
-ghost use Rattle.trace.specs.declared.commands.Command.{Command};
-ghost use Rattle.trace.specs.declared.commands.CommandIter.{CommandIter};
+ghost use Rattle.trace.specs.{Commands.rest_of, Laws.line_of_read, Laws.line_of_write, Laws.placed, declared.commands.Command.Command};
+ghost use Rattle.trace.specs.{Stored.IsKept, Stored.IsWhole, Stored.command_at, Stored.stored_in, Stored.widened, declared.commands.CommandIter.CommandIter};
+ghost use Rattle.trace.specs.declared.stored.{AllStored.AllStored, Near.Near, Stored.Stored};
 ghost use Rattle.trace.specs.declared.commands.Op.TheVariants as op;
-ghost use Rattle.trace.specs.declared.stored.AllStored.{AllStored};
-ghost use Rattle.trace.specs.declared.stored.Near.{Near};
-ghost use Rattle.trace.specs.declared.stored.Stored.{Stored};
 
 /// Which commands an iterator has left, and in which order commands are kept.
 pub fn commands_in_order()

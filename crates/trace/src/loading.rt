@@ -1,7 +1,5 @@
-ghost use Rattle.std.specs.Prelude.{◌≡◌, ◌≤◌, vec_len, IfOk, IfErr, IfSome, OnOk};
-ghost use Rattle.std.specs.Io.KnownBytes.{IsAtEnd};
-ghost use Rattle.trace.specs.Loading.{ExplainsLoad, most_bytes};
-ghost use Rattle.trace.specs.Watched.{failures_of, inner_of};
+ghost use Rattle.std.specs.{Prelude.◌≡◌, Prelude.◌≤◌, Prelude.vec_len, Prelude.IfOk, Prelude.IfErr, Prelude.IfSome, Prelude.OnOk, Io.KnownBytes.IsAtEnd};
+ghost use Rattle.trace.specs.{Loading.ExplainsLoad, Loading.most_bytes, Watched.failures_of, Watched.inner_of};
 
 use crate::fault::{TraceFault, TraceFaultKind};
 use crate::watched::Watched;

@@ -1,6 +1,5 @@
 ghost use Rattle.std.specs.Prelude.{◌≡◌, ◌==◌, length};
-ghost use Rattle.trace.specs.Digits.{IsData, bytes_of};
-ghost use Rattle.trace.specs.Page.{page_with};
+ghost use Rattle.trace.specs.{Digits.IsData, Digits.bytes_of, Page.page_with};
 
 use crate::digits::decode;
 use std::marker::Model;

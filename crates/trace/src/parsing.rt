@@ -1,13 +1,10 @@
 ghost use Rattle.std.specs.Prelude.{◌≡◌, ◌≤◌, ◌<◌, ◌+◌, ◌^◌, length, Ok, Err, IfOk, IfErr, MatchBool, OnOk};
 ghost use Rattle.std.specs.Bool.{OnTrue};
 ghost use Rattle.geometry.specs.Geometry.{page_bytes_of};
-ghost use Rattle.trace.specs.Cutting.{StandsBefore, fields_of_row};
-ghost use Rattle.trace.specs.Drafting.{IsChecked, IsDraft, MakePage};
-ghost use Rattle.trace.specs.Parsing.{Adds, AreSoFar, RefusesBy, fault_at};
+ghost use Rattle.trace.specs.{Cutting.StandsBefore, Cutting.fields_of_row, Drafting.IsChecked, Drafting.IsDraft, Drafting.MakePage, Trace.workers_of};
+ghost use Rattle.trace.specs.{Parsing.Adds, Parsing.AreSoFar, Parsing.RefusesBy, Parsing.fault_at, declared.fault.TraceFaultKind.TheVariants.Memory};
 ghost use Rattle.trace.specs.Stored.{AreKept, drafted, stored_in};
-ghost use Rattle.trace.specs.Trace.{AreCommands, IsFirstFault, checked, command_of, commands_of, is_of_record};
-ghost use Rattle.trace.specs.Trace.{number_below, op_of, page_of, whole_fault, workers_of};
-ghost use Rattle.trace.specs.declared.fault.TraceFaultKind.TheVariants.{Memory};
+ghost use Rattle.trace.specs.Trace.{AreCommands, IsFirstFault, checked, command_of, commands_of, is_of_record, number_below, op_of, page_of, whole_fault};
 
 use crate::commands::{Commands, Op};
 use crate::cutting::{Cut, Row, next_cut};

@@ -1,6 +1,5 @@
 ghost use Rattle.std.specs.Prelude.{◌≡◌, IfErr, IfSome, OnOk};
-ghost use Rattle.std.specs.Io.{ReadsAtMost, WritesAtMost};
-ghost use Rattle.std.specs.Io.KnownBytes.{Keeps, ReadConsumes, WriteAppends};
+ghost use Rattle.std.specs.Io.{ReadsAtMost, WritesAtMost, KnownBytes.Keeps, KnownBytes.ReadConsumes, KnownBytes.WriteAppends};
 ghost use Rattle.trace.specs.Watched.{after_call, after_write, failures_of, inner_of, one_more};
 
 use crate::named_file::{NamedFile, OpenFault};

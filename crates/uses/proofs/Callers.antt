@@ -1,25 +1,14 @@
 -- Two hosts that make one call each: whichever is first, the sectors are the same.
-use Rattle.std.proofs.Common.{◌≡◌, ℕ, zero, suc, ◌<◌, ◌++◌, ◌⊎◌, inl, inr, ⊎_elim, eq-eqb, ne_eqb, List, [], ◌∷◌}
-use Rattle.std.proofs.Common.{Some, length, slice_get, get_or, sym, refl, ap, ◌∙◌, subst, arith}
+use Rattle.std.proofs.Common.{◌≡◌, ℕ, zero, suc, ◌<◌, ◌++◌, ◌⊎◌, inl, inr, ⊎_elim, eq-eqb, ne_eqb, List, [], ◌∷◌, Some, length, slice_get, get_or, sym, refl}
+use Rattle.std.proofs.{Common.ap, Common.◌∙◌, Common.subst, Common.arith, Math.ListN.set, lemmas.List.Elements.All-head, lemmas.List.Elements.All-tail}
 use Rattle.std.specs.Prelude.{All}
-use Rattle.std.proofs.Math.ListN.{set}
-use Rattle.std.proofs.lemmas.List.Elements.{All-head, All-tail}
 use mathlib.Core.Logic.{dite}
 use native.Mathlib.Decide.{ℕ_discrete}
-use Rattle.geometry.specs.Geometry.{hosts_of, sectors_of}
-use Rattle.geometry.specs.History.{Call, Write, after}
-use Rattle.geometry.specs.Sectors.{Sector}
-use Rattle.geometry.specs.declared.answer.Was.{Was}
-use Rattle.flash_rule.specs.declared.facts.Name.TheVariants.{Pass as APass}
-use Rattle.flash_rule.specs.declared.facts.Role.TheVariants.{Player}
-use Rattle.flash_rule.specs.declared.view.View.{View}
-use Rattle.flash_rule.specs.Views.{caller, calls_of}
-use Rattle.flash_rule.proofs.Histories.{nobody}
-use Rattle.flash_table.specs.declared.flash.Flash.{Flash}
-use Rattle.flash_table.specs.declared.pass.Pass.{Pass}
-use Rattle.flash_table.specs.Flash.{view_of, geometry_of, device, first_view}
-use Rattle.host.specs.Ready.{IsReady}
-use Rattle.host.specs.Told.{Wrote}
+use Rattle.geometry.specs.{Geometry.hosts_of, Geometry.sectors_of, History.Call, History.Write, History.after, Sectors.Sector, declared.answer.Was.Was}
+use Rattle.flash_rule.specs.declared.{facts.Name.TheVariants.Pass as APass, facts.Role.TheVariants.Player, view.View.View}
+use Rattle.flash_rule.{specs.Views.caller, specs.Views.calls_of, proofs.Histories.nobody}
+use Rattle.flash_table.specs.{declared.flash.Flash.Flash, declared.pass.Pass.Pass, Flash.view_of, Flash.geometry_of, Flash.device, Flash.first_view}
+use Rattle.host.specs.{Ready.IsReady, Told.Wrote}
 use Rattle.volume.specs.Closing.{AreAll, AreFinal}
 
 -- the one call of a host, where the other one has none
@@ -98,10 +87,8 @@ module _ (f : Flash) where
   each_ready p q h h' (suc (suc k)) d low = absurd (omega (arith, low))
 
   pub both_ready : (xs : List Pass) (p q : Pass) → length xs ≡ 2 → IsReady f p → IsReady f q → All (IsReady f) (set (set xs 0 p) 1 q)
-  both_ready [] p q long h h' = absurd (omega (arith, long))
-  both_ready (x ∷ []) p q long h h' = absurd (omega (arith, long))
   both_ready (x ∷ y ∷ []) p q long h h' = each_ready p q h h'
-  both_ready (x ∷ y ∷ z ∷ xs) p q long h h' = absurd (omega (arith, long))
+  both_ready _ _ _ long _ _ = absurd (omega (arith, long))
 
   -- each has written its sector: the sectors are both values
   pub both_values : (xs : List Pass) (a b p q : Pass) (first second : List ℕ) (was was' : Was) (seen : List Call) (sectors : List Sector)

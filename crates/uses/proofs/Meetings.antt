@@ -1,19 +1,10 @@
 -- What a host has written stays written when it meets another one.
 use Rattle.std.proofs.Common.{◌≡◌, ℕ, Bool, true, false, ◌++◌, List, [], ◌∷◌, sym, ap, ◌∙◌, subst, append-nil}
-use Rattle.std.specs.Prelude.{Result, Ok, Err, IfOk, OnErr, if◌then◌else◌}
-use Rattle.std.specs.Result.{is_ok}
-use Rattle.geometry.proofs.Histories.{Begins-refl, Begins-trans}
-use Rattle.geometry.specs.History.{Begins, Write}
-use Rattle.geometry.specs.declared.answer.Was.{Was}
-use Rattle.flash_rule.specs.declared.facts.Name.TheVariants.{Pass as APass}
-use Rattle.flash_rule.specs.declared.facts.Role.TheVariants.{Player}
-use Rattle.flash_rule.specs.declared.view.View.{View}
-use Rattle.flash_table.specs.declared.flash.Flash.{Flash}
-use Rattle.flash_table.specs.declared.pass.Pass.{Pass}
-use Rattle.flash_table.specs.Flash.{view_of}
-use Rattle.host.specs.declared.writing.NoBlock.{NoBlock}
-use Rattle.host.specs.Ready.{IsReady}
-use Rattle.host.specs.Told.{Wrote, Refused, MetTold}
+use Rattle.std.specs.{Prelude.Result, Prelude.Ok, Prelude.Err, Prelude.IfOk, Prelude.OnErr, Prelude.if◌then◌else◌, Result.is_ok}
+use Rattle.geometry.{proofs.Histories.Begins-refl, proofs.Histories.Begins-trans, specs.History.Begins, specs.History.Write, specs.declared.answer.Was.Was}
+use Rattle.flash_rule.specs.declared.{facts.Name.TheVariants.Pass as APass, facts.Role.TheVariants.Player, view.View.View}
+use Rattle.flash_table.specs.{declared.flash.Flash.Flash, declared.pass.Pass.Pass, Flash.view_of}
+use Rattle.host.specs.{declared.writing.NoBlock.NoBlock, Ready.IsReady, Told.Wrote, Told.Refused, Told.MetTold}
 use Rattle.uses.specs.Sharing.{IsStored, HasHeard}
 
 -- what a pass has called when it has written, or not

@@ -1,8 +1,6 @@
 -- A read behind a write of the same pass.
 use Rattle.std.proofs.Common.{ℕ, List, subst}
-use Rattle.geometry.specs.History.{Begins}
-use Rattle.geometry.specs.declared.answer.Got.{Got}
-use Rattle.geometry.specs.declared.answer.Was.{Was}
+use Rattle.geometry.specs.{History.Begins, declared.answer.Got.Got, declared.answer.Was.Was}
 use Rattle.flash_rule.specs.declared.view.View.{View}
 use Rattle.volume.specs.Correct.{Correct, Read, Write, Found, Replaced, known_by}
 use Rattle.uses.specs.Rereading.{IsReadBehind}

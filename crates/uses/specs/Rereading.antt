@@ -1,8 +1,6 @@
 -- What a pass reads after a write of its own.
 use Rattle.std.specs.Prelude.{ℕ, List, [], ◌∷◌, ◌++◌}
-use Rattle.geometry.specs.History.{Call, Write, held, Begins}
-use Rattle.geometry.specs.Sectors.{Answers}
-use Rattle.geometry.specs.declared.answer.Got.{Got}
+use Rattle.geometry.specs.{History.Call, History.Write, History.held, History.Begins, Sectors.Answers, declared.answer.Got.Got}
 use Rattle.flash_rule.specs.declared.view.View.{View}
 
 -- A pass wrote a sector, not before anything that it had seen, and then read it: the read was answered at a place of the history that

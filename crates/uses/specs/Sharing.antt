@@ -1,10 +1,7 @@
 -- What hosts that share a device know of each other.
 use Rattle.std.specs.Prelude.{◌≡◌, ℕ, Bool, List, [], ◌∷◌, ◌++◌, if◌then◌else◌}
 use Rattle.geometry.specs.History.{Call, Write, Begins}
-use Rattle.flash_rule.specs.declared.facts.Name.TheVariants.{Pass as APass}
-use Rattle.flash_rule.specs.declared.facts.Role.TheVariants.{Player}
-use Rattle.flash_rule.specs.declared.view.View.{View}
-use Rattle.flash_rule.specs.Views.{calls_of}
+use Rattle.flash_rule.specs.{declared.facts.Name.TheVariants.Pass as APass, declared.facts.Role.TheVariants.Player, declared.view.View.View, Views.calls_of}
 
 -- Pass t has written a value to a sector, if this says that it was done, and has made no other call
 pub record IsStoredBy (t s : ℕ) (value : List ℕ) (v : View) (done : Bool) (w : View) : Type 0 where

@@ -1,10 +1,8 @@
 ghost use Rattle.std.specs.Prelude.{◌≡◌, ℕ, ◌∷◌, [], All, Some, IfOk, IfErr, length, slice_get};
 ghost use Rattle.geometry.specs.Geometry.{hosts_of, page_bytes_of, sectors_of};
-ghost use Rattle.flash_table.specs.Flash.{device, first_view, geometry_of, view_of};
-ghost use Rattle.flash_table.specs.declared.pass.Pass.{Pass};
+ghost use Rattle.flash_table.specs.{Flash.device, Flash.first_view, Flash.geometry_of, Flash.view_of, declared.pass.Pass.Pass};
 ghost use Rattle.host.specs.Ready.{IsReady};
-ghost use Rattle.volume.specs.Closing.{sectors_left};
-ghost use Rattle.volume.specs.Volume.{flash_of};
+ghost use Rattle.volume.specs.{Closing.sectors_left, Volume.flash_of};
 
 use std::alloc::Global;
 use volume::{Closed, Pass, Volume};

@@ -1,12 +1,9 @@
 ghost use Rattle.std.specs.Prelude.{◌≡◌, ◌<◌, length};
-ghost use Rattle.geometry.specs.Geometry.{page_bytes_of, sectors_of};
-ghost use Rattle.geometry.specs.History.{held, Begins};
-ghost use Rattle.geometry.specs.Sectors.{Answers};
+ghost use Rattle.geometry.specs.{Geometry.page_bytes_of, Geometry.sectors_of, History.held, History.Begins, Sectors.Answers};
 ghost use Rattle.geometry.specs.declared.answer.Got.TheVariants as got;
 ghost use Rattle.flash_table.specs.Flash.{geometry_of, view_of};
 ghost use Rattle.host.specs.Ready.{IsReady};
-ghost use Rattle.volume.specs.Brooms.{IsBroomReady};
-ghost use Rattle.volume.specs.Volume.{flash_of};
+ghost use Rattle.volume.specs.{Brooms.IsBroomReady, Volume.flash_of};
 
 use volume::{Broom, Got, Holding, NoGate, Pass, Volume};
 

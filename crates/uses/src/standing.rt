@@ -1,14 +1,11 @@
 ghost use Rattle.std.specs.Prelude.{◌≡◌, ◌<◌, ℕ, List, length};
-ghost use Rattle.geometry.specs.Geometry.{page_bytes_of, sectors_of};
-ghost use Rattle.geometry.specs.History.{Begins};
+ghost use Rattle.geometry.specs.{Geometry.page_bytes_of, Geometry.sectors_of, History.Begins};
 ghost use Rattle.flash_rule.specs.Plays.{Disjoint};
 ghost use Rattle.flash_table.specs.Flash.{geometry_of, view_of};
 ghost use Rattle.broom.specs.Ready.{view_of_broom};
-ghost use Rattle.host.specs.Holding.{Holds, page_of, pass_of};
-ghost use Rattle.host.specs.Ready.{IsReady};
+ghost use Rattle.host.specs.{Holding.Holds, Holding.page_of, Holding.pass_of, Ready.IsReady};
 ghost use Rattle.uses.specs.Standing.{HasNoErase};
-ghost use Rattle.volume.specs.Brooms.{IsBroomReady};
-ghost use Rattle.volume.specs.Volume.{flash_of};
+ghost use Rattle.volume.specs.{Brooms.IsBroomReady, Volume.flash_of};
 
 use volume::{Broom, Held, NoGate, Pass, Volume};
 

@@ -1,45 +1,34 @@
 -- Calls that are done are steps of the array, and the passes of a new device are ready.
-use Rattle.std.proofs.Common.{◌≡◌, ℕ, ◌<◌, All, List, [], Option, Result, None, Some, slice_get, get_or, sym, ap, ◌∙◌}
-use Rattle.std.specs.Result.{IfOk}
-use Rattle.std.specs.Option.{IfSome}
-use Rattle.std.proofs.lemmas.Result.{IfOk-weaker}
-use Rattle.std.proofs.lemmas.Option.{slice_get-get_or}
-use Rattle.std.proofs.lemmas.List.Elements.{All-nil, All-same}
-use Rattle.geometry.specs.Geometry.{sectors_of}
+use Rattle.std.proofs.Common.{◌≡◌, ℕ, ◌<◌, All, List, [], ◌++◌, Option, Result, None, Some, slice_get, get_or, sym, ap, ◌∙◌}
+use Rattle.std.specs.{Result.IfOk, Option.IfSome}
+use Rattle.std.proofs.lemmas.{Result.IfOk-weaker, Option.slice_get-get_or, List.Elements.All-nil, List.Elements.All-same}
+use Rattle.geometry.specs.{Geometry.sectors_of, History.Begins, History.Call, History.was, Limits.Numbers, declared.answer.Was.Was}
 use Rattle.geometry.specs.History as call
-use Rattle.geometry.specs.History.{was, Call}
-use Rattle.geometry.specs.Limits.{Numbers}
-use Rattle.geometry.specs.declared.answer.Was.{Was}
-use Rattle.flash_rule.specs.declared.facts.Name.TheVariants.{Pass as APass}
-use Rattle.flash_rule.specs.declared.facts.Role.TheVariants.{Player}
-use Rattle.flash_rule.specs.declared.view.View.{View}
-use Rattle.flash_rule.specs.Views.{caller, calls_of}
-use Rattle.flash_rule.specs.Plays.{Called, is_unpinned}
-use Rattle.flash_rule.proofs.Owning.{none_some}
-use Rattle.flash_table.specs.declared.flash.Flash.{Flash}
-use Rattle.flash_table.specs.declared.pass.Pass.{Pass}
+use Rattle.flash_rule.specs.declared.{facts.Name.TheVariants.Pass as APass, facts.Role.TheVariants.Player, view.View.View}
+use Rattle.flash_rule.{specs.Views.caller, specs.Views.calls_of, specs.Plays.Called, specs.Plays.is_unpinned, proofs.Owning.none_some}
+use Rattle.flash_table.specs.declared.{flash.Flash.Flash, pass.Pass.Pass}
 use Rattle.flash_table.specs.Flash.{IsPassOf, view_of, opened_of, geometry_of, device, first_view}
-use Rattle.host.specs.declared.writing.NoBlock.{NoBlock}
-use Rattle.host.specs.Ready.{IsReady}
-use Rattle.host.specs.Told.{Wrote, WroteNew}
-use Rattle.volume.specs.Correct.{Correct, Write, WriteNew, Trim, Replaced, known_by}
+use Rattle.host.specs.{declared.writing.NoBlock.NoBlock, Ready.IsReady, Told.Wrote, Told.WroteNew}
+use Rattle.volume.specs.Correct.{Correct, Asked, Answer, IsAnswerAt, Write, WriteNew, Trim, Replaced, calls_for, known_by}
 
 -- a pass has the numbers of its device
 sectors : (f : Flash) (p : Pass) → IsReady f p → (view_of p).numbers.sectors ≡ sectors_of (geometry_of f)
 sectors f p ready = ap (λ (z : Numbers). z.sectors) ready.rested.pass.numbers
 
+-- a call that is done, by what its pass knows before and after
+made : (n t : ℕ) (asked : Asked) (answer : Answer) (v w : View) (place : List Call) → Begins v.seen place → IsAnswerAt n place asked answer
+    → w.seen ≡ place ++ calls_for t asked → w.mine ≡ v.mine ++ calls_for t asked → calls_of t w.seen ≡ w.mine
+    → Correct n t asked answer (known_by v) (known_by w)
+made n t asked answer v w place later answered seen mine own =
+    record { place = place; later = later; answered = answered; seen = seen; mine = mine; own = own }
+
 pub written : (f : Flash) (p q : Pass) (t s : ℕ) (value : List ℕ) (answer : Was) → IsReady f p → IsReady f q → (view_of p).role ≡ Player (APass t)
     → Wrote (view_of p) t s value answer (view_of q)
     → Correct (sectors_of (geometry_of f)) t (Write s value) (Replaced answer) (known_by (view_of p)) (known_by (view_of q))
 written f p q t s value answer old new role w =
-    record {
-      place = w.before;
-      later = w.later;
-      answered = w.answered ∙ ap (λ n. was n w.before s) (sectors f p old);
-      seen = w.now;
-      mine = ap (λ (v : View). v.mine) w.changed;
-      own = new.rested.own t (ap (λ (v : View). v.role) w.changed ∙ role);
-    }
+    made _ t (Write s value) (Replaced answer) (view_of p) (view_of q) w.before w.later
+    (w.answered ∙ ap (λ n. was n w.before s) (sectors f p old)) w.now (ap (λ (v : View). v.mine) w.changed)
+    (new.rested.own t (ap (λ (v : View). v.role) w.changed ∙ role))
 
 -- and so for either outcome
 pub writes : (f : Flash) (p q : Pass) (s : ℕ) (value : List ℕ) (r : Result Was NoBlock) → IsReady f p → IsReady f q
@@ -52,14 +41,9 @@ written_new : (f : Flash) (p q : Pass) (t s : ℕ) (value : List ℕ) (answer : 
     → WroteNew (view_of p) t s value answer (view_of q)
     → Correct (sectors_of (geometry_of f)) t (WriteNew s value) (Replaced answer) (known_by (view_of p)) (known_by (view_of q))
 written_new f p q t s value answer old new role w =
-    record {
-      place = w.before;
-      later = w.later;
-      answered = w.answered ∙ ap (λ n. was n w.before s) (sectors f p old);
-      seen = w.now;
-      mine = ap (λ (v : View). v.mine) w.changed;
-      own = new.rested.own t (ap (λ (v : View). v.role) w.changed ∙ role);
-    }
+    made _ t (WriteNew s value) (Replaced answer) (view_of p) (view_of q) w.before w.later
+    (w.answered ∙ ap (λ n. was n w.before s) (sectors f p old)) w.now (ap (λ (v : View). v.mine) w.changed)
+    (new.rested.own t (ap (λ (v : View). v.role) w.changed ∙ role))
 
 -- and so for a write of an empty sector, whatever the sector was
 pub writes_new : (f : Flash) (p q : Pass) (s : ℕ) (value : List ℕ) (found : Option Was) → IsReady f p → IsReady f q
@@ -73,14 +57,9 @@ pub trimmed : (f : Flash) (p q : Pass) (t s : ℕ) (answer : Was) → IsReady f 
     → Called (view_of p) (call.Trim t s) s answer (view_of q)
     → Correct (sectors_of (geometry_of f)) t (Trim s) (Replaced answer) (known_by (view_of p)) (known_by (view_of q))
 trimmed f p q t s answer old role w =
-    record {
-      place = w.before;
-      later = w.later;
-      answered = w.answered ∙ ap (λ n. was n w.before s) (sectors f p old);
-      seen = w.now;
-      mine = ap (λ (v : View). v.mine) w.changed;
-      own = w.own t role;
-    }
+    made _ t (Trim s) (Replaced answer) (view_of p) (view_of q) w.before w.later
+    (w.answered ∙ ap (λ n. was n w.before s) (sectors f p old)) w.now (ap (λ (v : View). v.mine) w.changed)
+    (w.own t role)
 
 -- a pass that has seen nothing and has nothing open
 pub fresh : (f : Flash) (p : Pass) (t : ℕ) → IsPassOf f p → view_of p ≡ first_view (device f) t → opened_of p ≡ None → IsReady f p

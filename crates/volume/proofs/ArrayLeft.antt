@@ -1,27 +1,18 @@
 -- Each call of a broom leaves the array of sectors to the hosts.
 use Rattle.std.proofs.Common.{◌≡◌, ℕ, All, Bool, true, false, List, [], ◌∷◌, ◌++◌, inl, inr, refl, sym, ap, ◌∙◌, subst, append_assoc, append-nil}
 use Rattle.std.proofs.lemmas.List.Elements.{All-head, All-tail}
-use Rattle.geometry.specs.History.{Call, Write, WriteNew, Trim, held, Begins}
+use Rattle.geometry.specs.{History.Call, History.Write, History.WriteNew, History.Trim, History.held, History.Begins, Limits.Numbers, PinWords.pin_word}
 use Rattle.geometry.proofs.Histories.{Begins-refl, Begins-trans, held_by_new, held_by_trim, held_by_write}
-use Rattle.geometry.specs.Limits.{Numbers}
-use Rattle.geometry.specs.PinWords.{pin_word}
 use Rattle.geometry.specs.declared.pin_word.PinWord.{PinWord}
-use Rattle.flash_rule.specs.Views.{AreOfHosts}
-use Rattle.flash_rule.specs.declared.view.View.{View}
-use Rattle.broom.specs.declared.broom.Broom.{Broom}
-use Rattle.broom.specs.declared.answer.Drain.{Drain}
+use Rattle.flash_rule.specs.{Views.AreOfHosts, declared.view.View.View}
+use Rattle.broom.specs.{declared.broom.Broom.Broom, declared.answer.Drain.Drain, declared.answer.Erase.Erase, Erasing.EraseTold, Meeting.BroomsMet}
+use Rattle.broom.{specs.Dead.DeadBySurvey, specs.Dead.DeadTold, specs.Dead.InspectedTold, proofs.Loading.loaded_changes}
+use Rattle.broom.specs.Handing.{DrainedAfterPut, DrainedBy, EraseOneTold, FetchedAndErased, IsElse, TurnTold}
+use Rattle.broom.specs.{Loading.AllLoaded, Loading.StateLoaded, Ready.view_of_broom, Restocking.RestockTold, Told.DrainTold, Told.NextTold}
 use Rattle.broom.specs.declared.answer.Drain.TheVariants as drain
-use Rattle.broom.specs.declared.answer.Erase.{Erase}
 use Rattle.broom.specs.declared.answer.Erase.TheVariants as erase
-use Rattle.broom.specs.Dead.{DeadBySurvey, DeadTold, InspectedTold}
-use Rattle.broom.specs.Erasing.{EraseTold}
-use Rattle.broom.specs.Handing.{DrainedAfterPut, DrainOneTold, EraseOneTold, FetchedAndErased, IsElse, TurnTold}
-use Rattle.broom.proofs.Loading.{loaded_changes}
-use Rattle.broom.specs.Loading.{AllLoaded, StateLoaded}
-use Rattle.broom.specs.Meeting.{BroomsMet}
-use Rattle.broom.specs.Ready.{view_of_broom}
-use Rattle.broom.specs.Restocking.{RestockTold}
-use Rattle.broom.specs.Told.{DrainTold, NextTold, SurveyLeft}
+use Rattle.broom.specs.declared.turns.Choice.{Choice}
+use Rattle.broom.specs.declared.turns.Choice.TheVariants as choice
 use Rattle.volume.specs.LeavesArray.{LeavesArray, sector_named}
 
 -- one more call leaves each sector that it doesn't name
@@ -146,32 +137,28 @@ elsewhere b a is = ap view_of_broom is
 moved : (v v' w w' : View) → v ≡ v' → w' ≡ w → LeavesArray v w → LeavesArray v' w'
 moved v v' w w' first last told = subst (λ (x : View). LeavesArray v' x) (sym last) (subst (λ (x : View). LeavesArray x w) first told)
 
--- a call of a broom that leaves the array
-abbrev Leaving : (Broom → Drain → Broom → Type 0) → Type 0
-Leaving Told = (b a : Broom) (answer : Drain) → Told b answer a → AreOfHosts (view_of_broom a).numbers (view_of_broom a).seen
+drained_by : (c : Choice) (b a : Broom) (answer : Drain) → DrainedBy c b answer a → AreOfHosts (view_of_broom a).numbers (view_of_broom a).seen
     → LeavesArray (view_of_broom b) (view_of_broom a)
+drained_by choice.Survey b a answer t hosts = drained b a answer t.0 hosts
+drained_by choice.Next b a answer t hosts = next_drained b a answer t hosts
+drained_by choice.Dead b a answer t hosts = dead_drained b a answer t hosts
 
-after_put : (Told : Broom → Drain → Broom → Type 0) → Leaving Told → (b a : Broom) (answer : Drain) → DrainedAfterPut Told b answer a
+after_put : (c : Choice) (b a : Broom) (answer : Drain) → DrainedAfterPut (DrainedBy c) b answer a
     → AreOfHosts (view_of_broom a).numbers (view_of_broom a).seen → LeavesArray (view_of_broom b) (view_of_broom a)
-after_put Told told b a answer t hosts =
+after_put c b a answer t hosts =
     moved (view_of_broom t.relieved) (view_of_broom b) (view_of_broom a) (view_of_broom a) (elsewhere b t.relieved t.first.rest) refl
-    (told t.relieved a answer t.drain hosts)
+    (drained_by c t.relieved a answer t.drain hosts)
 
-pub turned : (Told : Broom → Drain → Broom → Type 0) → Leaving Told → (limit : ℕ) (b a : Broom) (answer : Drain) → TurnTold Told limit b answer a
+pub turned : (c : Choice) (limit : ℕ) (b a : Broom) (answer : Drain) → TurnTold (DrainedBy c) limit b answer a
     → AreOfHosts (view_of_broom a).numbers (view_of_broom a).seen → LeavesArray (view_of_broom b) (view_of_broom a)
-turned Told told limit b a (drain.Drained block copied) t hosts =
+turned c limit b a (drain.Drained block copied) t hosts =
     let handed = elsewhere t.drained a t.handed.rest in
     moved (view_of_broom b) (view_of_broom b) (view_of_broom t.drained) (view_of_broom a) refl handed
-    (after_put Told told b t.drained (drain.Drained block copied) t.drain (subst (λ (x : View). AreOfHosts x.numbers x.seen) handed hosts))
-turned Told told limit b a drain.NothingToGain t hosts = after_put Told told b a drain.NothingToGain t hosts
-turned Told told limit b a drain.NoSpare t hosts = after_put Told told b a drain.NoSpare t hosts
-turned Told told limit b a drain.Lost t hosts = after_put Told told b a drain.Lost t hosts
-turned Told told limit b a drain.QueueFull t hosts = same (view_of_broom b) (view_of_broom a) (elsewhere b a t.rest) hosts
-
-pub drained_one : (limit : ℕ) (b a : Broom) (answer : Drain) → DrainOneTold limit b answer a
-    → AreOfHosts (view_of_broom a).numbers (view_of_broom a).seen → LeavesArray (view_of_broom b) (view_of_broom a)
-drained_one limit b a answer t hosts =
-    turned (λ x given y. DrainTold x given y × SurveyLeft x given y) (λ x y given told. drained x y given told.0) limit b a answer t hosts
+    (after_put c b t.drained (drain.Drained block copied) t.drain (subst (λ (x : View). AreOfHosts x.numbers x.seen) handed hosts))
+turned c limit b a drain.NothingToGain t hosts = after_put c b a drain.NothingToGain t hosts
+turned c limit b a drain.NoSpare t hosts = after_put c b a drain.NoSpare t hosts
+turned c limit b a drain.Lost t hosts = after_put c b a drain.Lost t hosts
+turned c limit b a drain.QueueFull t hosts = same (view_of_broom b) (view_of_broom a) (elsewhere b a t.rest) hosts
 
 fetched_erased : (b a : Broom) (block : ℕ) (answer : Erase) → FetchedAndErased b block answer a
     → AreOfHosts (view_of_broom a).numbers (view_of_broom a).seen → LeavesArray (view_of_broom b) (view_of_broom a)

@@ -1,28 +1,15 @@
 -- What the meetings of one pass with all others, before and after it reads, tell of the sectors that it has read.
 use Rattle.std.proofs.Common.{◌≡◌, ℕ, zero, suc, ◌<◌, All, List, [], ◌∷◌, ◌++◌, Option, None, Some, length, slice_get, get_or, sym, refl, ap, ◌∙◌, subst, arith}
 use Rattle.std.proofs.lemmas.Option.{slice_get_within, get_or_from_slice_get}
-use Rattle.geometry.specs.Geometry.{sectors_of, hosts_of}
-use Rattle.geometry.specs.History.{Call, after, held, Begins}
-use Rattle.geometry.specs.Limits.{Numbers}
-use Rattle.geometry.specs.Sectors.{Sector, sector_at}
-use Rattle.geometry.proofs.Histories.{Begins-trans}
-use Rattle.flash_rule.specs.declared.facts.Name.TheVariants.{Pass as APass}
-use Rattle.flash_rule.specs.declared.facts.Role.TheVariants.{Player}
-use Rattle.flash_rule.specs.declared.view.View.{View}
-use Rattle.flash_rule.specs.Views.{AreOfHosts, calls_of}
-use Rattle.flash_rule.proofs.Histories.{callers_before, squeezed}
-use Rattle.flash_rule.proofs.Owning.{some_same}
-use Rattle.flash_table.specs.declared.flash.Flash.{Flash}
-use Rattle.flash_table.specs.declared.pass.Pass.{Pass}
-use Rattle.flash_table.specs.Flash.{view_of, geometry_of, device}
+use Rattle.geometry.specs.{Geometry.sectors_of, Geometry.hosts_of, History.Call, History.after, History.held, History.Begins, Sectors.Sector, Sectors.sector_at}
+use Rattle.geometry.{specs.Limits.Numbers, proofs.Histories.Begins-trans}
+use Rattle.flash_rule.specs.declared.{facts.Name.TheVariants.Pass as APass, facts.Role.TheVariants.Player, view.View.View}
+use Rattle.flash_rule.{specs.Views.AreOfHosts, specs.Views.calls_of, proofs.Histories.callers_before, proofs.Histories.squeezed, proofs.Owning.some_same}
+use Rattle.flash_table.specs.declared.{flash.Flash.Flash, pass.Pass.Pass, pass.OpenBlock.OpenBlock}
+use Rattle.flash_table.specs.{Flash.view_of, Flash.geometry_of, Flash.device, Owning.owned_list, Owning.closed_list, GivingUp.closed_pass}
 use Rattle.host.specs.Ready.{IsReady}
-use Rattle.flash_table.specs.declared.pass.OpenBlock.{OpenBlock}
-use Rattle.flash_table.specs.Owning.{owned_list, closed_list}
-use Rattle.flash_table.specs.GivingUp.{closed_pass}
 use Rattle.volume.specs.Closing.{AreAll, AreRead, AreFinal, HasLooked, HaveLooked, HasLeft, closed_blocks}
-use Rattle.volume.specs.Gathering.{MetEach, HasRead}
-use Rattle.volume.proofs.Looks.{looked-trans}
-use Rattle.volume.proofs.Still.{at_one}
+use Rattle.volume.{specs.Gathering.MetEach, specs.Gathering.HasRead, proofs.Looks.looked-trans, proofs.Still.at_one}
 
 -- a pass of the rest of a row, where it stands
 there : (ps : List Pass) (j : ℕ) (p d : Pass) → slice_get ps j ≡ Some p → get_or ps j d ≡ p
@@ -31,10 +18,7 @@ there ps j p d is = get_or_from_slice_get ps j p d is
 -- a pass has looked, and the others have met it
 pub have_looked : (ps qs : List Pass) (first now : Pass) (v : View) → HasLooked (view_of first) (view_of now) → MetEach v ps (view_of now) qs
     → HaveLooked (first ∷ ps) (now ∷ qs)
-have_looked ps qs first now v looked m = record {
-  long = ap (λ k. suc k) m.long;
-  each = λ k. each k;
-} where
+have_looked ps qs first now v looked m = record { long = ap (λ k. suc k) m.long; each = λ k. each k } where
   each : (k : ℕ) (p q : Pass) → slice_get (first ∷ ps) k ≡ Some p → slice_get (now ∷ qs) k ≡ Some q → HasLooked (view_of p) (view_of q)
   each zero p q is was = subst (λ (x : Pass × Pass). HasLooked (view_of x.0) (view_of x.1)) (λ i. (some_same first p is i, some_same now q was i)) looked
   each (suc j) p q is was =

@@ -1,26 +1,16 @@
 -- The brooms of a new device are ready.
-use Rattle.std.proofs.Common.{◌≡◌, ℕ, ◌<◌, All, List, [], ◌∷◌, ◌++◌, Option, None, Some, IfSome, length, map}
-use Rattle.std.proofs.Common.{slice_get, get_or, sym, refl, ap, ◌∙◌, subst, arith, append_assoc}
-use Rattle.std.specs.Option.{option_map}
-use Rattle.std.proofs.lemmas.List.{map_push, length-map, length_push}
-use Rattle.std.proofs.lemmas.Option.{slice_get-get_or, slice_get-map}
+use Rattle.std.proofs.Common.{◌≡◌, ℕ, ◌<◌, All, List, [], ◌∷◌, ◌++◌, Option, None, Some, IfSome, length, map, slice_get, get_or, sym, refl, ap, ◌∙◌, subst}
+use Rattle.std.{proofs.Common.arith, proofs.Common.append_assoc, specs.Option.option_map}
+use Rattle.std.proofs.lemmas.{List.map_push, List.length-map, List.length_push, Option.slice_get-get_or, Option.slice_get-map}
 use Rattle.std.proofs.lemmas.List.Elements.{All-nil, All-same, All-push, All-pop, All-head, All-rest}
 use Rattle.geometry.specs.Geometry.{brooms_of, hosts_of}
-use Rattle.flash_rule.specs.declared.view.View.{View}
-use Rattle.flash_rule.specs.Views.{caller}
-use Rattle.flash_rule.proofs.Owning.{some_same, none_some}
-use Rattle.erase_queue.specs.declared.pass.QueuePass.{QueuePass}
-use Rattle.erase_queue.specs.declared.queue.EraseQueue.{EraseQueue}
-use Rattle.erase_queue.specs.Queue.{limit_of, IsNewPass}
-use Rattle.flash_table.specs.declared.flash.Flash.{Flash}
-use Rattle.flash_table.specs.declared.broom_seat.BroomBlocks.{BroomBlocks}
-use Rattle.flash_table.specs.declared.broom_seat.BroomSeat.{BroomSeat}
+use Rattle.flash_rule.{specs.declared.view.View.View, specs.Views.caller, proofs.Owning.some_same, proofs.Owning.none_some}
+use Rattle.erase_queue.specs.{declared.pass.QueuePass.QueuePass, declared.queue.EraseQueue.EraseQueue, Queue.limit_of, Queue.IsNewPass}
+use Rattle.flash_table.specs.declared.{flash.Flash.Flash, broom_seat.BroomBlocks.BroomBlocks, broom_seat.BroomSeat.BroomSeat}
 use Rattle.flash_table.specs.Flash.{IsBroomOf, broom_view, own_blocks, geometry_of, device, first_broom, first_blocks}
-use Rattle.broom.specs.declared.broom.Broom.{Broom}
-use Rattle.broom.specs.Handing.{IsQueued, place_of, aside_of}
+use Rattle.broom.specs.{declared.broom.Broom.Broom, Handing.IsQueued, Handing.place_of, Handing.aside_of}
 use Rattle.broom.specs.Ready.{HasNoMarks, IsRested, IsReady, HasRoom, view_of_broom, blocks_of_broom}
-use Rattle.volume.specs.Brooms.{IsFresh}
-use Rattle.volume.specs.Opening.{known_by_seat, known_by_broom}
+use Rattle.volume.specs.{Brooms.IsFresh, Opening.known_by_seat, Opening.known_by_broom}
 
 -- a seat that has done nothing and has its spare alone
 pub rested : (f : Flash) (s : BroomSeat) (i : ℕ) → 0 < hosts_of (geometry_of f) → i < brooms_of (geometry_of f) → IsBroomOf f s

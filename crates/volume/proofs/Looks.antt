@@ -1,18 +1,13 @@
 -- Passes that look and do nothing else: they meet one another, or read one sector after another.
 use Rattle.std.proofs.Common.{◌≡◌, ℕ, ◌+◌, ◌<◌, ◌≤◌, All, List, length, slice_set, get_or, sym, refl, ap, ◌∙◌, subst, arith}
-use Rattle.std.proofs.lemmas.List.{get_or-set_same, get_or-set_other, get_or_default, length-set}
-use Rattle.std.proofs.lemmas.List.Elements.{All-set}
+use Rattle.std.proofs.lemmas.List.{get_or-set_same, get_or-set_other, get_or_default, length-set, Elements.All-set}
 use mathlib.Core.Logic.{dite}
 use native.Mathlib.Decide.{ℕ_discrete}
 use Rattle.geometry.proofs.Histories.{Begins-refl, Begins-trans}
 use Rattle.flash_rule.specs.declared.view.View.{View}
-use Rattle.flash_table.specs.declared.flash.Flash.{Flash}
-use Rattle.flash_table.specs.declared.pass.Pass.{Pass}
-use Rattle.flash_table.specs.Flash.{view_of}
-use Rattle.host.specs.Ready.{IsReady}
-use Rattle.host.specs.Told.{Searched, MetTold}
-use Rattle.volume.specs.Closing.{HasLooked}
-use Rattle.volume.specs.Gathering.{Tied, MetEach}
+use Rattle.flash_table.specs.{declared.flash.Flash.Flash, declared.pass.Pass.Pass, Flash.view_of}
+use Rattle.host.specs.{Ready.IsReady, Told.Searched, Told.MetTold}
+use Rattle.volume.specs.{Closing.HasLooked, Gathering.Tied, Gathering.MetEach}
 
 pub looked-refl : (v : View) → HasLooked v v
 looked-refl v = record { changed = refl; later = Begins-refl v.seen }

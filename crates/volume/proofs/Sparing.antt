@@ -1,12 +1,8 @@
 -- What a word of a held page tells of another player is that it has not disturbed the hold.
 use Rattle.std.proofs.Common.{◌≡◌, ℕ, List, Option, None, Some, IfSome, sym, refl, subst}
-use Rattle.flash_rule.specs.declared.carried.Carried.{Carried}
-use Rattle.flash_rule.specs.declared.view.View.{View}
-use Rattle.flash_rule.specs.Plays.{Disjoint, Once}
-use Rattle.flash_table.specs.declared.flash.Flash.{Flash}
-use Rattle.flash_table.specs.Flash.{view_of}
-use Rattle.host.specs.declared.holding.Held.{Held}
-use Rattle.host.specs.Holding.{Holds, IsSpared, pass_of, page_of}
+use Rattle.flash_rule.specs.{declared.carried.Carried.Carried, declared.view.View.View, Plays.Disjoint, Plays.Once}
+use Rattle.flash_table.specs.{declared.flash.Flash.Flash, Flash.view_of}
+use Rattle.host.specs.{declared.holding.Held.Held, Holding.Holds, Holding.IsSpared, Holding.pass_of, Holding.page_of}
 use Rattle.volume.specs.Undisturbed.{AreEarlier, IsUndisturbed}
 
 -- what holds of each value that there is

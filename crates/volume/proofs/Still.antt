@@ -1,12 +1,9 @@
 -- Histories that only grow: where no host has made a call in between, two of them are one.
 use Rattle.std.proofs.Common.{◌≡◌, ℕ, zero, suc, ◌+◌, ◌<◌, List, None, length, sym, ap, ◌∙◌, subst, arith}
-use Rattle.std.specs.Prelude.{All}
-use Rattle.std.proofs.lemmas.List.{ext_get_or}
-use Rattle.geometry.specs.History.{Call, after, held, Begins}
-use Rattle.geometry.specs.Sectors.{Sector, sector_at}
+use Rattle.std.{specs.Prelude.All, proofs.lemmas.List.ext_get_or}
+use Rattle.geometry.specs.{History.Call, History.after, History.held, History.Begins, Sectors.Sector, Sectors.sector_at}
 use Rattle.geometry.proofs.Histories.{length-after, Begins-refl, Begins-trans}
-use Rattle.flash_rule.specs.Views.{caller, calls_of}
-use Rattle.flash_rule.proofs.Histories.{still}
+use Rattle.flash_rule.{specs.Views.caller, specs.Views.calls_of, proofs.Histories.still}
 
 -- Sectors that were read at histories that grow
 module _ (hosts n : ℕ) (sectors : List Sector) (history : ℕ → List Call) (grows : (s : ℕ) → Begins (history s) (history (s + 1))) where

@@ -1,24 +1,14 @@
 -- One pass reads one sector after another.
 use Rattle.std.proofs.Common.{◌≡◌, ℕ, ◌+◌, ◌<◌, ◌≤◌, List, [], ◌∷◌, ◌++◌, Option, None, Vec, Global, if◌then◌else◌, length, sym, refl, ap, ◌∙◌, subst, arith}
-use Rattle.std.specs.Option.{option_map}
-use Rattle.std.proofs.Math.Dec.{ltb}
-use Rattle.std.proofs.lemmas.Bool.{lt-ltb, le-ltb, cases_lt}
-use Rattle.std.proofs.lemmas.List.{map_push, length_push, get_or_append_left, get_or_push}
+use Rattle.std.{specs.Option.option_map, proofs.Math.Dec.ltb}
+use Rattle.std.proofs.lemmas.{Bool.lt-ltb, Bool.le-ltb, Bool.cases_lt, List.map_push, List.length_push, List.get_or_append_left, List.get_or_push}
 use mathlib.Core.Logic.{inl, inr}
-use Rattle.geometry.specs.History.{Call, held, Begins}
-use Rattle.geometry.specs.Sectors.{Sector, sector_at}
+use Rattle.geometry.specs.{History.Call, History.held, History.Begins, Sectors.Sector, Sectors.sector_at}
 use Rattle.geometry.proofs.Histories.{Begins-refl, Begins-trans}
-use Rattle.flash_rule.specs.declared.facts.Name.TheVariants.{Pass as APass}
-use Rattle.flash_rule.specs.declared.facts.Role.TheVariants.{Player}
-use Rattle.flash_rule.specs.declared.view.View.{View}
-use Rattle.flash_rule.specs.Views.{calls_of}
-use Rattle.flash_table.specs.declared.flash.Flash.{Flash}
-use Rattle.flash_table.specs.declared.pass.Pass.{Pass}
-use Rattle.flash_table.specs.Flash.{view_of}
+use Rattle.flash_rule.specs.{declared.facts.Name.TheVariants.Pass as APass, declared.facts.Role.TheVariants.Player, declared.view.View.View, Views.calls_of}
+use Rattle.flash_table.specs.{declared.flash.Flash.Flash, declared.pass.Pass.Pass, Flash.view_of}
 use Rattle.host.specs.Ready.{IsReady}
-use Rattle.volume.specs.Closing.{HasLooked, array_of}
-use Rattle.volume.specs.Gathering.{HasRead}
-use Rattle.volume.proofs.Looks.{looked-refl, looked-trans}
+use Rattle.volume.{specs.Closing.HasLooked, specs.Closing.array_of, specs.Gathering.HasRead, proofs.Looks.looked-refl, proofs.Looks.looked-trans}
 
 -- as the function says below n, and x from there on
 until : {X : Type 0} → ℕ → (ℕ → X) → X → ℕ → X

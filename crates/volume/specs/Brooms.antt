@@ -1,16 +1,10 @@
 -- A broom at its volume.
-use Rattle.std.specs.Prelude.{◌≡◌, None, ℕ}
-use Rattle.std.proofs.Props.{props}
-use Rattle.erase_queue.specs.declared.queue.EraseQueue.{EraseQueue}
-use Rattle.erase_queue.specs.Queue.{IsNewPass}
-use Rattle.flash_table.specs.declared.flash.Flash.{Flash}
-use Rattle.broom.specs.declared.broom.Broom.{Broom}
-use Rattle.broom.specs.Handing.{IsQueued, place_of, aside_of}
-use Rattle.broom.specs.Once.{IsReady-prop, IsQueued-prop}
+use Rattle.std.{specs.Prelude.◌≡◌, specs.Prelude.None, specs.Prelude.ℕ, proofs.Props.props}
+use Rattle.erase_queue.specs.{declared.queue.EraseQueue.EraseQueue, Queue.IsNewPass}
+use Rattle.flash_table.specs.{declared.flash.Flash.Flash, Flash.device, Flash.first_blocks, Flash.first_broom}
+use Rattle.broom.specs.{declared.broom.Broom.Broom, Handing.IsQueued, Handing.place_of, Handing.aside_of, Once.IsReady-prop, Once.IsQueued-prop}
 use Rattle.broom.specs.Ready.{HasNoMarks, IsReady, blocks_of_broom, view_of_broom}
-use Rattle.volume.specs.declared.volume.Volume.{Volume}
-use Rattle.volume.specs.Volume.{flash_of, queue_of}
-use Rattle.flash_table.specs.Flash.{device, first_blocks, first_broom}
+use Rattle.volume.specs.{declared.volume.Volume.Volume, Volume.flash_of, Volume.queue_of}
 
 -- A broom between two calls: it is ready at the volume's device, and its place is one at the volume's queue
 pub record IsBroomReady (v : Volume) (b : Broom) : Type 0 where

@@ -1,20 +1,12 @@
 -- What the sectors are with which a device is closed.
 use Rattle.std.specs.Prelude.{◌≡◌, ℕ, ◌+◌, ◌<◌, ◌++◌, List, Option, Vec, map, option_map, length, [], None, Some, slice_get}
 use Rattle.std.specs.Global.{Global}
-use Rattle.geometry.specs.Limits.{Numbers}
+use Rattle.geometry.specs.{Limits.Numbers, History.Call, History.after, History.held, History.Begins, declared.pin_word.Phase.TheVariants.Closed as ClosedPhase}
 use Rattle.geometry.specs.Sectors.{Sector, sector_at}
-use Rattle.geometry.specs.History.{Call, after, held, Begins}
-use Rattle.flash_rule.specs.declared.facts.Name.TheVariants.{Pass as APass}
-use Rattle.flash_rule.specs.declared.facts.Role.TheVariants.{Player}
-use Rattle.geometry.specs.declared.pin_word.Phase.TheVariants.{Closed as ClosedPhase}
-use Rattle.flash_rule.specs.declared.facts.Owned.{Owned}
-use Rattle.flash_rule.specs.declared.view.View.{View}
+use Rattle.flash_rule.specs.declared.{facts.Name.TheVariants.Pass as APass, facts.Role.TheVariants.Player, facts.Owned.Owned, view.View.View}
 use Rattle.flash_rule.specs.Views.{AreOfHosts, calls_of}
-use Rattle.flash_table.specs.declared.pass.Pass.{Pass}
-use Rattle.flash_table.specs.Flash.{device, view_of}
-use Rattle.flash_table.specs.Leaving.{retired_view}
+use Rattle.flash_table.specs.{declared.pass.Pass.Pass, Flash.device, Flash.view_of, Leaving.retired_view, declared.flash.Flash.Flash}
 use Rattle.volume.specs.declared.closing.Closed.{Closed}
-use Rattle.flash_table.specs.declared.flash.Flash.{Flash}
 
 -- the array that a row of values is
 abbrev pub array_of : List (Option (Vec ℕ Global)) → List Sector

@@ -1,19 +1,12 @@
 -- What holds of each read, look, write, write of an empty sector and trim, whatever other threads do during it: it is one step of an array
 -- of sectors, at a place of one history that only grows, and not before anything that its pass had seen.
 use Rattle.std.specs.Prelude.{◌≡◌, ℕ, Bool, List, [], ◌∷◌, ◌++◌, is_some}
-use Rattle.geometry.specs.Sectors.{Answers}
-use Rattle.geometry.specs.History.{Call, held, was, Begins}
-use Rattle.geometry.specs.History as call
-use Rattle.geometry.specs.declared.answer.Got.{Got}
-use Rattle.geometry.specs.declared.answer.Was.{Was}
-use Rattle.flash_rule.specs.Views.{calls_of}
-use Rattle.flash_rule.specs.declared.view.View.{View}
+use Rattle.geometry.specs.{Sectors.Answers, History.Call, History.held, History.was, History.Begins, declared.answer.Got.Got, declared.answer.Was.Was}
 use Rattle.geometry.specs.Geometry.{sectors_of}
-use Rattle.flash_table.specs.declared.pass.Pass.{Pass}
-use Rattle.flash_table.specs.Flash.{geometry_of, view_of}
-use Rattle.flash_table.specs.Steps.{HasNumber}
-use Rattle.volume.specs.declared.volume.Volume.{Volume}
-use Rattle.volume.specs.Volume.{flash_of}
+use Rattle.geometry.specs.History as call
+use Rattle.flash_rule.specs.{Views.calls_of, declared.view.View.View}
+use Rattle.flash_table.specs.{declared.pass.Pass.Pass, Flash.geometry_of, Flash.view_of, Steps.HasNumber}
+use Rattle.volume.specs.{declared.volume.Volume.Volume, Volume.flash_of}
 
 -- what a pass may ask: the value of a sector, whether it has one, a new value for it, a value for it if it is empty, or that it become
 -- empty
@@ -33,20 +26,11 @@ pub data Answer : Type 0 where
 -- the result that an array of this many sectors gives after a history
 abbrev pub IsAnswerAt : ℕ → List Call → Asked → Answer → Type 0
 IsAnswerAt n h (Read s) (Found got old new) = Answers (held n h s) got old new
-IsAnswerAt n h (Read s) (IsWritten written) = ⊥
-IsAnswerAt n h (Read s) (Replaced was_there) = ⊥
-IsAnswerAt n h (Look s) (Found got old new) = ⊥
 IsAnswerAt n h (Look s) (IsWritten written) = written ≡ is_some (held n h s)
-IsAnswerAt n h (Look s) (Replaced was_there) = ⊥
-IsAnswerAt n h (Write s value) (Found got old new) = ⊥
-IsAnswerAt n h (Write s value) (IsWritten written) = ⊥
 IsAnswerAt n h (Write s value) (Replaced was_there) = was_there ≡ was n h s
-IsAnswerAt n h (WriteNew s value) (Found got old new) = ⊥
-IsAnswerAt n h (WriteNew s value) (IsWritten written) = ⊥
 IsAnswerAt n h (WriteNew s value) (Replaced was_there) = was_there ≡ was n h s
-IsAnswerAt n h (Trim s) (Found got old new) = ⊥
-IsAnswerAt n h (Trim s) (IsWritten written) = ⊥
 IsAnswerAt n h (Trim s) (Replaced was_there) = was_there ≡ was n h s
+IsAnswerAt _ _ _ _ = ⊥
 
 -- the calls that a pass adds to the history by what it asks: a read and a look add none
 abbrev pub calls_for : ℕ → Asked → List Call

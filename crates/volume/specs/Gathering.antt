@@ -1,17 +1,10 @@
 -- The parts of a close.
 use Rattle.std.specs.Prelude.{◌≡◌, ℕ, ◌+◌, ◌<◌, List, length, slice_index_or, Option, Some, Vec, slice_get}
-use Rattle.geometry.specs.Sectors.{Sector, sector_at}
-use Rattle.geometry.specs.History.{Call, held, Begins}
-use Rattle.flash_rule.specs.declared.view.View.{View}
-use Rattle.flash_rule.specs.declared.facts.Name.TheVariants.{Pass as APass}
-use Rattle.flash_rule.specs.declared.facts.Role.TheVariants.{Player}
-use Rattle.flash_rule.specs.Views.{calls_of}
-use Rattle.flash_table.specs.declared.pass.Pass.{Pass}
-use Rattle.flash_table.specs.Flash.{device, geometry_of, view_of}
-use Rattle.volume.specs.Closing.{AreAll, AreFinal, AreRead, HasLooked, array_of}
 use Rattle.std.specs.Global.{Global}
-use Rattle.geometry.specs.Geometry.{hosts_of}
-use Rattle.flash_table.specs.declared.flash.Flash.{Flash}
+use Rattle.geometry.specs.{Sectors.Sector, Sectors.sector_at, History.Call, History.held, History.Begins, Geometry.hosts_of}
+use Rattle.flash_rule.specs.{declared.view.View.View, declared.facts.Name.TheVariants.Pass as APass, declared.facts.Role.TheVariants.Player, Views.calls_of}
+use Rattle.flash_table.specs.{declared.pass.Pass.Pass, Flash.device, Flash.geometry_of, Flash.view_of, declared.flash.Flash.Flash}
+use Rattle.volume.specs.Closing.{AreAll, AreFinal, AreRead, HasLooked, array_of}
 
 -- Two passes that met: the first has seen all that the other one had, and the other one all that the first had
 pub record Tied (v : View) (p : Pass) (w : View) (q : Pass) : Type 0 where

@@ -1,8 +1,7 @@
 -- What holds of each call of a broom, whatever other threads do during it: it changes no sector.
 use Rattle.std.specs.Prelude.{◌≡◌, ℕ, ◌<◌, All}
 use Rattle.geometry.specs.History.{Call, Write, WriteNew, Trim, held, Begins}
-use Rattle.flash_rule.specs.Views.{AreOfHosts}
-use Rattle.flash_rule.specs.declared.view.View.{View}
+use Rattle.flash_rule.specs.{Views.AreOfHosts, declared.view.View.View}
 
 -- the sector that a call of a host names
 abbrev pub sector_named : Call → ℕ

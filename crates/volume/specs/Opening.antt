@@ -1,10 +1,7 @@
 -- What is kept of a broom's seat when the broom is made.
 use Rattle.flash_rule.specs.declared.view.View.{View}
-use Rattle.flash_table.specs.declared.broom_seat.BroomBlocks.{BroomBlocks}
-use Rattle.flash_table.specs.declared.broom_seat.BroomSeat.{BroomSeat}
-use Rattle.flash_table.specs.Flash.{broom_view, own_blocks}
-use Rattle.broom.specs.declared.broom.Broom.{Broom}
-use Rattle.broom.specs.Ready.{view_of_broom, blocks_of_broom}
+use Rattle.flash_table.specs.{declared.broom_seat.BroomBlocks.BroomBlocks, declared.broom_seat.BroomSeat.BroomSeat, Flash.broom_view, Flash.own_blocks}
+use Rattle.broom.specs.{declared.broom.Broom.Broom, Ready.view_of_broom, Ready.blocks_of_broom}
 
 -- what a seat knows, with the blocks of its own
 abbrev pub known_by_seat : BroomSeat → View × BroomBlocks

@@ -2,13 +2,9 @@
 -- and none of its programmed pages is programmed again.
 use Rattle.std.specs.Prelude.{◌≡◌, ℕ, ◌<◌, List, Option, Some, IfSome, slice_get}
 use Rattle.geometry.specs.declared.map_word.MapWord.{MapWord}
-use Rattle.flash_rule.specs.declared.carried.Carried.{Carried}
-use Rattle.flash_rule.specs.declared.facts.Cycle.{Cycle}
-use Rattle.flash_rule.specs.Plays.{Disjoint, Once}
-use Rattle.flash_table.specs.declared.flash.Flash.{Flash}
-use Rattle.flash_table.specs.Flash.{view_of}
-use Rattle.host.specs.declared.holding.Held.{Held}
-use Rattle.host.specs.Holding.{Holds, pass_of, page_of}
+use Rattle.flash_rule.specs.{declared.carried.Carried.Carried, declared.facts.Cycle.Cycle, Plays.Disjoint, Plays.Once}
+use Rattle.flash_table.specs.{declared.flash.Flash.Flash, Flash.view_of}
+use Rattle.host.specs.{declared.holding.Held.Held, Holding.Holds, Holding.pass_of, Holding.page_of}
 
 -- all erases in this list of the page's block are of earlier generations of it
 abbrev pub AreEarlier : List Cycle → MapWord → Type 0

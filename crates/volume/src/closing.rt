@@ -1,14 +1,11 @@
 //! The end of a device: what its sectors hold when all passes are retired.
 ghost use Rattle.std.specs.Prelude.{◌≡◌, ◌<◌, All, Some, IfOk, IfErr, length, slice_get, option_map};
 ghost use Rattle.std.specs.Vec.Iter.{into_iter_items};
-ghost use Rattle.geometry.specs.Geometry.{sectors_of, hosts_of};
-ghost use Rattle.geometry.specs.History.{held};
-ghost use Rattle.flash_table.specs.declared.pass.Pass.{Pass};
-ghost use Rattle.flash_table.specs.Flash.{view_of, geometry_of, device};
+ghost use Rattle.geometry.specs.{Geometry.sectors_of, Geometry.hosts_of, History.held};
+ghost use Rattle.flash_table.specs.{declared.pass.Pass.Pass, Flash.view_of, Flash.geometry_of, Flash.device};
 ghost use Rattle.host.specs.Ready.{IsReady};
 ghost use Rattle.volume.specs.Closing.{array_of, sectors_left, last_view, AreAll, AreRead, IsFinal, HasLooked, HaveLooked, HasLeft};
-ghost use Rattle.volume.specs.Gathering.{IsFinalBy, IsReadBy, MetEach, HasRead};
-ghost use Rattle.volume.specs.Volume.{flash_of};
+ghost use Rattle.volume.specs.{Gathering.IsFinalBy, Gathering.IsReadBy, Gathering.MetEach, Gathering.HasRead, Volume.flash_of};
 
 use crate::volume::Volume;
 use flash_table::{Flash, Pass, Retired};
@@ -29,7 +26,7 @@ pub struct Closed {
 fn meet_each(flash: &Flash, first: &mut Pass, others: &mut [Pass])
     requires first { IsReady flash.now first.old }
     requires others { All (IsReady flash.now) others.old }
-    ensures told { MetEach (view_of first.old) others.old (view_of first.new) others.new }
+    ensures met_each { MetEach (view_of first.old) others.old (view_of first.new) others.new }
     ensures first { IsReady flash.now first.new }
     ensures others { All (IsReady flash.now) others.new }
 {

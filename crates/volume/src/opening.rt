@@ -1,11 +1,8 @@
 //! The brooms of a new device.
-ghost use Rattle.std.specs.Prelude.{◌≡◌, All, IfOk, None, length, map};
-ghost use Rattle.std.specs.Vec.Iter.{into_iter_items};
+ghost use Rattle.std.specs.{Prelude.◌≡◌, Prelude.All, Prelude.IfOk, Prelude.None, Prelude.length, Prelude.map, Vec.Iter.into_iter_items};
 ghost use Rattle.erase_queue.specs.Queue.{IsNewPass};
-ghost use Rattle.broom.specs.Handing.{aside_of};
-ghost use Rattle.broom.specs.Ready.{IsReady, IsRested};
-ghost use Rattle.volume.specs.Brooms.{IsFresh};
-ghost use Rattle.volume.specs.Opening.{known_by_seat, known_by_broom};
+ghost use Rattle.broom.specs.{Handing.aside_of, Ready.IsReady, Ready.IsRested};
+ghost use Rattle.volume.specs.{Brooms.IsFresh, Opening.known_by_seat, Opening.known_by_broom};
 
 use broom::{Broom, fold_new, fold_seat};
 use erase_queue::{EraseQueue, QueuePass};

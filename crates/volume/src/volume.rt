@@ -1,13 +1,12 @@
 //! The calls of a device.
 ghost use Rattle.std.specs.Prelude.{◌≡◌};
 ghost use Rattle.erase_queue.specs.Queue.{limit_of};
-ghost use Rattle.flash_table.specs.Flash.{geometry_of};
+ghost use Rattle.flash_table.specs.{Flash.geometry_of, Steps.HasCalled, Steps.HasNumber};
 ghost use Rattle.geometry.specs.Geometry.{blocks_of};
-ghost use Rattle.flash_table.specs.Steps.{HasCalled, HasNumber};
 
 use crate::closing::retire_all;
 use crate::opening::make_brooms;
-use broom::{BlockCounts, Broom, Drain, Erase, Folded};
+use broom::{BlockCounts, Broom, Choice, Drain, Erase, Folded};
 use erase_queue::{EraseQueue, QueuePass};
 use flash_table::{Flash, Gate, Pass, Retired};
 use geometry::{Geometry, PinWord, Was};
@@ -119,7 +118,7 @@ impl Volume {
         requires sector { sector < sectors_of (geometry_of (flash_of self.now)) }
         requires page { length out.old ≡ page_bytes_of (geometry_of (flash_of self.now)) }
         ensures correct { Does self.now pass.old (Read sector) (Got result.got out.old out.new) pass.new }
-        ensures told { Searched (view_of pass.old) result.tries (view_of pass.new) }
+        ensures searched { Searched (view_of pass.old) result.tries (view_of pass.new) }
         ensures answer { Answers (held (sectors_of (geometry_of (flash_of self.now))) (view_of pass.new).seen sector) result.got out.old out.new }
         ensures pass { IsReady (flash_of self.now) pass.new }
         ensures opened { opened_of pass.new ≡ opened_of pass.old }
@@ -139,7 +138,7 @@ impl Volume {
         requires sector { sector < sectors_of (geometry_of (flash_of self.now)) }
         requires page { length out.old ≡ page_bytes_of (geometry_of (flash_of self.now)) }
         ensures correct { Does self.now pass.old (Read sector) (Got result.got out.old out.new) pass.new }
-        ensures told { Searched (view_of pass.old) result.tries (view_of pass.new) }
+        ensures searched { Searched (view_of pass.old) result.tries (view_of pass.new) }
         ensures answer { Answers (held (sectors_of (geometry_of (flash_of self.now))) (view_of pass.new).seen sector) result.got out.old out.new }
         ensures pass { IsReady (flash_of self.now) pass.new }
         ensures opened { opened_of pass.new ≡ opened_of pass.old }
@@ -152,7 +151,7 @@ impl Volume {
         requires pass { IsReady (flash_of self.now) pass.old }
         requires sector { sector < sectors_of (geometry_of (flash_of self.now)) }
         ensures correct { Does self.now pass.old (Look sector) (IsWritten result) pass.new }
-        ensures told { Searched (view_of pass.old) 1 (view_of pass.new) }
+        ensures searched { Searched (view_of pass.old) 1 (view_of pass.new) }
         ensures answer { result ≡ is_some (held (sectors_of (geometry_of (flash_of self.now))) (view_of pass.new).seen sector) }
         ensures pass { IsReady (flash_of self.now) pass.new }
         ensures opened { opened_of pass.new ≡ opened_of pass.old }
@@ -232,7 +231,7 @@ impl Volume {
         requires pass { IsReady (flash_of self.now) pass.old }
         requires sector { sector < sectors_of (geometry_of (flash_of self.now)) }
         ensures correct { Does self.now pass.old (Trim sector) (Replaced result) pass.new }
-        ensures told { (t : ℕ) → HasNumber t pass.old → HasCalled pass.old (call.Trim t sector) sector result pass.new }
+        ensures called { (t : ℕ) → HasNumber t pass.old → HasCalled pass.old (call.Trim t sector) sector result pass.new }
         ensures pass { IsReady (flash_of self.now) pass.new }
         ensures opened { opened_of pass.new ≡ opened_of pass.old }
     {
@@ -275,7 +274,7 @@ impl Volume {
     /// Removes the pin, and returns the pass.
     pub fn release(&self, held: Held) -> Pass
         requires held { (value : List ℕ) × Holds (flash_of self.now) held value }
-        ensures told { view_of result ≡ record (view_of (pass_of held)) { pin = pin.Clear } }
+        ensures clear { view_of result ≡ record (view_of (pass_of held)) { pin = pin.Clear } }
         ensures pass { IsReady (flash_of self.now) result }
         ensures opened { opened_of result ≡ opened_of (pass_of held) }
     {
@@ -286,7 +285,7 @@ impl Volume {
     pub fn meet(&self, first: &mut Pass, second: &mut Pass)
         requires first { IsReady (flash_of self.now) first.old }
         requires second { IsReady (flash_of self.now) second.old }
-        ensures told { MetTold (view_of first.old) (view_of second.old) (view_of first.new) (view_of second.new) }
+        ensures met { MetTold (view_of first.old) (view_of second.old) (view_of first.new) (view_of second.new) }
         ensures first { IsReady (flash_of self.now) first.new }
         ensures second { IsReady (flash_of self.now) second.new }
         ensures first_opened { opened_of first.new ≡ opened_of first.old }
@@ -300,7 +299,7 @@ impl Volume {
     pub fn meet_brooms(&self, first: &mut Broom, second: &mut Broom)
         requires first { IsBroomReady self.now first.old }
         requires second { IsBroomReady self.now second.old }
-        ensures told { BroomsMet (view_of_broom first.old) (view_of_broom second.old) (view_of_broom first.new) (view_of_broom second.new) }
+        ensures met_brooms { BroomsMet (view_of_broom first.old) (view_of_broom second.old) (view_of_broom first.new) (view_of_broom second.new) }
         ensures first { IsBroomReady self.now first.new }
         ensures second { IsBroomReady self.now second.new }
         ensures first_array { LeavesArray (view_of_broom first.old) (view_of_broom first.new) }
@@ -321,7 +320,7 @@ impl Volume {
         requires held { (value : List ℕ) × Holds (flash_of self.now) held value }
         requires broom { IsBroomReady self.now broom.old }
         ensures undisturbed { IsUndisturbed (flash_of self.now) held (Some (carried (view_of_broom broom.old))) result }
-        ensures told { StoodTold (view_of (pass_of held)) (view_of_broom broom.old) (page_of held) (view_of (pass_of result)) (view_of_broom broom.new) }
+        ensures stood { StoodTold (view_of (pass_of held)) (view_of_broom broom.old) (page_of held) (view_of (pass_of result)) (view_of_broom broom.new) }
         ensures opened { opened_of (pass_of result) ≡ opened_of (pass_of held) }
         ensures broom { IsBroomReady self.now broom.new }
         ensures blocks { blocks_of_broom broom.new ≡ blocks_of_broom broom.old }
@@ -339,7 +338,7 @@ impl Volume {
         requires held { (value : List ℕ) × Holds (flash_of self.now) held value }
         requires other { IsReady (flash_of self.now) other.old }
         ensures undisturbed { IsUndisturbed (flash_of self.now) held (Some (carried (view_of other.old))) result }
-        ensures told { MetHolding (view_of (pass_of held)) (view_of other.old) (page_of held) (view_of (pass_of result)) (view_of other.new) }
+        ensures met_holding { MetHolding (view_of (pass_of held)) (view_of other.old) (page_of held) (view_of (pass_of result)) (view_of other.new) }
         ensures opened { opened_of (pass_of result) ≡ opened_of (pass_of held) }
         ensures other { IsReady (flash_of self.now) other.new }
         ensures other_opened { opened_of other.new ≡ opened_of other.old }
@@ -360,7 +359,7 @@ impl Volume {
     #[tactic(auto, using(crate::proofs::Queued::still_ready))]
     pub fn drain<G: Gate>(&self, broom: &mut Broom, gate: &mut G) -> Drain
         requires { IsBroomReady self.now broom.old }
-        ensures told { DrainTold broom.old result broom.new }
+        ensures drained { DrainTold broom.old result broom.new }
         ensures left { SurveyLeft broom.old result broom.new }
         ensures ready { IsBroomReady self.now broom.new }
         ensures array { LeavesArray (view_of_broom broom.old) (view_of_broom broom.new) }
@@ -375,7 +374,7 @@ impl Volume {
     #[tactic(auto, using(crate::proofs::Queued::still_ready))]
     pub fn drain_next<G: Gate>(&self, broom: &mut Broom, gate: &mut G) -> Drain
         requires { IsBroomReady self.now broom.old }
-        ensures told { NextTold broom.old result broom.new }
+        ensures drained_next { NextTold broom.old result broom.new }
         ensures ready { IsBroomReady self.now broom.new }
         ensures array { LeavesArray (view_of_broom broom.old) (view_of_broom broom.new) }
         ensures queue { HandsNothing broom.old broom.new }
@@ -389,7 +388,7 @@ impl Volume {
     #[tactic(auto, using(crate::proofs::Queued::still_ready))]
     pub fn drain_dead<G: Gate>(&self, broom: &mut Broom, gate: &mut G) -> Drain
         requires { IsBroomReady self.now broom.old }
-        ensures told { DeadTold broom.old result broom.new }
+        ensures drained_dead { DeadTold broom.old result broom.new }
         ensures ready { IsBroomReady self.now broom.new }
         ensures array { LeavesArray (view_of_broom broom.old) (view_of_broom broom.new) }
         ensures queue { HandsNothing broom.old broom.new }
@@ -403,7 +402,7 @@ impl Volume {
     pub fn erase<G: Gate>(&self, broom: &mut Broom, block: u32, gate: &mut G) -> Erase
         requires broom { IsBroomReady self.now broom.old }
         requires block { block < blocks_of (geometry_of (flash_of self.now)) }
-        ensures told { EraseTold broom.old block result broom.new }
+        ensures erased { EraseTold broom.old block result broom.new }
         ensures marks { Unmarks broom.old block broom.new }
         ensures ready { IsBroomReady self.now broom.new }
         ensures array { LeavesArray (view_of_broom broom.old) (view_of_broom broom.new) }
@@ -416,7 +415,7 @@ impl Volume {
     #[tactic(auto, using(crate::proofs::Queued::still_ready))]
     pub fn restock(&self, broom: &mut Broom) -> bool
         requires { IsBroomReady self.now broom.old }
-        ensures told { RestockTold broom.old result broom.new }
+        ensures restocked { RestockTold broom.old result broom.new }
         ensures ready { IsBroomReady self.now broom.new }
         ensures array { LeavesArray (view_of_broom broom.old) (view_of_broom broom.new) }
         ensures queue { HandsNothing broom.old broom.new }
@@ -430,7 +429,7 @@ impl Volume {
     pub fn load_state(&self, broom: &mut Broom, block: u32) -> PinWord
         requires broom { IsBroomReady self.now broom.old }
         requires block { block < blocks_of (geometry_of (flash_of self.now)) }
-        ensures told { StateLoaded broom.old block result broom.new }
+        ensures loaded { StateLoaded broom.old block result broom.new }
         ensures range { IsInRange (device (flash_of self.now)) result }
         ensures ready { IsBroomReady self.now broom.new }
         ensures array { LeavesArray (view_of_broom broom.old) (view_of_broom broom.new) }
@@ -443,7 +442,7 @@ impl Volume {
     #[tactic(auto, using(crate::proofs::Queued::still_ready))]
     pub fn count_blocks(&self, broom: &mut Broom) -> BlockCounts
         requires { IsBroomReady self.now broom.old }
-        ensures told { (states : List PinWord) × AllLoaded (device (flash_of self.now)) broom.old states broom.new × (result ≡ counts_in states) }
+        ensures all_loaded { (states : List PinWord) × AllLoaded (device (flash_of self.now)) broom.old states broom.new × (result ≡ counts_in states) }
         ensures ready { IsBroomReady self.now broom.new }
         ensures array { LeavesArray (view_of_broom broom.old) (view_of_broom broom.new) }
         ensures queue { HandsNothing broom.old broom.new }
@@ -455,7 +454,7 @@ impl Volume {
     /// first; if there is no room for it, nothing is drained.
     pub fn drain_one<G: Gate>(&self, rt: &impl Wait, broom: &mut Broom, gate: &mut G) -> Drain
         requires { IsBroomReady self.now broom.old }
-        ensures told { DrainOneTold (limit_of (queue_of self.now)) broom.old result broom.new }
+        ensures drained_one { DrainOneTold (limit_of (queue_of self.now)) broom.old result broom.new }
         ensures ready { IsBroomReady self.now broom.new }
         ensures array { LeavesArray (view_of_broom broom.old) (view_of_broom broom.new) }
     {
@@ -465,28 +464,28 @@ impl Volume {
     /// Drains the next block by the survey that the broom made last, and puts it into the queue or sets it aside as `drain_one` does.
     pub fn drain_next_one<G: Gate>(&self, rt: &impl Wait, broom: &mut Broom, gate: &mut G) -> Drain
         requires { IsBroomReady self.now broom.old }
-        ensures told { DrainNextOneTold (limit_of (queue_of self.now)) broom.old result broom.new }
+        ensures drained_next_one { DrainNextOneTold (limit_of (queue_of self.now)) broom.old result broom.new }
         ensures ready { IsBroomReady self.now broom.new }
         ensures array { LeavesArray (view_of_broom broom.old) (view_of_broom broom.new) }
     {
-        broom::drain_next_one(&self.flash, &self.queue, rt, broom, gate)
+        broom::drain_chosen(&self.flash, &self.queue, rt, broom, Choice::Next, gate)
     }
 
     /// Drains a block without live pages as `drain_dead` does, and puts it into the queue or sets it aside as `drain_one` does.
     pub fn drain_dead_one<G: Gate>(&self, rt: &impl Wait, broom: &mut Broom, gate: &mut G) -> Drain
         requires { IsBroomReady self.now broom.old }
-        ensures told { DrainDeadOneTold (limit_of (queue_of self.now)) broom.old result broom.new }
+        ensures drained_dead_one { DrainDeadOneTold (limit_of (queue_of self.now)) broom.old result broom.new }
         ensures ready { IsBroomReady self.now broom.new }
         ensures array { LeavesArray (view_of_broom broom.old) (view_of_broom broom.new) }
     {
-        broom::drain_dead_one(&self.flash, &self.queue, rt, broom, gate)
+        broom::drain_chosen(&self.flash, &self.queue, rt, broom, Choice::Dead, gate)
     }
 
     /// Erases the block that is set aside or, if there is none, the first one of the queue. A block that has readers is put back at the end of the
     /// queue.
     pub fn erase_one<G: Gate>(&self, rt: &impl Wait, broom: &mut Broom, gate: &mut G) -> Erase
         requires { IsBroomReady self.now broom.old }
-        ensures told { EraseOneTold (limit_of (queue_of self.now)) broom.old result broom.new }
+        ensures erased_one { EraseOneTold (limit_of (queue_of self.now)) broom.old result broom.new }
         ensures ready { IsBroomReady self.now broom.new }
         ensures array { LeavesArray (view_of_broom broom.old) (view_of_broom broom.new) }
     {

@@ -1,6 +1,6 @@
 -- One line: what a read, a trim, a write that was done and one that was turned away tell, as one record.
 use Rattle.std.proofs.Common.{◌≡◌, ℕ, suc, ◌+◌, ◌<◌, ◌≤◌, ◌⊎◌, Bool, true, false, List, [], ◌∷◌, ◌++◌, Option, None, Some, sym, refl, ap, ◌∙◌, subst, arith}
-use Rattle.std.proofs.Common.{append_assoc, append-nil}
+use Rattle.std.proofs.Common.{append_assoc, append-nil, length-append}
 use Rattle.std.specs.{Prelude.if◌then◌else◌, List.range_with_len}
 use mathlib.Core.Logic.{inl, inr}
 use Rattle.geometry.specs.History.{Call, Write, WriteNew, Trim, held, was, Begins}
@@ -11,19 +11,51 @@ use Rattle.flash_table.specs.{declared.pass.OpenBlock.OpenBlock, Owning.owned_li
 use Rattle.host.specs.Told.{Searched, Programmed, Refused}
 use Rattle.trace.specs.declared.commands.Op.{Op}
 use Rattle.rounds.specs.{declared.answer.Kind.Kind, Lines.kind_of, Lines.is_full, Lines.calls_by, Lines.IsFound, Lines.IsRight}
-use Rattle.rounds.specs.Playing.{one_done, all_taken, WriteFound, LineFound}
-use Rattle.workers.specs.Line.{PlayedLine, kind_found, merge}
+use Rattle.rounds.specs.Playing.{one_done, all_taken, with_play, WriteFound, LineFound, PlayAdds}
+use Rattle.workers.specs.Line.{PlayedLine, kind_found}
 use Rattle.geometry.specs.declared.answer.Got.TheVariants as got
 use Rattle.geometry.specs.declared.answer.Was.TheVariants as was
 use Rattle.trace.specs.declared.commands.Op.TheVariants as op
 use Rattle.rounds.specs.declared.answer.Kind.TheVariants as kind
 
 -- a change of no more than the eleven fields
-merged : (v w only : View) → only ≡ merge v only → w ≡ only → w ≡ merge v w
-merged v w only within e = e ∙ (within ∙ ap (merge v) (sym e))
+merged : (v w only : View) → only ≡ with_play v only → w ≡ only → w ≡ with_play v w
+merged v w only within e = e ∙ (within ∙ ap (with_play v) (sym e))
 
-pub merged-trans : (u v w : View) → v ≡ merge u v → w ≡ merge v w → w ≡ merge u w
-merged-trans u v w a b = b ∙ ap (λ (x : View). merge x w) a
+merged-trans : (u v w : View) → v ≡ with_play u v → w ≡ with_play v w → w ≡ with_play u w
+merged-trans u v w a b = b ∙ ap (λ (x : View). with_play x w) a
+
+-- playing that programs nothing and takes no block
+pub adds_calls : (calls : List Call) (AreFound : List ℕ → Type 0) (v w : View) → w ≡ with_play v w → w.mine ≡ v.mine ++ calls → w.programs ≡ v.programs
+    → w.taken ≡ v.taken → w.denied ≡ v.denied → AreFound [] → PlayAdds calls 0 AreFound v w
+adds_calls calls AreFound v w changed mine programs taken denied none = record {
+  changed = changed;
+  mine = mine;
+  more = [];
+  programs = programs ∙ sym (append-nil v.programs);
+  programmed = refl;
+  kept = omega arith;
+  taken = omega arith;
+  found = [];
+  denied = denied ∙ sym (append-nil v.denied);
+  tried = none;
+}
+
+-- playing, and then more of it
+pub adds_then : (v u w : View) (cs ds : List Call) (m n : ℕ) (First Then All : List ℕ → Type 0) → ((k l : List ℕ) → First k → Then l → All (k ++ l))
+    → PlayAdds cs m First v u → PlayAdds ds n Then u w → PlayAdds (cs ++ ds) (m + n) All v w
+adds_then v u w cs ds m n First Then All all a b = record {
+  changed = merged-trans v u w a.changed b.changed;
+  mine = b.mine ∙ (ap (λ l. l ++ ds) a.mine ∙ append_assoc v.mine cs ds);
+  more = a.more ++ b.more;
+  programs = b.programs ∙ (ap (λ l. l ++ b.more) a.programs ∙ append_assoc v.programs a.more b.more);
+  programmed = length-append a.more b.more ∙ (λ i. a.programmed i + b.programmed i);
+  kept = (let one = a.kept in let two = b.kept in omega arith);
+  taken = (let one = a.taken in let two = b.taken in omega arith);
+  found = a.found ++ b.found;
+  denied = b.denied ∙ (ap (λ l. l ++ b.found) a.denied ∙ append_assoc v.denied a.found b.found);
+  tried = all a.found b.found a.tried b.tried;
+}
 
 found_right : (x : Sector) (g : Got) (old new : List ℕ) → Answers x g old new → IsFound x (kind_found g) new
 found_right None g old new a = ap kind_found a.0
@@ -52,20 +84,12 @@ read_line t patience v s tries value old page g k w told answer is =
     (λ i. (sym is i, (sym (found_not_full g) ∙ ap is_full (sym is)) i)) line where
       line : PlayedLine t patience v op.Read s value (kind_found g) page false w
       line = record {
-        changed = merged v w _ refl told.changed;
         history = w.seen;
         later = told.later;
         right = found_right (held v.numbers.sectors w.seen s) g old page answer;
         last = ([], append-nil (w.seen ++ []) ∙ append-nil w.seen);
-        mine = ap (λ (x : View). x.mine) told.changed ∙ sym (append-nil v.mine);
-        more = [];
-        programs = ap (λ (x : View). x.programs) told.changed ∙ sym (append-nil v.programs);
-        programmed = refl;
-        kept = (let e = ap (λ (x : View). x.taken) told.changed in omega arith);
-        taken = (let e = ap (λ (x : View). x.taken) told.changed in omega arith);
-        found = [];
-        denied = ap (λ (x : View). x.denied) told.changed ∙ sym (append-nil v.denied);
-        tried = refl;
+        adds = adds_calls [] _ v w (merged v w _ refl told.changed) (ap (λ (x : View). x.mine) told.changed ∙ sym (append-nil v.mine))
+            (ap (λ (x : View). x.programs) told.changed) (ap (λ (x : View). x.taken) told.changed) (ap (λ (x : View). x.denied) told.changed) refl;
       }
 
 -- and so is a trim
@@ -76,20 +100,12 @@ trim_line t patience v s value page a k w told is =
     (λ i. (sym is i, (sym (was_not_full a) ∙ ap is_full (sym is)) i)) line where
       line : PlayedLine t patience v op.Trim s value (kind_of a) page false w
       line = record {
-        changed = merged v w _ refl told.changed;
         history = told.before;
         later = told.later;
         right = ap kind_of told.answered;
         last = ([], append-nil (told.before ++ Trim t s ∷ []) ∙ sym told.now);
-        mine = ap (λ (x : View). x.mine) told.changed;
-        more = [];
-        programs = ap (λ (x : View). x.programs) told.changed ∙ sym (append-nil v.programs);
-        programmed = refl;
-        kept = (let e = ap (λ (x : View). x.taken) told.changed in omega arith);
-        taken = (let e = ap (λ (x : View). x.taken) told.changed in omega arith);
-        found = [];
-        denied = ap (λ (x : View). x.denied) told.changed ∙ sym (append-nil v.denied);
-        tried = refl;
+        adds = adds_calls (Trim t s ∷ []) _ v w (merged v w _ refl told.changed) (ap (λ (x : View). x.mine) told.changed)
+            (ap (λ (x : View). x.programs) told.changed) (ap (λ (x : View). x.taken) told.changed) (ap (λ (x : View). x.denied) told.changed) refl;
       }
 
 -- A write was tried so often, and turned away each time: all blocks were found taken as often, and nothing else has changed
@@ -134,21 +150,23 @@ full_line o call is t patience tries v s value page w all waited =
     let seen = ap (λ (x : View). x.seen) waited.changed in
     let taken = ap (λ (x : View). x.taken) waited.changed in
     record {
-      changed = merged v w _ refl waited.changed;
       history = v.seen;
       later = Begins-refl v.seen;
       right = is.right (held v.numbers.sectors v.seen s) kind.Full page (inl refl);
       last = ([], append-nil (v.seen ++ []) ∙ (append-nil v.seen ∙ sym seen));
-      mine = ap (λ (x : View). x.mine) waited.changed ∙ sym (append-nil v.mine);
-      more = [];
-      programs = ap (λ (x : View). x.programs) waited.changed ∙ sym (append-nil v.programs);
-      programmed = sym none;
-      kept = omega arith;
-      taken = omega arith;
-      found = all_taken v.numbers.blocks tries;
-      denied = waited.denied;
-      tried = is.found patience v.numbers.blocks true (all_taken v.numbers.blocks tries)
-          (record { refused = tries; below = 0; tried = (all, refl); whole = sym (append-nil (all_taken v.numbers.blocks tries)) });
+      adds = record {
+        changed = merged v w _ refl waited.changed;
+        mine = ap (λ (x : View). x.mine) waited.changed ∙ sym (append-nil v.mine);
+        more = [];
+        programs = ap (λ (x : View). x.programs) waited.changed ∙ sym (append-nil v.programs);
+        programmed = sym none;
+        kept = omega arith;
+        taken = omega arith;
+        found = all_taken v.numbers.blocks tries;
+        denied = waited.denied;
+        tried = is.found patience v.numbers.blocks true (all_taken v.numbers.blocks tries)
+            (record { refused = tries; below = 0; tried = (all, refl); whole = sym (append-nil (all_taken v.numbers.blocks tries)) });
+      };
     }
 
 -- what a write takes, and the blocks that it finds taken below that
@@ -203,19 +221,21 @@ module _ (which : Op) (call : ℕ → ℕ → List ℕ → Call) (its : IsWrite 
 
         line : PlayedLine t patience v which s value (kind_of a) page false w
         line = record {
-          changed = merged-trans v u w (merged v u _ refl waited.changed) (merged u w _ refl told.changed);
           history = told.before;
           later = subst (λ h. Begins h told.before) (ap (λ (x : View). x.seen) waited.changed) told.later;
           right = its.right (held v.numbers.sectors told.before s) (kind_of a) page (inr right);
           last = ([], append-nil (told.before ++ calls_by t which s value) ∙ (ap (λ l. told.before ++ l) (sym calls) ∙ sym told.now));
-          mine = ap (λ (x : View). x.mine) told.changed ∙ (ap (λ (x : View). x.mine ++ call t s value ∷ []) waited.changed ∙ ap (λ l. v.mine ++ l) calls);
-          more = told.page ∷ [];
-          programs = told.programmed ∙ ap (λ (x : View). x.programs ++ told.page ∷ []) waited.changed;
-          programmed = sym one;
-          kept = (let e = ap (λ (x : View). x.taken) waited.changed in let t = takes.kept in omega arith);
-          taken = (let e = ap (λ (x : View). x.taken) waited.changed in let t = takes.taken in omega (arith, one));
-          found = all_taken n tries ++ range_with_len 0 below;
-          denied = takes.denied ∙ (ap (λ l. l ++ range_with_len 0 below) waited.denied ∙ append_assoc v.denied (all_taken n tries) (range_with_len 0 below));
-          tried = its.found patience n false (all_taken n tries ++ range_with_len 0 below)
-              (record { refused = tries; below = below; tried = (few, within); whole = refl });
+          adds = record {
+            changed = merged-trans v u w (merged v u _ refl waited.changed) (merged u w _ refl told.changed);
+            mine = ap (λ (x : View). x.mine) told.changed ∙ (ap (λ (x : View). x.mine ++ call t s value ∷ []) waited.changed ∙ ap (λ l. v.mine ++ l) calls);
+            more = told.page ∷ [];
+            programs = told.programmed ∙ ap (λ (x : View). x.programs ++ told.page ∷ []) waited.changed;
+            programmed = sym one;
+            kept = (let e = ap (λ (x : View). x.taken) waited.changed in let t = takes.kept in omega arith);
+            taken = (let e = ap (λ (x : View). x.taken) waited.changed in let t = takes.taken in omega (arith, one));
+            found = all_taken n tries ++ range_with_len 0 below;
+            denied = takes.denied ∙ (ap (λ l. l ++ range_with_len 0 below) waited.denied ∙ append_assoc v.denied (all_taken n tries) (range_with_len 0 below));
+            tried = its.found patience n false (all_taken n tries ++ range_with_len 0 below)
+                (record { refused = tries; below = below; tried = (few, within); whole = refl });
+          };
         }

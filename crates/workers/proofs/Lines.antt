@@ -1,6 +1,6 @@
 -- One line more: the histories, the calls, the programs and the counts grow by its own part.
 use Rattle.std.proofs.Common.{◌≡◌, ℕ, ◌+◌, ◌<◌, ◌≤◌, Bool, List, [], ◌∷◌, ◌++◌, true, length, map, take, get_or, set, sym, refl, ap, ◌∙◌, subst, arith}
-use Rattle.std.proofs.Common.{append_assoc, append-nil, length-append}
+use Rattle.std.proofs.Common.{append_assoc, append-nil}
 use Rattle.std.proofs.lemmas.List.{take_all, take_more, take_more_set, map_push, length-map, get_or-map, with_items_is}
 use Rattle.std.proofs.lemmas.Option.{get_or_from_slice_get}
 use Rattle.std.specs.{Prelude.None, Prelude.Some, Prelude.slice_get, Vec.with_items}
@@ -15,9 +15,9 @@ use Rattle.host.specs.Ready.{IsReady}
 use Rattle.volume.specs.{declared.volume.Volume.Volume, Volume.flash_of}
 use Rattle.rounds.specs.declared.answer.{Answer.Answer, Kind.Kind}
 use Rattle.rounds.specs.Lines.{Said, said, calls_made, kind_of, is_full, IsRight}
-use Rattle.rounds.specs.Playing.{Plays, Played, LineFound, LinesFound, calls_done, writes_done, one_done}
+use Rattle.rounds.specs.Playing.{PlayAdds, Plays, Played, LineFound, LinesFound, calls_done, writes_done, one_done}
 use Rattle.workers.specs.{Line.PlayedLine, Line.HasPlayedLine, Playable.HasPage, Playable.lines_at, Playable.no_line}
-use Rattle.workers.proofs.Line.{merged-trans}
+use Rattle.workers.proofs.Line.{adds_calls, adds_then}
 use Rattle.trace.specs.declared.commands.Op.TheVariants as op
 use Rattle.rounds.specs.declared.answer.Kind.TheVariants as kind
 
@@ -63,28 +63,20 @@ pub played_more : (t patience : ℕ) (v u w : View) (lines : List Command) (answ
     → PlayedLine t patience u c.op c.sector c.page a.kind a.page (is_full a.kind) w → Played t patience v (lines ++ c ∷ []) (answers ++ a ∷ []) w
 played_more t patience v u w lines answers c a all line =
     let n = v.numbers.sectors in
-    let full = is_full a.kind in
     let same : u.numbers.sectors ≡ n = ap (λ (x : View). x.numbers.sectors) all.changed in
-    let done = done_more n t c a v.seen u.seen lines answers all.plays in
-    let writes = writes_more n t c a v.seen u.seen lines answers all.plays in
     let blocks : u.numbers.blocks ≡ v.numbers.blocks = ap (λ (x : View). x.numbers.blocks) all.changed in
-    let tried : LineFound patience v.numbers.blocks c.op full line.found = subst (λ k. LineFound patience k c.op full line.found) blocks line.tried in
+    let find = λ (k l : List ℕ) (before : LinesFound patience v.numbers.blocks lines answers k)
+    (here : LineFound patience u.numbers.blocks c.op (is_full a.kind) l).
+    found-append patience v.numbers.blocks (c ∷ []) (a ∷ []) l
+    (l, [], sym (append-nil l), subst (λ b. LineFound patience b c.op (is_full a.kind) l) blocks here, refl) lines answers k before in
     record {
-      changed = merged-trans v u w all.changed line.changed;
       plays = plays_more n t c a v.seen u.seen w.seen line.history lines answers all.plays line.later
           (subst (λ k. IsRight c.op (held k line.history c.sector) a.kind a.page) same line.right) line.last;
-      mine = line.mine ∙ (ap (λ k. k ++ calls_made t c a) all.mine
-          ∙ (append_assoc v.mine (calls_done t lines answers) (calls_made t c a) ∙ ap (λ k. v.mine ++ k) (sym done)));
-      more = all.more ++ line.more;
-      programs = line.programs ∙ (ap (λ k. k ++ line.more) all.programs ∙ append_assoc v.programs all.more line.more);
-      programmed = length-append all.more line.more
-          ∙ (ap (λ k. k + length line.more) all.programmed ∙ (ap (λ k. writes_done lines answers + k) line.programmed ∙ sym writes));
-      kept = (let x = all.kept in let y = line.kept in omega arith);
-      taken = (let x = all.taken in let y = line.taken in omega (arith, writes));
-      found = all.found ++ line.found;
-      denied = line.denied ∙ (ap (λ k. k ++ line.found) all.denied ∙ append_assoc v.denied all.found line.found);
-      tried = found-append patience v.numbers.blocks (c ∷ []) (a ∷ []) line.found
-          (line.found, [], sym (append-nil line.found), tried, refl) lines answers all.found all.tried;
+      adds =
+          subst (λ (x : List Call × ℕ). PlayAdds x.0 x.1 (LinesFound patience v.numbers.blocks (lines ++ c ∷ []) (answers ++ a ∷ [])) v w)
+          (λ i. (sym (done_more n t c a v.seen u.seen lines answers all.plays) i, sym (writes_more n t c a v.seen u.seen lines answers all.plays) i))
+          (adds_then v u w (calls_done t lines answers) (calls_made t c a) (writes_done lines answers) (one_done c.op (is_full a.kind)) _ _ _
+          find all.adds line.adds);
     }
 
 -- the first so many lines are played, with these answers
@@ -93,20 +85,7 @@ pub record Playing (volume : Volume) (patience : ℕ) (first : Pass) (lines : Li
   pub told : (t : ℕ) → (view_of first).role ≡ Player (APass t) → Played t patience (view_of first) (take i lines) answers (view_of now)
 
 pub played_none : (t patience : ℕ) (v : View) → Played t patience v [] [] v
-played_none t patience v =
-    record {
-      changed = refl;
-      plays = Begins-refl v.seen;
-      mine = sym (append-nil v.mine);
-      more = [];
-      programs = sym (append-nil v.programs);
-      programmed = refl;
-      kept = omega arith;
-      taken = omega arith;
-      found = [];
-      denied = sym (append-nil v.denied);
-      tried = refl;
-    }
+played_none t patience v = record { plays = Begins-refl v.seen; adds = adds_calls [] _ v v refl (sym (append-nil v.mine)) refl refl refl refl }
 
 pub playing_none : (volume : Volume) (patience : ℕ) (first : Pass) (lines : List Command) → IsReady (flash_of volume) first
     → Playing volume patience first lines 0 first []
@@ -164,20 +143,11 @@ pub other_page : (t patience : ℕ) (v : View) (o : Op) (s : ℕ) (value : List 
     → (k ≡ kind.Page → page ≡ other) → PlayedLine t patience v o s value k page full w → PlayedLine t patience v o s value k other full w
 other_page t patience v o s value k page other full w same p =
     record {
-      changed = p.changed;
       history = p.history;
       later = p.later;
       right = moved o (held v.numbers.sectors p.history s) p.right;
       last = p.last;
-      mine = p.mine;
-      more = p.more;
-      programs = p.programs;
-      programmed = p.programmed;
-      kept = p.kept;
-      taken = p.taken;
-      found = p.found;
-      denied = p.denied;
-      tried = p.tried;
+      adds = p.adds;
     } where
       moved : (o : Op) (x : Sector) → IsRight o x k page → IsRight o x k other
       moved op.Read None right = right

@@ -33,38 +33,32 @@ behind list_of n a b c first is = subst (λ (x : View). n ≡ length (list_of (v
 unchanged : (list_of : View → List ℕ) (a b c : Broom) → IsElse a b → list_of (view_of_broom c) ≡ list_of (view_of_broom b) → 0 ≡ growth list_of a c
 unchanged list_of a b c first same = behind list_of 0 a b c first (none_more (list_of (view_of_broom b)) (list_of (view_of_broom c)) same)
 
-erase_lists_busy : (limit : ℕ) (a b : Broom) (e : Erase) → EraseOneTold limit a e b → (erase_adds e).pinned ≡ growth busy_in a b
-erase_lists_busy limit a b (erase.Erased block true) told =
-    unchanged busy_in a told.1.fetched b told.1.first.rest (ap (λ (x : View). x.busy) told.1.erase.1.erased.changed)
-erase_lists_busy limit a b (erase.Erased block false) told =
-    unchanged busy_in a told.1.fetched b told.1.first.rest (ap (λ (x : View). x.busy) told.1.erase.1.erased.changed)
-erase_lists_busy limit a b (erase.Retired block) told =
-    unchanged busy_in a told.1.fetched b told.1.first.rest (ap (λ (x : View). x.busy) told.1.erase.1.erased.changed)
-erase_lists_busy limit a b erase.Pinned told =
-    let from = told.erase.fetched in
-    between busy_in 1 a from told.found b told.erase.first.rest told.handed.rest
-    (one_longer (busy_in (view_of_broom from)) (busy_in (view_of_broom told.found)) told.block (ap (λ (x : View). x.busy) told.erase.erase.0.changed))
-erase_lists_busy limit a b erase.Stale told = unchanged busy_in a told.1.fetched b told.1.first.rest (ap (λ (x : View). x.busy) told.1.erase.0.changed)
-erase_lists_busy limit a b erase.QueueEmpty told =
-    none_more (busy_in (view_of_broom a)) (busy_in (view_of_broom b)) (ap (λ (x : Broom). busy_in (view_of_broom x)) told.rest)
+-- the two lists of a broom's view
+abbrev lists_in : View → List ℕ × List ℕ
+lists_in x = (busy_in x, stale_in x)
 
-erase_lists_stale : (limit : ℕ) (a b : Broom) (e : Erase) → EraseOneTold limit a e b → (erase_adds e).stale ≡ growth stale_in a b
-erase_lists_stale limit a b (erase.Erased block true) told =
-    unchanged stale_in a told.1.fetched b told.1.first.rest (ap (λ (x : View). x.stale) told.1.erase.1.erased.changed)
-erase_lists_stale limit a b (erase.Erased block false) told =
-    unchanged stale_in a told.1.fetched b told.1.first.rest (ap (λ (x : View). x.stale) told.1.erase.1.erased.changed)
-erase_lists_stale limit a b (erase.Retired block) told =
-    unchanged stale_in a told.1.fetched b told.1.first.rest (ap (λ (x : View). x.stale) told.1.erase.1.erased.changed)
-erase_lists_stale limit a b erase.Pinned told =
+neither : (a b c : Broom) → IsElse a b → lists_in (view_of_broom c) ≡ lists_in (view_of_broom b) → (0 ≡ growth busy_in a c) × (0 ≡ growth stale_in a c)
+neither a b c first same = (unchanged busy_in a b c first (ap (λ l. l.0) same), unchanged stale_in a b c first (ap (λ l. l.1) same))
+
+erase_lists : (limit : ℕ) (a b : Broom) (e : Erase) → EraseOneTold limit a e b
+    → ((erase_adds e).pinned ≡ growth busy_in a b) × ((erase_adds e).stale ≡ growth stale_in a b)
+erase_lists limit a b (erase.Erased block true) told = neither a told.1.fetched b told.1.first.rest (ap lists_in told.1.erase.1.erased.changed)
+erase_lists limit a b (erase.Erased block false) told = neither a told.1.fetched b told.1.first.rest (ap lists_in told.1.erase.1.erased.changed)
+erase_lists limit a b (erase.Retired block) told = neither a told.1.fetched b told.1.first.rest (ap lists_in told.1.erase.1.erased.changed)
+erase_lists limit a b erase.Pinned told =
     let from = told.erase.fetched in
-    between stale_in 0 a from told.found b told.erase.first.rest told.handed.rest
-    (none_more (stale_in (view_of_broom from)) (stale_in (view_of_broom told.found)) (ap (λ (x : View). x.stale) told.erase.erase.0.changed))
-erase_lists_stale limit a b erase.Stale told =
+    let changed = told.erase.erase.0.changed in (
+      between busy_in 1 a from told.found b told.erase.first.rest told.handed.rest (one_longer _ _ told.block (ap busy_in changed)),
+      between stale_in 0 a from told.found b told.erase.first.rest told.handed.rest (none_more _ _ (ap stale_in changed)),
+    )
+erase_lists limit a b erase.Stale told =
     let from = told.1.fetched in
-    behind stale_in 1 a from b told.1.first.rest
-    (one_longer (stale_in (view_of_broom from)) (stale_in (view_of_broom b)) told.0 (ap (λ (x : View). x.stale) told.1.erase.0.changed))
-erase_lists_stale limit a b erase.QueueEmpty told =
-    none_more (stale_in (view_of_broom a)) (stale_in (view_of_broom b)) (ap (λ (x : Broom). stale_in (view_of_broom x)) told.rest)
+    let changed = told.1.erase.0.changed in (
+      unchanged busy_in a from b told.1.first.rest (ap busy_in changed),
+      behind stale_in 1 a from b told.1.first.rest (one_longer _ _ told.0 (ap stale_in changed)),
+    )
+erase_lists limit a b erase.QueueEmpty told =
+    let same = ap view_of_broom told.rest in (none_more _ _ (ap busy_in same), none_more _ _ (ap stale_in same))
 
 -- a drain finds no block pinned or stale that would be counted
 abbrev FindsNone : Tally → Type 0
@@ -89,7 +83,7 @@ call_lists : (limit : ℕ) (a b : Broom) (x : BroomAnswer) → CallTold limit a 
 call_lists limit a b (by.Drain given programmed) told = survey_finds_none given
 call_lists limit a b (by.DrainNext given programmed) told = drain_finds_none given
 call_lists limit a b (by.DrainDead given) told = survey_finds_none given
-call_lists limit a b (by.Erase given) told = (erase_lists_busy limit a b given told, erase_lists_stale limit a b given told)
+call_lists limit a b (by.Erase given) told = erase_lists limit a b given told
 call_lists limit a b (by.Restock given) told = (refl, refl)
 
 pub calls_listed : (limit : ℕ) (a b : Broom) (xs : List BroomAnswer) (calls : HasMadeCalls limit a xs b)

@@ -89,7 +89,7 @@ module _ (volume : Volume) (geo : Geometry) (cs : List Command) (rows : List (Ve
       ∙ (ap (λ l. get_or l t (cs, [])) (work ∙ row)
       ∙ get_or-map-range_with_len (λ k. each (places_for k cs)) 0 (hosts_of geo) t t (cs, []) (omega (arith, long)) (zero-add t))
 
-  pub begun : HasBegun volume cs (ends_of cs) workers
+  begun : HasBegun volume cs (ends_of cs) workers
   begun = record {
     rounds = refl;
     known = subst (λ n. All (λ c. c.worker < n) cs) (sym long) (workers_low geo cs some playable);
@@ -102,10 +102,13 @@ module _ (volume : Volume) (geo : Geometry) (cs : List Command) (rows : List (Ve
         (ap (λ (v : View). v.seen) is, ap (λ (v : View). v.mine) is, ap (λ (v : View). v.programs) is);
   }
 
-  pub manned : AreManned volume workers
+  manned : AreManned volume workers
   manned = record {
     some = omega (arith, long);
     all = long ∙ ap hosts_of (sym geometry);
     at = at;
     seated = λ t p low. ap (λ (v : View). v.role) (view_here t p low);
   }
+
+  pub at_first : HasBegun volume cs (ends_of cs) workers × AreManned volume workers
+  at_first = (begun, manned)

@@ -1,15 +1,14 @@
 -- What a pass does that plays one line.
-use Rattle.std.specs.Prelude.{◌≡◌, ℕ, ◌+◌, ◌≤◌, Bool, if◌then◌else◌, List, [], ◌++◌, length}
+use Rattle.std.specs.Prelude.{ℕ, Bool, if◌then◌else◌, List, [], ◌++◌}
 use Rattle.geometry.specs.History.{Call, held, Begins}
 use Rattle.geometry.specs.declared.answer.Got.{Got}
 use Rattle.geometry.specs.declared.answer.Got.TheVariants as got
-use Rattle.geometry.specs.declared.map_word.MapWord.{MapWord}
 use Rattle.flash_rule.specs.declared.view.View.{View}
 use Rattle.trace.specs.declared.commands.Op.{Op}
 use Rattle.rounds.specs.declared.answer.Kind.{Kind}
 use Rattle.rounds.specs.declared.answer.Kind.TheVariants as kind
 use Rattle.rounds.specs.Lines.{calls_by, IsRight, is_full}
-use Rattle.rounds.specs.Playing.{one_done, LineFound}
+use Rattle.rounds.specs.Playing.{one_done, LineFound, PlayAdds}
 use Rattle.flash_table.specs.declared.pass.Pass.{Pass}
 use Rattle.flash_table.specs.Flash.{view_of}
 use Rattle.flash_table.specs.Steps.{HasNumber}
@@ -19,40 +18,16 @@ abbrev pub kind_found : Got → Kind
 kind_found got.Empty = kind.Empty
 kind_found got.Data = kind.Page
 
--- what a pass knows, with the eleven fields of another view that playing may change
-abbrev pub merge : View → View → View
-merge v w = record v {
-  seen = w.seen;
-  mine = w.mine;
-  looks = w.looks;
-  pin = w.pin;
-  known = w.known;
-  programs = w.programs;
-  owns = w.owns;
-  work = w.work;
-  taken = w.taken;
-  denied = w.denied;
-  ceded = w.ceded;
-}
-
 -- A pass has played one line, with this many tries of a write: the line has its right answer at a history, not before what the pass had
 -- seen, and the pass has seen that history with the line's call. If it was not turned away its call is the pass's own, and a write has
 -- programmed a page. The blocks that the pass has found taken are those of the tries of a write
 pub record PlayedLine (t patience : ℕ) (v : View) (o : Op) (s : ℕ) (value : List ℕ) (k : Kind) (page : List ℕ) (full : Bool) (w : View) : Type 0 where
-  pub changed : w ≡ merge v w
   pub history : List Call
   pub later : Begins v.seen history
   pub right : IsRight o (held v.numbers.sectors history s) k page
   pub last : Begins (history ++ (if full then [] else calls_by t o s value)) w.seen
-  pub mine : w.mine ≡ v.mine ++ (if full then [] else calls_by t o s value)
-  pub more : List MapWord
-  pub programs : w.programs ≡ v.programs ++ more
-  pub programmed : length more ≡ one_done o full
-  pub kept : v.taken ≤ w.taken
-  pub taken : w.taken ≤ v.taken + one_done o full
-  pub found : List ℕ
-  pub denied : w.denied ≡ v.denied ++ found
-  pub tried : LineFound patience v.numbers.blocks o full found
+  pub adds : PlayAdds (if full then [] else calls_by t o s value) (one_done o full) (LineFound patience v.numbers.blocks o full) v w
+  pub open adds use *
 
 -- the pass has played one line, with this answer; it was turned away if the answer is full
 abbrev pub HasPlayedLine : ℕ → Pass → Op → ℕ → List ℕ → Kind → List ℕ → Pass → Type 0

@@ -1,5 +1,11 @@
 //! What a broom does while the workers of a round play.
-ghost use Rattle.std.specs.Prelude.{◌≡◌, ◌||◌, ℕ, [], ◌∷◌};
+ghost use Rattle.std.specs.Prelude.{◌≡◌, ◌||◌, ℕ, [], ◌∷◌, length};
+ghost use Rattle.std.specs.Arc.{arc_value};
+ghost use Rattle.geometry.specs.Geometry.{pages_of};
+ghost use Rattle.flash_table.specs.Flash.{geometry_of};
+ghost use Rattle.broom.specs.Emptying.{pages_to_fill};
+ghost use Rattle.broom.specs.Ready.{blocks_of_broom};
+ghost use Rattle.volume.specs.Volume.{flash_of};
 ghost use Rattle.workers.specs.declared.broom_answer.BroomAnswer.TheVariants as by;
 ghost use Rattle.workers.specs.Collecting.{HasCollected, HasCollectedBy, HasFollowed, HasSearched, HasTakenTurn};
 ghost use Rattle.workers.specs.Turns as turns;
@@ -57,13 +63,19 @@ fn have_gained(drain: Drain, erase: Erase) -> bool
 }
 
 impl Collector {
+    // How many pages the broom has room for in its blocks.
+    fn room(&self) -> u64
+        ensures { result ≡ length (pages_to_fill (pages_of (geometry_of (flash_of (arc_value self.now.volume)))) (blocks_of_broom self.now.broom)) }
+    {
+        self.broom.room(self.volume.geometry().pages())
+    }
+
     fn drain<G: Gate>(&mut self, rt: &impl Wait, gate: &mut G) -> Drain
         ensures { (programmed : ℕ) × HasCollectedBy self.old (by.Drain result programmed ∷ []) self.new }
     {
-        let pages = self.volume.geometry().pages();
-        let room = self.broom.room(pages);
+        let room = self.room();
         let drain = self.volume.drain_one(rt, &mut self.broom, gate);
-        let programmed = room.saturating_sub(self.broom.room(pages));
+        let programmed = room.saturating_sub(self.room());
         self.tally = self
             .tally
             .with_answer(BroomAnswer::Drain(drain, programmed));
@@ -73,10 +85,9 @@ impl Collector {
     fn drain_next<G: Gate>(&mut self, rt: &impl Wait, gate: &mut G) -> Drain
         ensures { (programmed : ℕ) × HasCollectedBy self.old (by.DrainNext result programmed ∷ []) self.new }
     {
-        let pages = self.volume.geometry().pages();
-        let room = self.broom.room(pages);
+        let room = self.room();
         let drain = self.volume.drain_next_one(rt, &mut self.broom, gate);
-        let programmed = room.saturating_sub(self.broom.room(pages));
+        let programmed = room.saturating_sub(self.room());
         self.tally = self
             .tally
             .with_answer(BroomAnswer::DrainNext(drain, programmed));

@@ -1,8 +1,6 @@
-use Rattle.std.proofs.Common.{◌≡◌, ◌∙◌, List, [], ◌∷◌, Some, ap, subst, arith}
-use Rattle.geometry.specs.Geometry.{sectors_of}
-use Rattle.geometry.specs.History.{Call, Write, Trim, step, after, held}
-use Rattle.geometry.specs.Sectors.{Sector, Answers, sector_at}
-use Rattle.geometry.proofs.Histories.{held_written, held_by_write, held_by_trim}
+use Rattle.std.proofs.Common.{◌≡◌, ◌∙◌, [], ◌∷◌, Some, ap, subst, arith}
+use Rattle.geometry.{specs.Geometry.sectors_of, proofs.Histories.held_written, proofs.Histories.held_by_write, proofs.Histories.held_by_trim}
+use Rattle.geometry.specs.{History.Call, History.Write, History.Trim, History.step, History.after, History.held, Sectors.Answers, Sectors.sector_at}
 use Rattle.ftl_one.specs.OneFtl as ftl
 use Rattle.acceptance.proofs.caller.reads_back.Goals as goal
 

@@ -1,10 +1,7 @@
-use Rattle.std.proofs.Common.{subst, arith, ap, drop, length, take}
-use Rattle.std.proofs.lemmas.Bool.Decides.{nat_tests}
-use Rattle.std.proofs.lemmas.List.{drop-drop, length-drop, take_rest}
-use Rattle.std.specs.Io.KnownBytes.{Appends}
+use Rattle.std.proofs.{Common.subst, Common.arith, Common.ap, Common.drop, Common.length, Common.take, lemmas.Bool.Decides.nat_tests}
+use Rattle.std.{proofs.lemmas.List.drop-drop, proofs.lemmas.List.length-drop, proofs.lemmas.List.take_rest, specs.Io.KnownBytes.Appends}
 use Rattle.trace.specs.Watched.{inner_of}
-use Rattle.answers.specs.Delivery.{IsUnderWay}
-use Rattle.answers.proofs.Deliveries.{IsUnderWay-take}
+use Rattle.answers.{specs.Delivery.IsUnderWay, proofs.Deliveries.IsUnderWay-take}
 use Rattle.answers.proofs.delivery.send_some.Goals as goal
 
 pub loop-sent-preserved : goal.loop-sent-preserved

@@ -1,5 +1,4 @@
-use Rattle.std.proofs.Common.{w8, refl, arith}
-use Rattle.std.proofs.lemmas.Simd.{SwzOk-from_below}
+use Rattle.std.proofs.{Common.w8, Common.refl, Common.arith, lemmas.Simd.SwzOk-from_below}
 use Rattle.answers.proofs.Encodings.{picked}
 use Rattle.answers.proofs.encoding.digits_of.Goals as goal
 

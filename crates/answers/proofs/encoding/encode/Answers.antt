@@ -1,7 +1,6 @@
-use Rattle.std.proofs.Common.{◌+◌, ◌≤◌, length, ap, ◌∙◌, arith, refl}
-use Rattle.std.proofs.lemmas.List.{take_rest}
-use Rattle.hex.specs.Hex.{encode_lower, encode_with}
+use Rattle.std.proofs.{Common.◌+◌, Common.◌≤◌, Common.length, Common.ap, Common.◌∙◌, Common.arith, Common.refl, lemmas.List.take_rest}
 use Rattle.std.proofs.lemmas.Simd.{length-put_chunk}
+use Rattle.hex.specs.Hex.{encode_lower, encode_with}
 use Rattle.answers.proofs.Encodings.{block_written, rest_written}
 use Rattle.answers.proofs.encoding.encode.Goals as goal
 

@@ -1,6 +1,5 @@
 use Rattle.std.proofs.Common.{[], ◌∷◌, refl}
-use Rattle.answers.specs.Answers.{outcome_text}
-use Rattle.answers.proofs.Places.{Placed-as, Placed-number, Placed-on, first_number}
+use Rattle.answers.{specs.Answers.outcome_text, proofs.Places.Placed-as, proofs.Places.Placed-number, proofs.Places.Placed-on, proofs.Places.first_number}
 use Rattle.answers.proofs.line.put_collection.Goals as goal
 
 pub returns : goal.returns

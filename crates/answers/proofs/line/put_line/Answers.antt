@@ -1,8 +1,7 @@
 use Rattle.std.proofs.Common.{[], ◌∷◌}
 use Rattle.hex.specs.Hex.{encode_lower}
 use Rattle.trace.specs.Trace.{name_of}
-use Rattle.answers.specs.Replies.{reply_text}
-use Rattle.answers.proofs.Places.{Placed-as, Placed-number, Placed-on}
+use Rattle.answers.{specs.Replies.reply_text, proofs.Places.Placed-as, proofs.Places.Placed-number, proofs.Places.Placed-on}
 use Rattle.answers.proofs.line.put_line.Goals as goal
 
 pub returns : goal.returns

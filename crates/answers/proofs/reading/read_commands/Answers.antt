@@ -1,11 +1,6 @@
-use Rattle.std.proofs.Common.{rules}
-use Rattle.std.specs.List.{All}
-use Rattle.std.proofs.lemmas.Result.{IfOk-weaker}
-use Rattle.trace.specs.Trace.{AreCommands, checked}
-use Rattle.trace.specs.Watched.{inner_of}
-use Rattle.answers.specs.Playable.{IsPlayable}
-use Rattle.answers.proofs.Playable.{commands_are_playable}
-use Rattle.answers.proofs.Readings.{commands_held}
+use Rattle.std.{proofs.Common.rules, specs.List.All, proofs.lemmas.Result.IfOk-weaker}
+use Rattle.trace.specs.{Trace.AreCommands, Trace.checked, Watched.inner_of}
+use Rattle.answers.{specs.Playable.IsPlayable, proofs.Playable.commands_are_playable, proofs.Readings.commands_held}
 use Rattle.answers.proofs.reading.read_commands.Goals as goal
 
 pub returns-clause-playable : goal.returns-clause-playable

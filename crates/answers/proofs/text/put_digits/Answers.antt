@@ -1,7 +1,5 @@
 use Rattle.std.proofs.Common.{List, ℕ, ◌+◌, subst}
-use Rattle.answers.specs.Placed.{Placed}
-use Rattle.answers.proofs.Numbers.{decimal_parts}
-use Rattle.answers.proofs.Places.{Placed-then}
+use Rattle.answers.{specs.Placed.Placed, proofs.Numbers.decimal_parts, proofs.Places.Placed-then}
 use Rattle.answers.proofs.text.put_digits.Goals as goal
 
 pub returns-then-number-lt100000000-clause-placed : goal.returns-then-number-lt100000000-clause-placed

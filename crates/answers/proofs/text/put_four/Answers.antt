@@ -1,6 +1,5 @@
 use Rattle.std.proofs.Common.{◌≡◌, ◌+◌, ℕ, arith, subst}
-use Rattle.answers.specs.Placed.{Placed, four_digits}
-use Rattle.answers.proofs.Places.{Placed-then}
+use Rattle.answers.{specs.Placed.Placed, specs.Placed.four_digits, proofs.Places.Placed-then}
 use Rattle.answers.proofs.text.put_four.Goals as goal
 
 pub returns : goal.returns

@@ -1,12 +1,12 @@
-use Rattle.std.proofs.Common.{false, set, inl, refl, ap, ◌∙◌, arith, length-set}
+use Rattle.std.proofs.Common.{◌≡◌, inl, refl, ap, arith}
 use Rattle.flash_rule.specs.{declared.view.View.View, BroomPlays.owned_as, Views.without, Views.with_owned}
 use Rattle.geometry.specs.declared.pin_word.Phase.TheVariants.{Victim}
-use Rattle.flash_table.specs.Flash.{broom_view, device}
-use Rattle.broom.specs.{Ready.view_of_broom, Relocating.Sweeps}
-use Rattle.broom.proofs.{Marking.marks_kept, Marking.still_marked, Ranks.ranks_fewer, Choosing.rested_lost}
-use Rattle.broom.proofs.Drains.{low_mark, low_block, state_closed, last_loaded, victim_of_state, claimed_sweeps, claimed_room, did_drain, drained_rested}
-use Rattle.broom.proofs.Drains.{drained_loaded}
+use Rattle.flash_table.specs.Flash.{IsBroomOf, broom_view, own_blocks}
+use Rattle.broom.specs.{Ready.IsRested, Ready.view_of_broom, Relocating.Sweeps, Told.DidDrainAgain}
+use Rattle.broom.proofs.{Unmarking.ready_unseen, Choosing.rested_lost}
+use Rattle.broom.proofs.Drains.{low_mark, low_block, state_closed, last_loaded, victim_of_state, claimed_sweeps, claimed_room, drained_so}
 use Rattle.broom.proofs.draining.drain_marked.{Given.Over, Goals.Else-not-claim, Goals.After-relocate-copied}
+use Rattle.broom.proofs.draining.drain_marked.Goals.{After-drain}
 use Rattle.broom.proofs.draining.drain_marked.Goals as goal
 
 pub claim-requires-clause-block : goal.claim-requires-clause-block
@@ -59,75 +59,46 @@ drain-requires-clause-emptied g c =
     let h = swept g at in
     let all = c.relocate-copied.ensures.cleared x (sweeping g (goal.at.After-relocate-copied g at).Else-not-claim) in inl (x, h.draining, (h.low, omega arith))
 
-pub returns-clause-told : goal.returns-clause-told
-returns-clause-told g c =
+-- what the broom has done then
+ended : (g : Over) (c : After-drain g)
+    → DidDrainAgain (view_of_broom c.args.broom.now) (own_blocks c.args.broom.now.seat) c.args.broom.now.states.items c.args.block
+    c.relocate-copied.result (broom_view c.drain.new.broom) (own_blocks c.drain.new.broom)
+    × ((broom_view c.drain.new.broom).loaded ≡ (view_of_broom c.args.broom.now).loaded)
+    × (IsBroomOf c.args.flash.now c.drain.new.broom → IsRested c.args.flash.now c.drain.new.broom)
+ended g c =
     let f = c.args.flash.now in
     let r = c.args.broom.now in
-    let b = c.args.block in
     let q = c.index-state.result.now in
-    let at = (goal.at.returns-clause-told g c).After-relocate-copied in
-    let x = victim_of_state f r b c.requires.ready c.requires.marked q c.index-state.ensures in
+    let at = (goal.at.After-drain g c).After-relocate-copied in
+    let x = victim_of_state f r c.args.block c.requires.ready c.requires.marked q c.index-state.ensures in
     let h = swept g at in
     let told = c.relocate-copied.ensures in
-    let began = sweeping g (goal.at.After-relocate-copied g at).Else-not-claim in (
-      refl,
-      did_drain f r b c.requires.ready c.requires.marked q c.index-state.ensures c.claim.new.broom c.claim.ensures.broom
-          (with_owned (owned_as b q Victim) (view_of_broom r).owns) c.if-not-claim.ensures.claimed c.if-not-claim.ensures.blocks
-          c.relocate-copied.new.seat c.drain.new.broom c.relocate-copied.result told.told told.source h
-          (without b (broom_view c.relocate-copied.new.seat).owns) (c.drain.ensures.drained x h.draining) c.drain.ensures.blocks
-          c.requires.ready.rested.source (told.cleared x began) (told.emptied x began),
-    )
+    let began = sweeping g (goal.at.After-relocate-copied g at).Else-not-claim in
+    drained_so f r c.args.block c.requires.ready c.requires.marked q c.index-state.ensures c.claim.new.broom c.claim.ensures.broom
+    (with_owned (owned_as c.args.block q Victim) (view_of_broom r).owns) c.if-not-claim.ensures.claimed c.if-not-claim.ensures.blocks
+    c.relocate-copied.new.seat c.drain.new.broom c.relocate-copied.result told.relocated told.source h
+    (without c.args.block (broom_view c.relocate-copied.new.seat).owns) (c.drain.ensures.drained x h.draining) c.drain.ensures.blocks
+    c.requires.ready.rested.source (told.cleared x began) (told.emptied x began)
+
+pub returns-clause-drained_marked : goal.returns-clause-drained_marked
+returns-clause-drained_marked g c = (refl, (ended g (goal.at.returns-clause-drained_marked g c).After-drain).0)
 
 pub returns-clause-ready : goal.returns-clause-ready
 returns-clause-ready g c =
     let f = c.args.flash.now in
     let r = c.args.broom.now in
-    let b = c.args.block in
-    let q = c.index-state.result.now in
-    let at = (goal.at.returns-clause-ready g c).After-relocate-copied in
-    let x = victim_of_state f r b c.requires.ready c.requires.marked q c.index-state.ensures in
-    let h = swept g at in
-    let told = c.relocate-copied.ensures in
-    let began = sweeping g (goal.at.After-relocate-copied g at).Else-not-claim in
-    let ready = c.requires.ready in
-    record {
-      rested = drained_rested f r b ready c.requires.marked q c.index-state.ensures c.claim.new.broom c.claim.ensures.broom
-          (with_owned (owned_as b q Victim) (view_of_broom r).owns) c.if-not-claim.ensures.claimed c.if-not-claim.ensures.blocks
-          c.relocate-copied.new.seat c.drain.new.broom c.relocate-copied.result told.told told.source h
-          (without b (broom_view c.relocate-copied.new.seat).owns) (c.drain.ensures.drained x h.draining) c.drain.ensures.blocks
-          ready.rested.source (told.cleared x began) (told.emptied x began) c.drain.ensures.broom;
-      states = ready.states;
-      counts = ready.counts;
-      closed = length-set r.closed.items b false ∙ ready.closed;
-      marks =
-          let loaded = drained_loaded f r b ready c.requires.marked q c.index-state.ensures c.claim.new.broom c.claim.ensures.broom
-          (with_owned (owned_as b q Victim) (view_of_broom r).owns) c.if-not-claim.ensures.claimed c.if-not-claim.ensures.blocks
-          c.relocate-copied.new.seat c.drain.new.broom c.relocate-copied.result told.told told.source h
-          (without b (broom_view c.relocate-copied.new.seat).owns) (c.drain.ensures.drained x h.draining) c.drain.ensures.blocks
-          ready.rested.source (told.cleared x began) (told.emptied x began) in
-          marks_kept (device f) r.states.items (view_of_broom r) (broom_view c.drain.new.broom) r.closed.items (set r.closed.items b false) loaded
-          (still_marked r.closed.items b (low_mark f r b ready c.requires.marked)) ready.marks;
-      ranking = ranks_fewer r.counts.items r.closed.items (set r.closed.items b false) r.ranking (length-set r.closed.items b false)
-          (still_marked r.closed.items b (low_mark f r b ready c.requires.marked)) ready.ranking;
-    }
+    let done = ended g (goal.at.returns-clause-ready g c).After-drain in
+    ready_unseen f r _ c.args.block c.requires.ready (low_mark f r c.args.block c.requires.ready c.requires.marked)
+    (done.2 c.drain.ensures.broom) refl refl done.1
 
 pub returns-clause-block : goal.returns-clause-block
 returns-clause-block g c = low_block c.args.flash.now c.args.broom.now c.args.block c.requires.ready c.requires.marked
 
 pub returns-then-not-claim-clause-ready : goal.returns-then-not-claim-clause-ready
 returns-then-not-claim-clause-ready g c =
+    let f = c.args.flash.now in
     let r = c.args.broom.now in
-    let b = c.args.block in
-    let h = c.requires.ready in
     let lost = c.if-not-claim.ensures in
-    let low = low_mark c.args.flash.now r b h c.requires.marked in
-    record {
-      rested = rested_lost c.args.flash.now r.seat c.claim.new.broom b h.rested lost.broom lost.blocks lost.claimed;
-      states = h.states;
-      counts = h.counts;
-      closed = length-set r.closed.items b false ∙ h.closed;
-      marks = marks_kept (device c.args.flash.now) r.states.items (view_of_broom r) (broom_view c.claim.new.broom) r.closed.items
-          (set r.closed.items b false) (ap (λ (v : View). v.loaded) lost.claimed) (still_marked r.closed.items b low) h.marks;
-      ranking = ranks_fewer r.counts.items r.closed.items (set r.closed.items b false) r.ranking (length-set r.closed.items b false)
-          (still_marked r.closed.items b low) h.ranking;
-    }
+    ready_unseen f r _ c.args.block c.requires.ready (low_mark f r c.args.block c.requires.ready c.requires.marked)
+    (rested_lost f r.seat c.claim.new.broom c.args.block c.requires.ready.rested lost.broom lost.blocks lost.claimed) refl refl
+    (ap (λ (v : View). v.loaded) lost.claimed)

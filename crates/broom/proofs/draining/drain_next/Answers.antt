@@ -13,14 +13,14 @@ drain_marked-requires-clause-spare g c =
 pub drain_marked-requires-clause-marked : goal.drain_marked-requires-clause-marked
 drain_marked-requires-clause-marked g c = subst (λ l. IsClosed l c.in-Some.block) (ap marks_of (sym c.choose_next.ensures.rest)) c.in-Some.ensures.marked
 
-pub returns-clause-told : goal.returns-clause-told
-returns-clause-told g c =
+pub returns-clause-drained_next : goal.returns-clause-drained_next
+returns-clause-drained_next g c =
     next_ranked c.args.broom.now c.choose_next.new.broom c.drain_marked.new.broom c.in-Some.block c.drain_marked.result c.choose_next.ensures.rest
-    c.in-Some.ensures.told c.drain_marked.ensures.told c.drain_marked.ensures.marks
+    c.in-Some.ensures.next c.drain_marked.ensures.drained_marked c.drain_marked.ensures.marks
 
 pub returns-clause-queue : goal.returns-clause-queue
 returns-clause-queue g c =
     handed_ranked c.args.broom.now c.choose_next.new.broom c.drain_marked.new.broom c.choose_next.ensures.rest c.drain_marked.ensures.queue
 
-pub returns-in_default-clause-told : goal.returns-in_default-clause-told
-returns-in_default-clause-told g c = none_ranked c.args.broom.now c.choose_next.new.broom c.choose_next.ensures.rest c.in_default.ensures.told
+pub returns-in_default-clause-drained_next : goal.returns-in_default-clause-drained_next
+returns-in_default-clause-drained_next g c = none_ranked c.args.broom.now c.choose_next.new.broom c.choose_next.ensures.rest c.in_default.ensures.next

@@ -17,15 +17,15 @@ wiped g c =
     let wiped : own_blocks c.wipe_all.new.seat ≡ own_blocks c.condemn.new.broom = cc in
     was_wiped c.args.flash.now c.args.broom.now.seat c.load_state-state.new.broom c.condemn.new.broom c.wipe_all.new.seat c.args.block
     c.load_state-state.result c.requires.broom.rested c.load_state-state.ensures.fits
-    drained (omega arith) c.load_state-state.ensures.loaded loaded c.if-not-condemn.ensures.condemned c.wipe_all.ensures.told wiped
+    drained (omega arith) c.load_state-state.ensures.loaded loaded c.if-not-condemn.ensures.condemned c.wipe_all.ensures.wiped wiped
 
 -- the endurance, as the device and as the broom's view have it
 endures : (g : Over) (c : After-wipe_all g) (n : ℕ) → n ≡ endurance_of (geometry_of c.args.flash.now) → n ≡ (broom_view c.args.broom.now.seat).numbers.endurance
 endures g c n is = is ∙ ap (λ (z : Numbers). z.endurance) (sym c.requires.broom.rested.seat.numbers)
 
 -- the block isn't drained
-pub returns-then-ne-clause-told : goal.returns-then-ne-clause-told
-returns-then-ne-clause-told g c =
+pub returns-then-ne-clause-erased : goal.returns-then-ne-clause-erased
+returns-then-ne-clause-erased g c =
     let s = c.args.broom.now.seat in
     let p = c.load_state-state.result in
     let load = c.load_state-state.ensures in
@@ -36,14 +36,14 @@ returns-then-ne-clause-told g c =
 pub returns-then-ne-clause-ready : goal.returns-then-ne-clause-ready
 returns-then-ne-clause-ready g c =
     let load = c.load_state-state.ensures in
-    let is = (returns-then-ne-clause-told g c).0.changed in
+    let is = (returns-then-ne-clause-erased g c).0.changed in
     ready_unmarked c.args.flash.now c.args.broom.now _ c.args.block _ c.requires.broom c.requires.block
     (rested_loaded c.args.flash.now c.args.broom.now.seat c.load_state-state.new.broom c.requires.broom.rested load.broom load.blocks _ _ _ is)
     refl refl (ap (λ (v : View). v.loaded) is)
 
 -- it has readers
-pub returns-then-state-gt0-clause-told : goal.returns-then-state-gt0-clause-told
-returns-then-state-gt0-clause-told g c =
+pub returns-then-state-gt0-clause-erased : goal.returns-then-state-gt0-clause-erased
+returns-then-state-gt0-clause-erased g c =
     let s = c.args.broom.now.seat in
     let p = c.load_state-state.result in
     let load = c.load_state-state.ensures in
@@ -54,14 +54,14 @@ returns-then-state-gt0-clause-told g c =
 pub returns-then-state-gt0-clause-ready : goal.returns-then-state-gt0-clause-ready
 returns-then-state-gt0-clause-ready g c =
     let load = c.load_state-state.ensures in
-    let is = (returns-then-state-gt0-clause-told g c).0.changed in
+    let is = (returns-then-state-gt0-clause-erased g c).0.changed in
     ready_unmarked c.args.flash.now c.args.broom.now _ c.args.block _ c.requires.broom c.requires.block
     (rested_loaded c.args.flash.now c.args.broom.now.seat c.load_state-state.new.broom c.requires.broom.rested load.broom load.blocks _ _ _ is)
     refl refl (ap (λ (v : View). v.loaded) is)
 
 -- its word has changed
-pub returns-then-not-condemn-clause-told : goal.returns-then-not-condemn-clause-told
-returns-then-not-condemn-clause-told g c =
+pub returns-then-not-condemn-clause-erased : goal.returns-then-not-condemn-clause-erased
+returns-then-not-condemn-clause-erased g c =
     let s = c.args.broom.now.seat in
     let p = c.load_state-state.result in
     let load = c.load_state-state.ensures in
@@ -74,7 +74,7 @@ returns-then-not-condemn-clause-told g c =
 pub returns-then-not-condemn-clause-ready : goal.returns-then-not-condemn-clause-ready
 returns-then-not-condemn-clause-ready g c =
     let blocks = c.if-not-condemn.ensures.condemned.blocks ∙ c.load_state-state.ensures.blocks in
-    let is = (returns-then-not-condemn-clause-told g c).0.changed in
+    let is = (returns-then-not-condemn-clause-erased g c).0.changed in
     ready_unmarked c.args.flash.now c.args.broom.now _ c.args.block _ c.requires.broom c.requires.block
     (rested_loaded c.args.flash.now c.args.broom.now.seat c.condemn.new.broom c.requires.broom.rested c.condemn.ensures.broom blocks _ _ _ is)
     refl refl (ap (λ (v : View). v.loaded) is)
@@ -82,9 +82,9 @@ returns-then-not-condemn-clause-ready g c =
 pub condemn-requires-clause-expected : goal.condemn-requires-clause-expected
 condemn-requires-clause-expected g c = search rules
 
-pub returns-then-state-endurance-clause-told : goal.returns-then-state-endurance-clause-told
-returns-then-state-endurance-clause-told g c =
-    let at = (goal.at.returns-then-state-endurance-clause-told g c).After-wipe_all in
+pub returns-then-state-endurance-clause-erased : goal.returns-then-state-endurance-clause-erased
+returns-then-state-endurance-clause-erased g c =
+    let at = (goal.at.returns-then-state-endurance-clause-erased g c).After-wipe_all in
     let s = c.args.broom.now.seat in
     let p = c.load_state-state.result in
     let last = endures g at c.endurance.result (c.endurance.ensures.value ∙ ap endurance_of c.geometry.ensures) in
@@ -96,7 +96,7 @@ returns-then-state-endurance-clause-told g c =
 
 pub returns-then-state-endurance-clause-ready : goal.returns-then-state-endurance-clause-ready
 returns-then-state-endurance-clause-ready g c =
-    let did = (returns-then-state-endurance-clause-told g c).1 in
+    let did = (returns-then-state-endurance-clause-erased g c).1 in
     ready_unmarked c.args.flash.now c.args.broom.now _ c.args.block _ c.requires.broom c.requires.block
     (rested_retired c.args.flash.now c.args.broom.now.seat c.retire_block.new.broom c.args.block c.requires.broom.rested c.retire_block.ensures.broom did)
     refl refl (ap (λ (v : View). v.loaded) did.erased.changed)
@@ -108,22 +108,22 @@ renewed : (g : Over) (c : goal.After-renew-kept g) → MatchBool c.renew-kept.re
     (DidFree (broom_view c.args.broom.now.seat) (own_blocks c.args.broom.now.seat) c.args.block (broom_view c.renew-kept.new.seat)
     (own_blocks c.renew-kept.new.seat))
 renewed g c =
-    let at = (goal.at.returns-clause-told g c).After-wipe_all in
+    let at = (goal.at.returns-clause-erased g c).After-wipe_all in
     let s = c.args.broom.now.seat in
     let p = c.load_state-state.result in
     let is : c.endurance.result ≡ endurance_of (geometry_of c.args.flash.now) = c.endurance.ensures.value ∙ ap endurance_of c.geometry.ensures in
     let same : c.endurance.result ≡ (broom_view s).numbers.endurance = endures g at c.endurance.result is in
     let young = c.load_state-state.ensures.ranges.0 in
     did_renew s c.wipe_all.new.seat c.renew-kept.new.seat c.args.block p (wiped g at) c.renew-kept.result (omega arith)
-    (c.renew-kept.ensures.told _ (its s c.wipe_all.new.seat c.args.block p (wiped g at)))
+    (c.renew-kept.ensures.renewed _ (its s c.wipe_all.new.seat c.args.block p (wiped g at)))
 
 renewed_loaded : (v : View) (x : BroomBlocks) (b : ℕ) (w : View) (y : BroomBlocks) (kept : Bool)
     → MatchBool kept (DidKeep v x b w y) (DidFree v x b w y) → (n : ℕ) × (w.loaded ≡ v.loaded ++ (b, n) ∷ [])
 renewed_loaded v x b w y true h = (pin_word h.state, ap (λ (z : View). z.loaded) h.erased.changed)
 renewed_loaded v x b w y false h = (pin_word h.state, ap (λ (z : View). z.loaded) h.erased.changed)
 
-pub returns-clause-told : goal.returns-clause-told
-returns-clause-told g c = told_erased c.args.broom.now _ c.args.block c.renew-kept.result (renewed g c)
+pub returns-clause-erased : goal.returns-clause-erased
+returns-clause-erased g c = told_erased c.args.broom.now _ c.args.block c.renew-kept.result (renewed g c)
 
 pub returns-clause-ready : goal.returns-clause-ready
 returns-clause-ready g c =

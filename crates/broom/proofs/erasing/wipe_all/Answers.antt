@@ -41,8 +41,8 @@ loop-i-preserved c =
     wiped_more c.args.flash.now (broom_view c.args.seat.now) (own_blocks c.args.seat.now) c.loop-i.i c.loop-i.seat c.wipe.new.broom c.loop-i.invariant
     c.wipe.ensures.broom c.wipe.ensures.blocks c.wipe.ensures.wiped
 
-pub returns-clause-told : goal.returns-clause-told
-returns-clause-told c =
+pub returns-clause-wiped : goal.returns-clause-wiped
+returns-clause-wiped c =
     let pages : c.pages.result ≡ pages_of (geometry_of c.args.flash.now) = c.pages.ensures.value ∙ ap pages_of c.geometry-geometry.ensures in
     let words : c.words.result ≡ words_of (geometry_of c.args.flash.now) = c.words.ensures.value ∙ ap words_of c.geometry-geometry.ensures in
     let most = c.loop-i.auto.i-end in

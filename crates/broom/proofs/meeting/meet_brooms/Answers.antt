@@ -13,7 +13,7 @@ first_look : (c : After-broom_look)
     → Named (host_of (view_of_broom c.args.first.now) (lent_note (view_of_broom c.args.second.now))) 0 (sector_word c.broom_look.result)
     (broom_view c.broom_look.new.broom)
 first_look c =
-    let hosted = c.broom_take_in.ensures.told ∙ ap (host_of (view_of_broom c.args.first.now)) c.broom_lend-note.ensures.note.0 in
+    let hosted = c.broom_take_in.ensures.host ∙ ap (host_of (view_of_broom c.args.first.now)) c.broom_lend-note.ensures.note.0 in
     subst (λ (x : View). Named x 0 (sector_word c.broom_look.result) (broom_view c.broom_look.new.broom)) hosted c.broom_look.ensures.named
 
 pub broom_give_back-note-requires-clause-guest : goal.broom_give_back-note-requires-clause-guest
@@ -33,21 +33,21 @@ broom_come_home-requires-clause-given c =
     (named_broom v'.role c.requires.second.rested.seat.role) c.requires.first.rested.source
     (first_look (goal.at.broom_come_home-requires-clause-given c).After-broom_look)
     (note_view c.broom_give_back-note.result) c.broom_give_back-note.ensures.note.0 in
-    let role = ap (λ (x : View). x.role) c.broom_lend-note.ensures.told in (t.0, t.1, role ∙ t.2, t.3, t.4, λ same. t.5 (sym role ∙ same))
+    let role = ap (λ (x : View). x.role) c.broom_lend-note.ensures.lender in (t.0, t.1, role ∙ t.2, t.3, t.4, λ same. t.5 (sym role ∙ same))
 
-pub returns-clause-told : goal.returns-clause-told
-returns-clause-told c =
+pub returns-clause-met_brooms : goal.returns-clause-met_brooms
+returns-clause-met_brooms c =
     let v = view_of_broom c.args.first.now in
     let v' = view_of_broom c.args.second.now in
     let u = broom_view c.broom_look-2.new.broom in
-    let came = c.broom_come_home.ensures.told ∙ (λ i. home (c.broom_lend-note.ensures.told i) (c.broom_give_back-note.ensures.note.0 i)) in
+    let came = c.broom_come_home.ensures.home ∙ (λ i. home (c.broom_lend-note.ensures.lender i) (c.broom_give_back-note.ensures.note.0 i)) in
     let again = subst (λ (x : View). Named x 0 (sector_word c.broom_look-2.result) u) came c.broom_look-2.ensures.named in
     let t =
     brooms_met v v' (broom_view c.broom_look.new.broom) c.broom_look.result (named_broom v.role c.requires.first.rested.seat.role)
     (named_broom v'.role c.requires.second.rested.seat.role) c.requires.first.rested.source
-    (first_look (goal.at.returns-clause-told c).After-broom_look) u c.broom_look-2.result c.requires.second.rested.source
+    (first_look (goal.at.returns-clause-met_brooms c).After-broom_look) u c.broom_look-2.result c.requires.second.rested.source
     c.requires.second.rested.whole again c.requires.first.rested.alone in
-    subst (λ (x : View). BroomsMet v v' x u) (sym c.broom_give_back-note.ensures.told) t
+    subst (λ (x : View). BroomsMet v v' x u) (sym c.broom_give_back-note.ensures.giver) t
 
 pub broom_lend-note-requires-clause-broom : goal.broom_lend-note-requires-clause-broom
 broom_lend-note-requires-clause-broom c = c.requires.second.rested.seat

@@ -11,7 +11,7 @@ take_in-requires-clause-lent c = lent (view_of_broom c.args.broom.now) (note_vie
 
 -- what the word read tells of the broom
 hosted : (c : After-get_word) → view_of c.take_in.new.pass ≡ host_of (view_of c.args.pass.now) (lent_note (view_of_broom c.args.broom.now))
-hosted c = c.take_in.ensures.told ∙ ap (host_of (view_of c.args.pass.now)) c.broom_lend-note.ensures.note.0
+hosted c = c.take_in.ensures.host ∙ ap (host_of (view_of c.args.pass.now)) c.broom_lend-note.ensures.note.0
 
 spares : (c : After-get_word)
     → Spared (host_of (view_of c.args.pass.now) (lent_note (view_of_broom c.args.broom.now))) (page_in c.args.page c.args.generation)
@@ -39,22 +39,22 @@ broom_come_home-requires-clause-given c =
     let note = c.give_back-note.ensures.note.0 ∙ ap given_note (c.get_word.ensures.same ∙ hosted at) in
     let t = stood_given v x (page_in c.args.page c.args.generation) (named_pass v.role c.requires.pass.1.pass.role)
     (named_broom x.role c.requires.broom.rested.seat.role) (spares at) (note_view c.give_back-note.result) note in
-    let role = ap (λ (y : View). y.role) c.broom_lend-note.ensures.told in (t.0, t.1, role ∙ t.2, t.3, t.4, λ same. t.5 (sym role ∙ same))
+    let role = ap (λ (y : View). y.role) c.broom_lend-note.ensures.lender in (t.0, t.1, role ∙ t.2, t.3, t.4, λ same. t.5 (sym role ∙ same))
 
-pub returns-clause-told : goal.returns-clause-told
-returns-clause-told c =
-    let at = (goal.at.returns-clause-told c).After-get_word in
+pub returns-clause-stood : goal.returns-clause-stood
+returns-clause-stood c =
+    let at = (goal.at.returns-clause-stood c).After-get_word in
     let v = view_of c.args.pass.now in
     let x = view_of_broom c.args.broom.now in
     let y = broom_view c.broom_look.new.broom in
     let read = c.get_word.ensures.same ∙ hosted at in
-    let came = c.broom_come_home.ensures.told ∙ (λ i. home (c.broom_lend-note.ensures.told i) ((c.give_back-note.ensures.note.0 ∙ ap given_note read) i)) in
+    let came = c.broom_come_home.ensures.home ∙ (λ i. home (c.broom_lend-note.ensures.lender i) ((c.give_back-note.ensures.note.0 ∙ ap given_note read) i)) in
     let looked = subst (λ (z : View). Named z 0 (sector_word c.broom_look.result) y) came c.broom_look.ensures.named in
     let t =
     stood v x (page_in c.args.page c.args.generation) (named_pass v.role c.requires.pass.1.pass.role)
     (named_broom x.role c.requires.broom.rested.seat.role) (spares at) y c.broom_look.result c.requires.broom.rested.source
     c.requires.broom.rested.whole looked c.requires.pass.1.alone in
-    subst (λ (z : View). StoodTold v x (page_in c.args.page c.args.generation) z y) (sym (c.give_back-note.ensures.told ∙ ap giver read)) t
+    subst (λ (z : View). StoodTold v x (page_in c.args.page c.args.generation) z y) (sym (c.give_back-note.ensures.giver ∙ ap giver read)) t
 
 pub returns-clause-broom : goal.returns-clause-broom
 returns-clause-broom c = grind arith

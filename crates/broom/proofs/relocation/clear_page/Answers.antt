@@ -11,12 +11,12 @@ use Rattle.broom.proofs.relocation.clear_page.Goals as goal
 
 -- the page is live, and is the source
 live : (g : Over) (c : After-open_destination g) → FoundLive (broom_view c.args.seat.now) c.args.page c.in-Some.sector (broom_view c.live_sector.new.seat)
-live g c = c.in-Some.ensures.told
+live g c = c.in-Some.ensures.found
 
 -- the destination, once it is opened
 destination : (g : Over) (c : After-open_destination g) → (o : OpenBlock) × ((own_blocks c.open_destination.new.seat).destination ≡ Some o)
 destination g c =
-    opened_some c.args.flash.now c.live_sector.new.seat c.open_destination.new.seat c.open_destination.ensures.told (pages_of (geometry_of c.args.flash.now))
+    opened_some c.args.flash.now c.live_sector.new.seat c.open_destination.new.seat c.open_destination.ensures.opened (pages_of (geometry_of c.args.flash.now))
     (subst (λ (x : BroomBlocks). 0 < room_left (pages_of (geometry_of c.args.flash.now)) x) (sym c.live_sector.ensures.blocks) c.requires.room)
 
 -- the broom still sweeps its victim then
@@ -25,11 +25,11 @@ sweeping : (g : Over) (c : After-open_destination g) (x : ReclaimedBlock) → Sw
 sweeping g c x h =
     let f = c.args.flash.now in
     let there = c.live_sector.ensures.sweeps x h in
-    opened_sweeps f c.live_sector.new.seat c.open_destination.new.seat c.open_destination.ensures.told x (c.open_destination.ensures.broom f there.seat) there
+    opened_sweeps f c.live_sector.new.seat c.open_destination.new.seat c.open_destination.ensures.opened x (c.open_destination.ensures.broom f there.seat) there
 
 source_is : (g : Over) (c : After-open_destination g)
     → (broom_view c.open_destination.new.seat).source ≡ Some (record { page = c.args.page; stamp = c.in-Some.sector; value = Some (live g c).value })
-source_is g c = ap (λ (v : View). v.source) c.open_destination.ensures.told.view ∙ (live g c).source
+source_is g c = ap (λ (v : View). v.source) c.open_destination.ensures.opened.view ∙ (live g c).source
 
 pub copy_page-copy-requires-clause-sweeps : goal.copy_page-copy-requires-clause-sweeps
 copy_page-copy-requires-clause-sweeps g c =
@@ -51,8 +51,8 @@ the_copy g c =
     let at = (goal.at.After-copy_page-copy g c).After-open_destination in
     let t = destination g at in
     let l = live g at in
-    let numbers = ap (λ (v : View). v.numbers) c.open_destination.ensures.told.view ∙ ap (λ (v : View). v.numbers) l.went.changed in
-    c.copy_page-copy.ensures.told t.0 l.value t.1 (source_is g at) (subst (λ (z : Numbers). IsValue z l.value) (sym numbers) l.whole)
+    let numbers = ap (λ (v : View). v.numbers) c.open_destination.ensures.opened.view ∙ ap (λ (v : View). v.numbers) l.went.changed in
+    c.copy_page-copy.ensures.copied t.0 l.value t.1 (source_is g at) (subst (λ (z : Numbers). IsValue z l.value) (sym numbers) l.whole)
 
 copied_sweeps : (g : Over) (c : After-copy_page-copy g) (x : ReclaimedBlock) → Sweeps c.args.flash.now c.args.seat.now x
     → IsSweeping c.args.flash.now (pages_of (geometry_of c.args.flash.now) + 1) c.copy_page-copy.new.seat x
@@ -118,14 +118,14 @@ close_if_full-requires-clause-destination g c =
       ap (λ (x : BroomBlocks). x.destination) (c.move_to-moved.ensures.blocks ∙ c.copy_page-copy.ensures.blocks d.0 d.1),
     )
 
-pub returns-in_default-clause-told : goal.returns-in_default-clause-told
-returns-in_default-clause-told g c =
+pub returns-in_default-clause-page : goal.returns-in_default-clause-page
+returns-in_default-clause-page g c =
     dead_cleared (pages_of (geometry_of c.args.flash.now)) (broom_view c.args.seat.now) (broom_view c.live_sector.new.seat)
-    (own_blocks c.args.seat.now) (own_blocks c.live_sector.new.seat) c.args.page c.in_default.ensures.told c.live_sector.ensures.blocks
+    (own_blocks c.args.seat.now) (own_blocks c.live_sector.new.seat) c.args.page c.in_default.ensures.found c.live_sector.ensures.blocks
 
-pub returns-clause-told : goal.returns-clause-told
-returns-clause-told g c =
-    let moved = (goal.at.returns-clause-told g c).After-move_to-moved in
+pub returns-clause-page : goal.returns-clause-page
+returns-clause-page g c =
+    let moved = (goal.at.returns-clause-page g c).After-move_to-moved in
     let opened = (goal.at.After-move_to-moved g moved).After-open_destination in
     let d = destination g opened in
     let h = c.requires.next in
@@ -133,8 +133,8 @@ returns-clause-told g c =
     let room = (sweeping g opened h.0 h.1).destination d.0 d.1 in
     live_cleared c.args.flash.now c.args.seat.now c.live_sector.new.seat c.open_destination.new.seat c.copy_page-copy.new.seat c.move_to-moved.new.broom
     c.close_if_full.new.seat c.args.page c.in-Some.sector (live g opened) c.live_sector.ensures.blocks
-    c.open_destination.ensures.told d.0 room.room d.1 c.copy_page-copy.result (the_copy g ((goal.at.After-move_to-moved g moved).After-copy_page-copy))
-    (c.copy_page-copy.ensures.blocks d.0 d.1) t.0 c.move_to-moved.result t.1 t.2 c.move_to-moved.ensures.blocks c.close_if_full.ensures.told
+    c.open_destination.ensures.opened d.0 room.room d.1 c.copy_page-copy.result (the_copy g ((goal.at.After-move_to-moved g moved).After-copy_page-copy))
+    (c.copy_page-copy.ensures.blocks d.0 d.1) t.0 c.move_to-moved.result t.1 t.2 c.move_to-moved.ensures.blocks c.close_if_full.ensures.tidied
 
 pub returns-clause-sweeps : goal.returns-clause-sweeps
 returns-clause-sweeps g c x h = c.close_if_full.ensures.sweeps x (moved_sweeps g (goal.at.returns-clause-sweeps g c).After-move_to-moved x h)

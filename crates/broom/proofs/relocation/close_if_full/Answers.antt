@@ -18,9 +18,9 @@ close_destination-requires-clause-settled c =
     let g = c.requires.sweeps.1 in
     (c.in-Some.destination, is, can_close c.args.seat.now g.filed c.in-Some.destination is, (g.destination c.in-Some.destination is).low)
 
-pub returns-then-destination-pages-clause-told : goal.returns-then-destination-pages-clause-told
-returns-then-destination-pages-clause-told c =
-    let at = goal.at.returns-then-destination-pages-clause-told c in
+pub returns-then-destination-pages-clause-tidied : goal.returns-then-destination-pages-clause-tidied
+returns-then-destination-pages-clause-tidied c =
+    let at = goal.at.returns-then-destination-pages-clause-tidied c in
     let o = c.in-Some.destination in
     let is = opened at.In-Some in
     closed_tidied c.args.flash.now c.args.seat.now o is c.close_destination.new.broom (without o.block (broom_view c.args.seat.now).owns)
@@ -36,8 +36,8 @@ returns-then-destination-pages-clause-sweeps c x =
     (c.close_destination.ensures.closed o is) c.close_destination.ensures.blocks
     (let full = c.if-destination-pages.true in let pages = pages_are at.After-pages in omega (arith, full, pages)) x c.close_destination.ensures.broom
 
-pub returns-else-destination-pages-clause-told : goal.returns-else-destination-pages-clause-told
-returns-else-destination-pages-clause-told c = let at = goal.at.returns-else-destination-pages-clause-told c in
+pub returns-else-destination-pages-clause-tidied : goal.returns-else-destination-pages-clause-tidied
+returns-else-destination-pages-clause-tidied c = let at = goal.at.returns-else-destination-pages-clause-tidied c in
     left_tidied c.args.flash.now c.args.seat.now c.in-Some.destination (opened at.In-Some)
     (λ e. let pages = pages_are at.After-pages in c.if-destination-pages.false (omega (arith, e, pages)))
 

@@ -152,10 +152,10 @@ count_copy-requires-clause-filled c =
       r.low,
     )
 
-pub returns-clause-told : goal.returns-clause-told
-returns-clause-told c o value there source whole =
+pub returns-clause-copied : goal.returns-clause-copied
+returns-clause-copied c o value there source whole =
     let f = c.args.flash.now in
-    let at = (goal.at.returns-clause-told c).After-put_copy_word-2 in
+    let at = (goal.at.returns-clause-copied c).After-put_copy_word-2 in
     let p = c.in-Some.destination in
     let h = full (goal.at.After-put_copy_word-2 at).After-loop-i value source in
     let put = c.put_copy_word-2.ensures in

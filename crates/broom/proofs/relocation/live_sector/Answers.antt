@@ -12,10 +12,10 @@ use Rattle.broom.proofs.relocation.live_sector.Goals as goal
 sectors_are : (c : After-sectors) → (broom_view c.args.seat.now).numbers.sectors ≡ c.sectors.result
 sectors_are c = ap (λ (z : Numbers). z.sectors) c.requires.next.1.seat.numbers ∙ sym (c.sectors.ensures.value ∙ ap sectors_of c.geometry.ensures)
 
-pub returns-then-stamp-from-clause-told : goal.returns-then-stamp-from-clause-told
-returns-then-stamp-from-clause-told c =
+pub returns-then-stamp-from-clause-found : goal.returns-then-stamp-from-clause-found
+returns-then-stamp-from-clause-found c =
     let t = c.requires.next in
-    let sectors = sectors_are (goal.at.returns-then-stamp-from-clause-told c).After-sectors in
+    let sectors = sectors_are (goal.at.returns-then-stamp-from-clause-found c).After-sectors in
     let past = c.if-stamp-from.true in
     let from = c.from.ensures in
     stamp_dead (broom_view c.args.seat.now) (broom_view c.get_stamp-stamp.new.broom) t.0 c.get_stamp-stamp.result
@@ -65,9 +65,9 @@ sweeping c x h =
     (look.blocks ∙ c.get_stamp-stamp.ensures.blocks) (ap (λ (z : View). z.work) look.named.changed ∙ ap (λ (z : View). z.work) (source_is c))
     (look_callers (broom_view c.get_stamp-stamp.new.broom) y c.get_stamp-stamp.result c.broom_look-named.result look.named)
 
-pub returns-then-found-clause-told : goal.returns-then-found-clause-told
-returns-then-found-clause-told c =
-    let at = (goal.at.returns-then-found-clause-told c).After-found in
+pub returns-then-found-clause-found : goal.returns-then-found-clause-found
+returns-then-found-clause-found c =
+    let at = (goal.at.returns-then-found-clause-found c).After-found in
     let v = broom_view c.args.seat.now in
     let w = broom_view c.get_stamp-stamp.new.broom in
     let y = broom_view c.broom_look-named.new.broom in
@@ -83,9 +83,9 @@ returns-then-found-clause-told c =
 pub returns-then-found-clause-sweeps : goal.returns-then-found-clause-sweeps
 returns-then-found-clause-sweeps c = sweeping (goal.at.returns-then-found-clause-sweeps c).After-found
 
-pub returns-else-found-clause-told : goal.returns-else-found-clause-told
-returns-else-found-clause-told c =
-    let at = (goal.at.returns-else-found-clause-told c).After-found in
+pub returns-else-found-clause-found : goal.returns-else-found-clause-found
+returns-else-found-clause-found c =
+    let at = (goal.at.returns-else-found-clause-found c).After-found in
     let w = broom_view c.get_stamp-stamp.new.broom in
     let y = broom_view c.broom_look-named.new.broom in
     let e = source_is at in

@@ -33,7 +33,7 @@ loop-page-preserved g c =
     let more =
     λ (sum : c.if-clear_page.copied ≡ c.loop-page.copied + count_if c.clear_page.result).
     clearing_more f (broom_view c.args.seat.now) (own_blocks c.args.seat.now) c.in-Draining.victim c.loop-page.page c.loop-page.copied
-    c.if-clear_page.copied c.clear_page.result c.loop-page.seat c.clear_page.new.seat h (told.sweeps c.in-Draining.victim h.sweeps) told.told sum in
+    c.if-clear_page.copied c.clear_page.result c.loop-page.seat c.clear_page.new.seat h (told.sweeps c.in-Draining.victim h.sweeps) told.page sum in
     elim c.if-clear_page.branch [
       | then-clear_page w ↦ more (let one : count_if c.clear_page.result ≡ 1 = ap count_if w.if-clear_page.true in let e = w.copied-is in omega arith)
       | else-clear_page w ↦ more (let none : count_if c.clear_page.result ≡ 0 = ap count_if w.if-clear_page.false in let e = w.copied-is in omega arith)

@@ -27,4 +27,4 @@ loop-block-preserved c =
     let load = c.load_state-state.ensures in
     subst (LoadedBelow f c.args.broom.now (c.loop-block.block + 1) c.load_state-state.new.broom) (sym c.add.ensures)
     (loaded_below_more f c.args.broom.now c.loop-block.block c.loop-block.broom c.load_state-state.new.broom c.loop-block.counts
-    c.load_state-state.result (omega arith) c.loop-block.invariant load.told load.range load.ready load.queue)
+    c.load_state-state.result (omega arith) c.loop-block.invariant load.loaded load.range load.ready load.queue)

@@ -29,8 +29,8 @@ kept c = elim c.else-index.branch [
       c.requires.broom.closed c.requires.block c.index.ensures ∙ w.if-index.false) ∙ is in absurd (cc))
 ]
 
-pub returns-else-index-clause-told : goal.returns-else-index-clause-told
-returns-else-index-clause-told c = record {
+pub returns-else-index-clause-loaded : goal.returns-else-index-clause-loaded
+returns-else-index-clause-loaded c = record {
   loaded = c.load_state-state.ensures.loaded;
   blocks = c.load_state-state.ensures.blocks;
   survey = inl (record { states = refl; counts = refl; marks = refl });

@@ -37,7 +37,7 @@ long c = c.load_states.auto.states ∙ (ap (length {A = _}) c.deref_mut.ensures.
 
 counted : (c : After-forget) → PagesCounted (broom_view c.load_states.new.seat) c.load_states.new.states c.count_pages.new.counts (view_of_broom (after c))
 counted c = subst (λ l. PagesCounted (broom_view c.load_states.new.seat) l c.count_pages.new.counts (broom_view c.count_pages.new.seat))
-    (c.deref.ensures.value ∙ states_kept c) c.count_pages.ensures.told
+    (c.deref.ensures.value ∙ states_kept c) c.count_pages.ensures.counted
 
 -- the broom rests, and has its room, after the survey
 ready : (c : After-forget) → IsReady c.args.flash.now (after c)
@@ -46,7 +46,7 @@ ready c =
     let a = c.args.broom.now in
     record {
       rested = rested_surveyed f a (after c) c.load_states.new.seat c.load_states.new.states c.count_pages.new.counts c.load_states.new.closed
-          c.requires.rested.seat c.load_states.ensures.told (counted c) (long c)
+          c.requires.rested.seat c.load_states.ensures.loaded (counted c) (long c)
           c.requires.rested c.count_pages.ensures.seat (c.count_pages.ensures.blocks ∙ c.load_states.ensures.blocks);
       states = ap (length {A = _}) (states_kept c) ∙ long c;
       counts = ap (length {A = ℕ}) (counts_kept c) ∙ (c.count_pages.auto.counts ∙ (ap (length {A = ℕ}) c.deref_mut-3.ensures.value ∙ c.requires.counts));
@@ -54,7 +54,7 @@ ready c =
       marks =
           let z = device f in
           let marks = marks_surveyed z c.load_states.new.states (broom_view a.seat)
-          (broom_view c.load_states.new.seat) c.load_states.new.closed c.load_states.ensures.told in
+          (broom_view c.load_states.new.seat) c.load_states.new.closed c.load_states.ensures.loaded in
           let all = marks_kept z c.load_states.new.states (broom_view c.load_states.new.seat)
           (view_of_broom (after c)) c.load_states.new.closed c.load_states.new.closed (ap (λ (v : View). v.loaded) (counted c).changed)
           (λ k is. is) marks in
@@ -71,13 +71,13 @@ gains-requires-clause-ready c = ready (goal.at.gains-requires-clause-ready c).Af
 pub gains-requires-clause-next : goal.gains-requires-clause-next
 gains-requires-clause-next c = c.greedy-victim.ensures.value ∙ (λ i. greedy_of (c.deref-2.ensures.value i) (c.deref-3.ensures.value i))
 
-pub returns-clause-told : goal.returns-clause-told
-returns-clause-told c =
-    let at = (goal.at.returns-clause-told c).After-forget in
+pub returns-clause-chosen : goal.returns-clause-chosen
+returns-clause-chosen c =
+    let at = (goal.at.returns-clause-chosen c).After-forget in
     let h = ready at in
     chooses c.args.flash.now c.args.broom.now (after at) c.load_states.new.seat c.load_states.new.states c.count_pages.new.counts
-    c.load_states.new.closed c.requires.rested.seat c.load_states.ensures.told (counted at) (long at)
-    (states_kept at) (counts_kept at) (closed_kept at) (h.counts ∙ sym h.closed) c.gains.result c.gains.ensures.told
+    c.load_states.new.closed c.requires.rested.seat c.load_states.ensures.loaded (counted at) (long at)
+    (states_kept at) (counts_kept at) (closed_kept at) (h.counts ∙ sym h.closed) c.gains.result c.gains.ensures.next
 
 pub returns-clause-ready : goal.returns-clause-ready
 returns-clause-ready c = ready (goal.at.returns-clause-ready c).After-forget

@@ -53,8 +53,8 @@ loop-sector-preserved c =
           (subst P (sym w.counts-is) (counts_other c.args.states.now h.pages c.loop-sector.counts page h.counted (λ e. w.if-states-block.false (sym same ∙ e))))
     ]
 
-pub returns-clause-told : goal.returns-clause-told
-returns-clause-told c =
+pub returns-clause-counted : goal.returns-clause-counted
+returns-clause-counted c =
     let f = c.args.flash.now in
     let sectors : c.sectors-sector-end.result ≡ sectors_of (geometry_of f) = c.sectors-sector-end.ensures.value ∙ ap sectors_of c.geometry.ensures in
     let numbers = ap (λ (z : Numbers). z.sectors) c.requires.seat.numbers in

@@ -15,11 +15,11 @@ index-requires c =
     let long = c.requires.ready.counts in
     let ok = c.args.broom.now.counts.ok.0 in omega arith
 
-pub returns-then-index-pages-clause-told : goal.returns-then-index-pages-clause-told
-returns-then-index-pages-clause-told c =
+pub returns-then-index-pages-clause-next : goal.returns-then-index-pages-clause-next
+returns-then-index-pages-clause-next c =
     let b = c.args.broom.now in
     let h = c.requires.ready in
-    let is = next_is (goal.at.returns-then-index-pages-clause-told c).In-Some in
+    let is = next_is (goal.at.returns-then-index-pages-clause-next c).In-Some in
     let low = next_low c.args.flash.now b c.in-Some.victim h is in
     let count : get_or b.counts.items c.in-Some.victim 0 ≡ c.index.result.now =
     get_or_default b.counts.items c.in-Some.victim 0 c.index.result.now (let long = h.counts in omega arith) ∙ sym c.index.ensures in

@@ -22,8 +22,8 @@ loop-block-preserved c =
     (set c.loop-block.states c.loop-block.block state) (set c.loop-block.closed c.loop-block.block mark) in
     subst P (sym c.is_closed.ensures) more
 
-pub returns-clause-told : goal.returns-clause-told
-returns-clause-told c =
+pub returns-clause-loaded : goal.returns-clause-loaded
+returns-clause-loaded c =
     let f = c.args.flash.now in
     let blocks : c.blocks-block-end.result ≡ blocks_of (geometry_of f) = c.blocks-block-end.ensures.value ∙ ap blocks_of c.geometry.ensures in
     let most = c.loop-block.auto.block-end in

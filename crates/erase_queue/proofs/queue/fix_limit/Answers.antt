@@ -1,6 +1,5 @@
 use Rattle.std.proofs.Common.{ap}
-use Rattle.erase_queue.specs.declared.sight.Sight.{Sight}
-use Rattle.erase_queue.proofs.Course.{counts_up, limit_fixed}
+use Rattle.erase_queue.{specs.declared.sight.Sight.Sight, proofs.Course.counts_up, proofs.Course.limit_fixed}
 use Rattle.erase_queue.proofs.queue.fix_limit.Goals as goal
 
 pub another-requires-clause-rule : goal.another-requires-clause-rule

@@ -1,9 +1,6 @@
 use Rattle.std.proofs.Common.{◌≡◌, ◌∙◌, ◌-◌, ℕ, List, length, take, drop, sym, ap, arith, length-drop}
-use Rattle.std.specs.List.{position}
-use Rattle.std.proofs.lemmas.List.{take_all}
-use Rattle.ftl_one.specs.declared.role.Role.{Role}
-use Rattle.ftl_one.specs.Stock.{is_free}
-use Rattle.ftl_one.proofs.FtlLemmas.{position_from, position_from-none}
+use Rattle.std.{specs.List.position, proofs.lemmas.List.take_all}
+use Rattle.ftl_one.{specs.declared.role.Role.Role, specs.Stock.is_free, proofs.FtlLemmas.position_from, proofs.FtlLemmas.position_from-none}
 use Rattle.ftl_one.proofs.roles.lowest_free.Goals as goal
 
 -- the roles from a place on

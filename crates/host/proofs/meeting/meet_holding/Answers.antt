@@ -11,7 +11,7 @@ take_in-requires-clause-lent c = lent (view_of c.args.other.now) (note_view c.le
 
 -- what the word read tells of the other pass
 hosted : (c : After-get_word) → view_of c.take_in.new.pass ≡ host_of (view_of (pass_of c.args.held)) (lent_note (view_of c.args.other.now))
-hosted c = c.take_in.ensures.told ∙ ap (host_of (view_of (pass_of c.args.held))) c.lend-note.ensures.note.0
+hosted c = c.take_in.ensures.host ∙ ap (host_of (view_of (pass_of c.args.held))) c.lend-note.ensures.note.0
 
 spares : (c : After-get_word)
     → Spared (host_of (view_of (pass_of c.args.held)) (lent_note (view_of c.args.other.now))) (page_of c.args.held) (carried (view_of c.args.other.now))
@@ -35,17 +35,17 @@ come_home-requires-clause-given c =
     let t =
     holds_given (view_of (pass_of c.args.held)) (view_of c.args.other.now)
     (page_of c.args.held) c.requires.held.1.rested.pass.role c.requires.other.rested.pass.role (spares at) (note_view c.give_back-note.result) note in
-    let role = ap (λ (y : View). y.role) c.lend-note.ensures.told in (t.0, t.1, role ∙ t.2, t.3, t.4, λ same. t.5 (sym role ∙ same))
+    let role = ap (λ (y : View). y.role) c.lend-note.ensures.lender in (t.0, t.1, role ∙ t.2, t.3, t.4, λ same. t.5 (sym role ∙ same))
 
-pub returns-clause-told : goal.returns-clause-told
-returns-clause-told c =
-    let at = (goal.at.returns-clause-told c).After-get_word in
+pub returns-clause-met_holding : goal.returns-clause-met_holding
+returns-clause-met_holding c =
+    let at = (goal.at.returns-clause-met_holding c).After-get_word in
     let v = view_of (pass_of c.args.held) in
     let x = view_of c.args.other.now in
     let y = view_of c.look.new.pass in
     let read = c.get_word.ensures.same ∙ hosted at in
-    let came = c.come_home.ensures.told ∙ (λ i. home (c.lend-note.ensures.told i) ((c.give_back-note.ensures.note.0 ∙ ap given_note read) i)) in
-    let looked = subst (λ (z : View). Looked z 0 (sector_word c.look.result) y) came c.look.ensures.told in
+    let came = c.come_home.ensures.home ∙ (λ i. home (c.lend-note.ensures.lender i) ((c.give_back-note.ensures.note.0 ∙ ap given_note read) i)) in
+    let looked = subst (λ (z : View). Looked z 0 (sector_word c.look.result) y) came c.look.ensures.looked in
     let t = met_holding v x (page_of c.args.held) c.requires.held.1.rested.pass.role c.requires.other.rested.pass.role
     (spares at) y _ c.requires.held.1.rested.alone c.requires.other.rested.whole looked in
-    subst (λ (z : View). MetHolding v x (page_of c.args.held) z y) (sym (c.give_back-note.ensures.told ∙ ap giver read)) t
+    subst (λ (z : View). MetHolding v x (page_of c.args.held) z y) (sym (c.give_back-note.ensures.giver ∙ ap giver read)) t

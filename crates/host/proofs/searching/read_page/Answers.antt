@@ -27,7 +27,8 @@ loop-i-preserved c =
       words = λ value h k low.
           let e : (view_of c.loop-i.pass).pin ≡ Accepted c.args.page value = ap (λ (v : View). v.pin) inv.same ∙ h.pinned in
           dite (ℕ_discrete k c.loop-i.i)
-          (λ last. ap (word_of c.put_word.new.page) last ∙ (c.put_word.ensures.word ∙ (c.get_word-word.ensures.told value e ∙ ap (data_word value) (sym last))))
+          (λ last. ap (word_of c.put_word.new.page) last
+          ∙ (c.put_word.ensures.word ∙ (c.get_word-word.ensures.value value e ∙ ap (data_word value) (sym last))))
           (λ earlier. let long = c.loop-i.auto.out in
           let end : c.words-i-end.result ≡ words_of (geometry_of c.args.flash.now) = c.words-i-end.ensures.value ∙ ap words_of c.geometry.ensures in
           let room = c.requires.out in

@@ -7,63 +7,63 @@ use Rattle.host.proofs.searching.search.Goals as goal
 pub loop-page-init : goal.loop-page-init
 loop-page-init g c = record { search = search_begins c.args.flash.now c.args.pass.now c.requires.pass; pass = c.requires.pass.rested.pass; opened = refl }
 
-pub returns-in_default-clause-told : goal.returns-in_default-clause-told
-returns-in_default-clause-told g c = grind (arith, common_steps)
+pub returns-in_default-clause-searched : goal.returns-in_default-clause-searched
+returns-in_default-clause-searched g c = grind (arith, common_steps)
 
 pub returns-in_default-clause-empty : goal.returns-in_default-clause-empty
 returns-in_default-clause-empty g c =
     let h = c.loop-page.invariant in
     found_empty c.args.flash.now c.args.pass.now c.loop-page.pass c.look-found.new.pass c.loop-page.tries c.args.sector h.search h.pass
-    c.in_default.ensures.told c.requires.pass.rested c.in_default.ensures.pass (c.in_default.ensures.opened ∙ h.opened)
+    c.in_default.ensures.looked c.requires.pass.rested c.in_default.ensures.pass (c.in_default.ensures.opened ∙ h.opened)
 
 pub pin_in_time-requires-clause-candidate : goal.pin_in_time-requires-clause-candidate
 pin_in_time-requires-clause-candidate g c =
     let h = c.loop-page.invariant in
     let sight = sighted c.args.flash.now c.args.pass.now c.loop-page.pass
-    (view_of c.look-found.new.pass) c.loop-page.tries c.args.sector c.in-Some.page h.search h.pass c.in-Some.ensures.fits c.in-Some.ensures.told in
+    (view_of c.look-found.new.pass) c.loop-page.tries c.args.sector c.in-Some.page h.search h.pass c.in-Some.ensures.fits c.in-Some.ensures.looked in
     (sight.named.value, sight.named.candidate)
 
 pub pin_in_time-requires-clause-block : goal.pin_in_time-requires-clause-block
 pin_in_time-requires-clause-block g c =
     let h = c.loop-page.invariant in
     let sight = sighted c.args.flash.now c.args.pass.now c.loop-page.pass
-    (view_of c.look-found.new.pass) c.loop-page.tries c.args.sector c.in-Some.page h.search h.pass c.in-Some.ensures.fits c.in-Some.ensures.told in
+    (view_of c.look-found.new.pass) c.loop-page.tries c.args.sector c.in-Some.page h.search h.pass c.in-Some.ensures.fits c.in-Some.ensures.looked in
     sight.named.block
 
-pub returns-then-pin_in_time-clause-told : goal.returns-then-pin_in_time-clause-told
-returns-then-pin_in_time-clause-told g c =
+pub returns-then-pin_in_time-clause-searched : goal.returns-then-pin_in_time-clause-searched
+returns-then-pin_in_time-clause-searched g c =
     let h = c.loop-page.invariant in
     let sight = sighted c.args.flash.now c.args.pass.now c.loop-page.pass
-    (view_of c.look-found.new.pass) c.loop-page.tries c.args.sector c.in-Some.page h.search h.pass c.in-Some.ensures.fits c.in-Some.ensures.told in
+    (view_of c.look-found.new.pass) c.loop-page.tries c.args.sector c.in-Some.page h.search h.pass c.in-Some.ensures.fits c.in-Some.ensures.looked in
     search_pins (view_of c.args.pass.now) (view_of c.look-found.new.pass) (view_of c.pin_in_time.new.pass) (c.loop-page.tries + 1)
-    (Accepted c.in-Some.page sight.named.value) sight.told (c.if-pin_in_time.ensures.told sight.named.value sight.named.candidate)
+    (Accepted c.in-Some.page sight.named.value) sight.told (c.if-pin_in_time.ensures.pinned sight.named.value sight.named.candidate)
 
 pub returns-then-pin_in_time-clause-found : goal.returns-then-pin_in_time-clause-found
 returns-then-pin_in_time-clause-found g c =
     let h = c.loop-page.invariant in
     let sight = sighted c.args.flash.now c.args.pass.now c.loop-page.pass
-    (view_of c.look-found.new.pass) c.loop-page.tries c.args.sector c.in-Some.page h.search h.pass c.in-Some.ensures.fits c.in-Some.ensures.told in
+    (view_of c.look-found.new.pass) c.loop-page.tries c.args.sector c.in-Some.page h.search h.pass c.in-Some.ensures.fits c.in-Some.ensures.looked in
     found c.args.flash.now c.args.pass.now c.pin_in_time.new.pass (c.loop-page.tries + 1) c.args.sector c.in-Some.page
     (view_of c.look-found.new.pass) sight c.requires.pass.rested c.if-pin_in_time.ensures.pass
-    (c.if-pin_in_time.ensures.opened ∙ (c.in-Some.ensures.opened ∙ h.opened)) (c.if-pin_in_time.ensures.told sight.named.value sight.named.candidate)
+    (c.if-pin_in_time.ensures.opened ∙ (c.in-Some.ensures.opened ∙ h.opened)) (c.if-pin_in_time.ensures.pinned sight.named.value sight.named.candidate)
 
 pub loop-page-smaller : goal.loop-page-smaller
 loop-page-smaller g c =
     let h = c.loop-page.invariant in
     let sight = sighted c.args.flash.now c.args.pass.now c.loop-page.pass
-    (view_of c.look-found.new.pass) c.loop-page.tries c.args.sector c.in-Some.page h.search h.pass c.in-Some.ensures.fits c.in-Some.ensures.told in
+    (view_of c.look-found.new.pass) c.loop-page.tries c.args.sector c.in-Some.page h.search h.pass c.in-Some.ensures.fits c.in-Some.ensures.looked in
     late_nearer (device c.args.flash.now) (view_of c.loop-page.pass) (view_of c.look-found.new.pass)
-    (view_of c.pin_in_time.new.pass) c.args.sector _ c.in-Some.ensures.pass.numbers c.in-Some.ensures.told
-    (c.if-pin_in_time.ensures.told sight.named.value sight.named.candidate)
+    (view_of c.pin_in_time.new.pass) c.args.sector _ c.in-Some.ensures.pass.numbers c.in-Some.ensures.looked
+    (c.if-pin_in_time.ensures.pinned sight.named.value sight.named.candidate)
 
 pub loop-page-preserved : goal.loop-page-preserved
 loop-page-preserved g c =
     let h = c.loop-page.invariant in
     let sight = sighted c.args.flash.now c.args.pass.now c.loop-page.pass
-    (view_of c.look-found.new.pass) c.loop-page.tries c.args.sector c.in-Some.page h.search h.pass c.in-Some.ensures.fits c.in-Some.ensures.told in
+    (view_of c.look-found.new.pass) c.loop-page.tries c.args.sector c.in-Some.page h.search h.pass c.in-Some.ensures.fits c.in-Some.ensures.looked in
     record {
       search = search_goes_on (view_of c.args.pass.now) (view_of c.look-found.new.pass) (view_of c.pin_in_time.new.pass)
-          (c.loop-page.tries + 1) sight.told sight.own (c.if-pin_in_time.ensures.told sight.named.value sight.named.candidate);
+          (c.loop-page.tries + 1) sight.told sight.own (c.if-pin_in_time.ensures.pinned sight.named.value sight.named.candidate);
       pass = c.if-pin_in_time.ensures.pass;
       opened = c.if-pin_in_time.ensures.opened ∙ (c.in-Some.ensures.opened ∙ h.opened);
     }

@@ -34,7 +34,7 @@ loop-i-preserved c o is =
     let h = c.loop-i.invariant o is in
     filling_more c.args.flash.now (view_of c.args.pass.now) o c.args.bytes.now c.loop-i.i _ c.loop-i.pass c.put_word.new.pass h
     c.put_word.ensures.pass c.put_word.ensures.opened
-    (c.put_word.ensures.told o h.opened) (omega (arith, c.word_at.ensures, word_is c.args.bytes.now c.loop-i.i))
+    (c.put_word.ensures.put o h.opened) (omega (arith, c.word_at.ensures, word_is c.args.bytes.now c.loop-i.i))
 
 pub put_word-requires-clause-pass : goal.put_word-requires-clause-pass
 put_word-requires-clause-pass c = (c.loop-i.invariant c.in-Some.opened (opened (goal.at.put_word-requires-clause-pass c).In-Some)).pass
@@ -95,7 +95,7 @@ count-requires-clause-filled c =
     let here = (goal.at.count-requires-clause-filled c).In-Some in
     let o = c.in-Some.opened in
     let h = full (goal.at.count-requires-clause-filled c).After-loop-i o (opened here) in
-    let told = c.put_word-2.ensures.told o h.opened in
+    let told = c.put_word-2.ensures.put o h.opened in
     let left = room here in (
       o,
       put_work o c.loop-i.pass c.args.sector,
@@ -111,9 +111,9 @@ returns-clause-filled c o is =
     let p = c.in-Some.opened in
     let here = opened (goal.at.returns-clause-filled c).In-Some in
     let h = full (goal.at.returns-clause-filled c).After-loop-i p here in
-    let told = c.put_word-2.ensures.told p h.opened in
+    let told = c.put_word-2.ensures.put p h.opened in
     let can = filled_can f (view_of c.args.pass.now) p c.args.bytes.now c.args.sector c.loop-i.pass c.put_word-2.new.pass h told c.put_word-2.ensures.opened in
-    let counted = c.count.ensures.told p (put_work p c.loop-i.pass c.args.sector) (c.put_word-2.ensures.opened ∙ h.opened) can in
+    let counted = c.count.ensures.counted p (put_work p c.loop-i.pass c.args.sector) (c.put_word-2.ensures.opened ∙ h.opened) can in
     let done = filled f (view_of c.args.pass.now) p c.args.bytes.now c.args.sector c.loop-i.pass c.put_word-2.new.pass h told
     (view_of c.count.new.pass) counted c.requires.page c.type_inv.bytes in
     let same = same_block here is in

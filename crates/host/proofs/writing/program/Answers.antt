@@ -12,7 +12,7 @@ returns-clause-filled c =
       | else-is_none-via-then-is_none+else-not-take_lowest w ↦
           let none = not_some (opened_of c.args.pass.now) (ap is_some (sym c.opened.ensures) ∙ w.if-is_none.ensures) in
           let took = w.if-not-take_lowest.ensures in
-          let t = starts_taken c.args.flash.now c.args.pass.now w.take_lowest.new.pass c.requires.pass none took.pass took.told in
+          let t = starts_taken c.args.flash.now c.args.pass.now w.take_lowest.new.pass c.requires.pass none took.pass took.taken in
           (t.0, subst (λ (p : Pass). Starts c.args.flash.now (view_of c.args.pass.now) p t.0) (sym w.pass-is) t.1)
       | else-is_none-via-else-is_none w ↦
           let t = some_open (opened_of c.args.pass.now) (ap is_some (sym c.opened.ensures) ∙ w.if-is_none.ensures) in (

@@ -9,4 +9,4 @@ returns-clause-pass c =
     let t = pass_of (view_of c.args.pass.now).role c.requires.pass.rested.pass.role in
     ready_called c.args.flash.now c.args.pass.now c.place_trim.new.pass
     (Trim t.0 c.args.sector) c.args.sector c.place_trim.result c.requires.pass c.place_trim.ensures.pass c.place_trim.ensures.opened
-    (c.place_trim.ensures.told t.0 t.1)
+    (c.place_trim.ensures.called t.0 t.1)

@@ -10,7 +10,7 @@ pub close_if_full-requires-clause-settled : goal.close_if_full-requires-clause-s
 close_if_full-requires-clause-settled g c =
     exchanged_settled c.args.flash.now c.args.pass.now c.program.new.pass c.place_new-was.new.pass
     c.args.sector c.args.bytes.now c.in-Some.page c.requires.pass c.in-Some.ensures.filled
-    (λ t value. WriteNew t c.args.sector value) c.place_new-was.result c.place_new-was.ensures.told
+    (λ t value. WriteNew t c.args.sector value) c.place_new-was.result c.place_new-was.ensures.placed
 
 -- what the write has done and left, whatever the sector was
 done : (g : Over) (c : After-close_if_full g) (n : ℕ) → HasNumber n c.args.pass.now
@@ -18,15 +18,15 @@ done : (g : Over) (c : After-close_if_full g) (n : ℕ) → HasNumber n c.args.p
 done g c n is =
     write_done c.args.flash.now c.args.pass.now c.program.new.pass c.place_new-was.new.pass
     c.args.sector c.args.bytes.now c.in-Some.page c.requires.pass c.in-Some.ensures.filled
-    (λ t value. WriteNew t c.args.sector value) c.place_new-was.result c.place_new-was.ensures.told
-    c.close_if_full.new.pass c.place_new-was.ensures.opened c.close_if_full.ensures.told n is
+    (λ t value. WriteNew t c.args.sector value) c.place_new-was.result c.place_new-was.ensures.placed
+    c.close_if_full.new.pass c.place_new-was.ensures.opened c.close_if_full.ensures.closed n is
 
 ready : (g : Over) (c : After-close_if_full g) → IsReady c.args.flash.now c.close_if_full.new.pass
 ready g c =
     write_ready c.args.flash.now c.args.pass.now c.program.new.pass c.place_new-was.new.pass
     c.args.sector c.args.bytes.now c.in-Some.page c.requires.pass c.in-Some.ensures.filled
-    (λ t value. WriteNew t c.args.sector value) c.place_new-was.result c.place_new-was.ensures.told
-    c.close_if_full.new.pass c.place_new-was.ensures.opened c.close_if_full.ensures.told c.close_if_full.ensures.pass
+    (λ t value. WriteNew t c.args.sector value) c.place_new-was.result c.place_new-was.ensures.placed
+    c.close_if_full.new.pass c.place_new-was.ensures.opened c.close_if_full.ensures.closed c.close_if_full.ensures.pass
 
 pub returns-in-Empty-clause-wrote : goal.returns-in-Empty-clause-wrote
 returns-in-Empty-clause-wrote g c n is =

@@ -1,11 +1,7 @@
-use Rattle.std.proofs.Common.{◌≡◌, ℕ, sym, subst, ◌∙◌}
-use Rattle.std.specs.Prelude.{slice_index}
-use Rattle.broom.specs.Dead.{DeadBySurvey, DidDrainDead}
-use Rattle.broom.specs.Ready.{blocks_of_broom, view_of_broom}
-use Rattle.broom.specs.Surveying.{Chosen}
+use Rattle.std.{proofs.Common.◌≡◌, proofs.Common.ℕ, proofs.Common.sym, proofs.Common.subst, proofs.Common.◌∙◌, specs.Prelude.slice_index}
+use Rattle.broom.specs.{Dead.DeadBySurvey, Dead.DidDrainDead, Ready.blocks_of_broom, Ready.view_of_broom, Surveying.Chosen, declared.broom.Broom.Broom}
 use Rattle.broom.specs.Told.{Unmarks, counts_kept}
 use Rattle.broom.specs.declared.answer.Drain.TheVariants as drain
-use Rattle.broom.specs.declared.broom.Broom.{Broom}
 use Rattle.laws.proofs.broom_results.drains_of_dead_blocks.Goals as goal
 
 -- the block of the result is the one that the survey chose

@@ -1,8 +1,7 @@
 use Rattle.laws.proofs.broom_results.turns_with_a_queue.Goals as goal
 
 pub returns-clause-drained : goal.returns-clause-drained
-returns-clause-drained c b n x y h =
-    (h.drain.relieved, h.drained, h.drain.first, h.drain.drain.0, h.drain.drain.1, h.drain.apart, h.handed)
+returns-clause-drained c b n x y h = (h.drain.relieved, h.drained, h.drain.first, h.drain.drain.0, h.drain.drain.1, h.drain.apart, h.handed)
 
 pub returns-clause-lost : goal.returns-clause-lost
 returns-clause-lost c x y h = (h.relieved, h.first, h.drain.0, h.drain.1, h.apart)

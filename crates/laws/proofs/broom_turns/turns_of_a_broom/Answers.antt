@@ -1,9 +1,7 @@
 use Rattle.std.proofs.Common.{◌≡◌, ◌++◌, ℕ, Bool, true, false, List, [], ◌∷◌, inl, inr, refl, sym, ap, ◌∙◌, append-nil, arith}
-use Rattle.std.specs.List.{flat_map, list_any}
-use Rattle.std.proofs.lemmas.List.Elements.{All-cons, All-nil}
-use Rattle.broom.specs.declared.answer.Drain.{Drain}
+use Rattle.std.{specs.List.flat_map, specs.List.list_any, proofs.lemmas.List.Elements.All-cons, proofs.lemmas.List.Elements.All-nil}
+use Rattle.broom.specs.declared.answer.{Drain.Drain, Erase.Erase}
 use Rattle.broom.specs.declared.answer.Drain.TheVariants as drain
-use Rattle.broom.specs.declared.answer.Erase.{Erase}
 use Rattle.broom.specs.declared.answer.Erase.TheVariants as erase
 use Rattle.workers.specs.Turns.{Follows, GoesOn, IsTurn, TurnDrain, by_last_survey, by_new_survey, found_no_spare, is_last}
 use Rattle.workers.specs.declared.broom_answer.BroomAnswer.{BroomAnswer}
@@ -23,11 +21,8 @@ with_erase given programmed e found =
 
 -- whether a call is a drain by the last survey
 abbrev is_next : BroomAnswer → Bool
-is_next (by.Drain given programmed) = false
 is_next (by.DrainNext given programmed) = true
-is_next (by.DrainDead given) = false
-is_next (by.Erase given) = false
-is_next (by.Restock given) = false
+is_next _ = false
 
 -- none of the calls that follow a drain is one
 none_next : (given : Drain) (answers : List BroomAnswer) → Follows given answers → list_any is_next answers ≡ false
@@ -51,12 +46,8 @@ not_one first answers next are =
 
 -- the result of the drain by a new survey with which calls begin
 first_given : List BroomAnswer → Drain
-first_given [] = drain.Lost
 first_given (by.Drain given programmed ∷ answers) = given
-first_given (by.DrainNext given programmed ∷ answers) = drain.Lost
-first_given (by.DrainDead given ∷ answers) = drain.Lost
-first_given (by.Erase given ∷ answers) = drain.Lost
-first_given (by.Restock given ∷ answers) = drain.Lost
+first_given _ = drain.Lost
 
 none_behind : (first : TurnDrain) (others : List TurnDrain) → GoesOn first others
     → two_drains drain.NothingToGain drain.Lost ≡ by_new_survey first ++ flat_map by_last_survey others → ⊥
@@ -68,12 +59,10 @@ none_behind first (d ∷ others) on are =
     absurd (cc)
 
 pub returns-clause-one_drain : goal.returns-clause-one_drain
-returns-clause-one_drain c e =
-    record { first = with_erase drain.NothingToGain 0 e refl; others = []; few = omega arith; on = tt; are = refl }
+returns-clause-one_drain c e = record { first = with_erase drain.NothingToGain 0 e refl; others = []; few = omega arith; on = tt; are = refl }
 
 pub returns-clause-no_limit : goal.returns-clause-no_limit
-returns-clause-no_limit c e =
-    record { first = with_erase drain.NothingToGain 0 e refl; others = []; few = omega arith; on = tt; are = refl }
+returns-clause-no_limit c e = record { first = with_erase drain.NothingToGain 0 e refl; others = []; few = omega arith; on = tt; are = refl }
 
 pub returns-clause-two : goal.returns-clause-two
 returns-clause-two c =

@@ -1,6 +1,5 @@
 use Rattle.std.proofs.Common.{ap, ◌∙◌}
-use Rattle.geometry.proofs.Histories.{held_written}
-use Rattle.geometry.specs.History.{held}
+use Rattle.geometry.{proofs.Histories.held_written, specs.History.held}
 use Rattle.laws.proofs.hosts.writes_of_hosts.Goals as goal
 
 pub returns-clause-holds : goal.returns-clause-holds

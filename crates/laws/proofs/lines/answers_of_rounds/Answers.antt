@@ -1,6 +1,4 @@
-use Rattle.laws.proofs.ThreeLines.{text_of_three}
-use Rattle.laws.proofs.OneRead.{finds_none}
-use Rattle.laws.proofs.ReadBehind.{reads_behind}
+use Rattle.laws.proofs.{ThreeLines.text_of_three, OneRead.finds_none, ReadBehind.reads_behind}
 use Rattle.laws.proofs.lines.answers_of_rounds.Goals as goal
 
 pub returns-clause-empty : goal.returns-clause-empty

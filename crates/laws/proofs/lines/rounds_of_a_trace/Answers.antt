@@ -7,10 +7,8 @@ use Rattle.laws.proofs.lines.rounds_of_a_trace.Goals as goal
 
 others_change : (o : Op) → ¬ (o ≡ op.Read) → ¬ (o ≡ op.Meet) → changes o ≡ true
 others_change op.Read no_read no_meet = absurd (no_read refl)
-others_change op.Write no_read no_meet = refl
-others_change op.New no_read no_meet = refl
-others_change op.Trim no_read no_meet = refl
 others_change op.Meet no_read no_meet = absurd (no_meet refl)
+others_change _ _ _ = refl
 
 pub returns-clause-changed : goal.returns-clause-changed
 returns-clause-changed c o no_read no_meet disjoint =

@@ -1,13 +1,10 @@
 use Rattle.std.proofs.Common.{◌≡◌, List, [], ◌∷◌, ap, arith}
+use Rattle.std.specs.Prelude.{map, slice_index_or}
 use Rattle.flash_rule.specs.declared.view.View.{View}
 use Rattle.flash_table.specs.Flash.{view_of}
 use Rattle.geometry.proofs.Histories.{Begins-trans}
-use Rattle.std.specs.Prelude.{map, slice_index_or}
 use Rattle.volume.specs.declared.volume.Volume.{Volume}
-use Rattle.workers.specs.Meetings.{rest_of}
-use Rattle.workers.specs.Tasks.{HavePlayed}
-use Rattle.workers.specs.Workers.{HasPlayed}
-use Rattle.workers.specs.declared.worker.Worker.{Worker}
+use Rattle.workers.specs.{Meetings.rest_of, Tasks.HavePlayed, Workers.HasPlayed, declared.worker.Worker.Worker}
 use Rattle.laws.proofs.players.workers_of_a_round.Goals as goal
 
 one_round : (v : Volume) (p q : Worker) (between : List Worker) → HavePlayed (record { end = 5; patience = 9 }) (p ∷ []) between

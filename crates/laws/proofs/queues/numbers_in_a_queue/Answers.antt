@@ -1,6 +1,5 @@
 use Rattle.std.proofs.Common.{◌≡◌, ◌<◌, ◌++◌, ℕ, zero, suc, List, [], ◌∷◌, Some, length, refl, ap, ◌∙◌, subst, arith}
-use Rattle.erase_queue.specs.Moves.{AreBelow, Stand}
-use Rattle.erase_queue.specs.declared.sight.Sight.{Sight}
+use Rattle.erase_queue.specs.{Moves.AreBelow, Moves.Stand, declared.sight.Sight.Sight}
 use Rattle.laws.proofs.queues.numbers_in_a_queue.Goals as goal
 
 two_below : AreBelow 9 (5 ∷ 6 ∷ [])

@@ -1,9 +1,9 @@
 use Rattle.std.proofs.Common.{refl}
-use Rattle.laws.proofs.Decimals.{d0, d1, d2, d3}
+use Rattle.laws.proofs.Decimals.{d}
 use Rattle.laws.proofs.reports.texts_of_a_stock.Goals as goal
 
 pub returns-clause-totals : goal.returns-clause-totals
-returns-clause-totals c = rw (d1, d2, d3) refl
+returns-clause-totals c = rw (d 1 refl, d 2 refl, d 3 refl) refl
 
 pub returns-clause-block : goal.returns-clause-block
-returns-clause-block c = rw (d0, d1) refl
+returns-clause-block c = rw (d 0 refl, d 1 refl) refl

@@ -1,5 +1,4 @@
-use Rattle.std.proofs.Common.{false}
-use Rattle.std.proofs.Common.{[], refl, arith}
+use Rattle.std.proofs.Common.{false, [], refl, arith}
 use Rattle.laws.proofs.rules.sights_of_a_queue.Goals as goal
 
 pub returns-clause-nothing : goal.returns-clause-nothing

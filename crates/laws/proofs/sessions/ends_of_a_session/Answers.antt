@@ -1,12 +1,9 @@
 use Rattle.std.proofs.Common.{◌≡◌, inl, inr, ℕ, List, [], Result, Ok, Err, subst, arith}
 use Rattle.answers.specs.Streams.{Passage, Sends}
-use Rattle.clap.specs.Words.{IsAmong, Kinds, Text, kind_of}
-use Rattle.clap.specs.declared.error.Error.{Error}
-use Rattle.laws.specs.Sessions.{PlaysAll}
-use Rattle.player.specs.CommandLine.{faults_given}
-use Rattle.player.specs.Session.{AsksClap, Explains, Filings, Played, filings, status_after}
+use Rattle.clap.specs.{Words.IsAmong, Words.Kinds, Words.Text, Words.kind_of, declared.error.Error.Error}
+use Rattle.laws.{specs.Sessions.PlaysAll, proofs.Statuses.of_stop}
+use Rattle.player.specs.{CommandLine.faults_given, Session.AsksClap, Session.Explains, Session.Filings, Session.Played, Session.filings, Session.status_after}
 use Rattle.player.specs.declared.stop.Stop.{Stop}
-use Rattle.laws.proofs.Statuses.{of_stop}
 use Rattle.laws.proofs.sessions.ends_of_a_session.Goals as goal
 
 all_played : (words : List Text) (i o : Passage) (f : Filings) → Played words i o f → PlaysAll words i o

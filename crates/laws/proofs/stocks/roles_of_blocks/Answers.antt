@@ -1,7 +1,6 @@
-use Rattle.std.proofs.Common.{◌≡◌, ◌<◌, ℕ}
-use Rattle.std.proofs.Common.{Some, None, refl, arith}
-use Rattle.ftl_one.specs.declared.role.Role.TheVariants as role
+use Rattle.std.proofs.Common.{◌≡◌, ◌<◌, ℕ, Some, None, refl, arith}
 use Rattle.std.specs.Prelude.{Option}
+use Rattle.ftl_one.specs.declared.role.Role.TheVariants as role
 use Rattle.laws.proofs.stocks.roles_of_blocks.Goals as goal
 
 abbrev none_open : Option ℕ

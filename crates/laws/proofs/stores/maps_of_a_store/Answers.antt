@@ -1,10 +1,9 @@
-use Rattle.std.proofs.Common.{◌≡◌, ◌<◌, ℕ, List, [], ◌∷◌, None, refl, arith}
+use Rattle.std.proofs.Common.{◌≡◌, ◌<◌, ℕ, List, [], ◌∷◌, None, refl, arith, zero, suc, Some}
+use Rattle.std.specs.Prelude.{Option, slice_index, slice_index_or}
 use Rattle.die.specs.Pages.{new_block}
 use Rattle.ftl_one.specs.Entries.{IsCurrent, entries_in, live_count}
 use Rattle.geometry.specs.declared.page_addr.PageAddr.{PageAddr}
 use Rattle.laws.specs.Blocks.{at}
-use Rattle.std.proofs.Common.{zero, suc, Some}
-use Rattle.std.specs.Prelude.{Option, slice_index, slice_index_or}
 use Rattle.laws.proofs.stores.maps_of_a_store.Goals as goal
 
 abbrev no_page : List (Option PageAddr)

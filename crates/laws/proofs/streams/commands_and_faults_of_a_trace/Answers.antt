@@ -1,5 +1,4 @@
-use Rattle.std.proofs.Common.{[], ◌∷◌, refl}
-use Rattle.std.proofs.Common.{Err}
+use Rattle.std.proofs.Common.{[], ◌∷◌, refl, Err}
 use Rattle.trace.specs.declared.fault.TraceFaultKind.TheVariants as fault
 use Rattle.laws.proofs.streams.commands_and_faults_of_a_trace.Goals as goal
 

@@ -1,7 +1,5 @@
-use Rattle.std.proofs.Common.{◌≡◌, ℕ}
-use Rattle.std.proofs.Common.{List, [], ◌∷◌, length, refl, sym, ap, ◌∙◌, arith}
-use Rattle.std.proofs.Common.{Ok}
-use Rattle.laws.proofs.Decimals.{d3, d5}
+use Rattle.std.proofs.Common.{◌≡◌, ℕ, List, [], ◌∷◌, length, refl, sym, ap, ◌∙◌, arith, Ok}
+use Rattle.laws.proofs.Decimals.{d}
 use Rattle.hex.specs.Hex.{decode_of}
 use Rattle.trace.specs.Digits.{bytes_of}
 use Rattle.laws.proofs.streams.words_of_a_command_line.Goals as goal
@@ -11,10 +9,10 @@ unfolding bytes_of
 written text is = rw is refl
 
 pub returns-clause-answer_line : goal.returns-clause-answer_line
-returns-clause-answer_line c l none = rw (none, d3, d5) refl
+returns-clause-answer_line c l none = rw (none, d 3 refl, d 5 refl) refl
 
 pub returns-clause-met : goal.returns-clause-met
-returns-clause-met c l = rw (d3, d5) refl
+returns-clause-met c l = rw (d 3 refl, d 5 refl) refl
 
 pub returns-clause-digits : goal.returns-clause-digits
 returns-clause-digits c text is = written text is

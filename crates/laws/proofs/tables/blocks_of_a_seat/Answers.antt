@@ -1,5 +1,4 @@
-use Rattle.std.proofs.Common.{◌≡◌}
-use Rattle.std.proofs.Common.{Some, None}
+use Rattle.std.proofs.Common.{◌≡◌, Some, None}
 use Rattle.laws.specs.Tables.{an_owned}
 use Rattle.geometry.specs.declared.pin_word.Phase.TheVariants as phase
 use Rattle.laws.proofs.tables.blocks_of_a_seat.Goals as goal

@@ -1,10 +1,7 @@
-use Rattle.std.proofs.Common.{◌++◌}
-use Rattle.std.proofs.Common.{[], ◌∷◌, Some, refl, ap, ◌∙◌}
-use Rattle.flash_rule.specs.declared.view.View.{View}
-use Rattle.flash_rule.specs.Plays.{words_in}
+use Rattle.std.proofs.Common.{◌++◌, [], ◌∷◌, Some, refl, ap, ◌∙◌}
+use Rattle.flash_rule.specs.{declared.view.View.View, Plays.words_in}
 use Rattle.geometry.specs.declared.pin_word.Phase.TheVariants as phase
-use Rattle.laws.specs.Brooms.{a_page}
-use Rattle.laws.specs.Tables.{an_open, an_owned}
+use Rattle.laws.specs.{Brooms.a_page, Tables.an_open, Tables.an_owned}
 use Rattle.laws.proofs.tables.words_of_an_open_block.Goals as goal
 
 pub returns-clause-placed : goal.returns-clause-placed

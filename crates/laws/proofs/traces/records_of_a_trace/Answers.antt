@@ -1,7 +1,6 @@
 use Rattle.std.proofs.Common.{◌≡◌, List, [], ◌∷◌, ◌++◌, map, length, refl, ap, arith}
 use Rattle.std.specs.Prelude.{Result, Ok, Err}
-use Rattle.trace.specs.declared.commands.Command.{Command}
-use Rattle.trace.specs.declared.fault.TraceFaultKind.{TraceFaultKind}
+use Rattle.trace.specs.declared.{commands.Command.Command, fault.TraceFaultKind.TraceFaultKind}
 use Rattle.trace.specs.declared.fault.TraceFaultKind.TheVariants as fault
 use Rattle.laws.proofs.traces.records_of_a_trace.Goals as goal
 

@@ -6,27 +6,16 @@ use Rattle.laws.proofs.turns.calls_behind_a_drain.Goals as goal
 
 -- whether a call is a restock that found a spare
 abbrev has_spare : BroomAnswer → Bool
-has_spare (by.Drain given programmed) = false
-has_spare (by.DrainNext given programmed) = false
-has_spare (by.DrainDead given) = false
-has_spare (by.Erase given) = false
 has_spare (by.Restock given) = given
+has_spare _ = false
 
 pub returns-clause-erased : goal.returns-clause-erased
 returns-clause-erased c e =
-    record {
-      erased = e;
-      spareless = λ h. let wrong : false ≡ true = h in absurd (cc);
-      other = λ h. refl;
-    }
+    record { erased = e; spareless = λ h. let wrong : false ≡ true = h in absurd (cc); other = λ h. refl }
 
 pub returns-clause-restocked : goal.returns-clause-restocked
 returns-clause-restocked c e =
-    record {
-      erased = e;
-      spareless = λ h. (by.Restock true ∷ [], inl refl, refl);
-      other = λ h. let wrong : true ≡ false = h in absurd (cc);
-    }
+    record { erased = e; spareless = λ h. (by.Restock true ∷ [], inl refl, refl); other = λ h. let wrong : true ≡ false = h in absurd (cc) }
 
 pub returns-clause-drained : goal.returns-clause-drained
 returns-clause-drained c e d =

@@ -1,6 +1,4 @@
-use Rattle.std.proofs.Common.{◌≡◌, ℕ, true, false}
-use Rattle.std.proofs.Common.{sym, ap, ◌∙◌}
-use Rattle.std.proofs.lemmas.Bool.{false≢true}
+use Rattle.std.proofs.{Common.◌≡◌, Common.ℕ, Common.true, Common.false, Common.sym, Common.ap, Common.◌∙◌, lemmas.Bool.false≢true}
 use Rattle.std.specs.Prelude.{slice_index_or}
 use Rattle.laws.proofs.volumes.brooms_between_calls.Goals as goal
 

@@ -1,15 +1,11 @@
-use Rattle.std.proofs.Common.{◌≡◌, zero, suc}
-use Rattle.std.proofs.Common.{[], ◌∷◌, refl, sym, ap, ◌∙◌, subst, append-nil, arith}
+use Rattle.std.proofs.Common.{◌≡◌, zero, suc, [], ◌∷◌, refl, sym, ap, ◌∙◌, subst, append-nil, arith}
+use Rattle.std.specs.Prelude.{is_some}
 use Rattle.flash_rule.specs.declared.view.View.{View}
 use Rattle.flash_rule.specs.declared.facts.Name.TheVariants as name
 use Rattle.flash_rule.specs.declared.facts.Role.TheVariants as seat
-use Rattle.flash_table.specs.Flash.{geometry_of, view_of}
-use Rattle.geometry.specs.Geometry.{sectors_of}
-use Rattle.geometry.specs.History.{Begins, held}
-use Rattle.volume.specs.Volume.{flash_of}
-use Rattle.flash_table.specs.declared.pass.Pass.{Pass}
-use Rattle.std.specs.Prelude.{is_some}
-use Rattle.volume.specs.Closing.{AreAll}
+use Rattle.flash_table.specs.{Flash.geometry_of, Flash.view_of, declared.pass.Pass.Pass}
+use Rattle.geometry.specs.{Geometry.sectors_of, History.Begins, History.held}
+use Rattle.volume.specs.{Volume.flash_of, Closing.AreAll}
 use Rattle.laws.proofs.volumes.closes_of_a_volume.Goals as goal
 
 all_of_one : (p : Pass) → (view_of p).role ≡ seat.Player (name.Pass 0) → AreAll 1 (p ∷ [])

@@ -1,9 +1,6 @@
-use Rattle.std.proofs.Common.{subst}
-use Rattle.std.specs.Str.Parse.{ParsesUnsigned, ExplainsUnsignedError, HasUnsignedDigitsIfOk}
-use Rattle.clap.specs.Words.{found_of}
-use Rattle.clap.proofs.WalkLemmas.{one_text-rows}
-use Rattle.player.specs.CommandLine.{IsNumberRead}
-use Rattle.player.proofs.CommandLines.{number_read}
+use Rattle.std.{proofs.Common.subst, specs.Str.Parse.ParsesUnsigned, specs.Str.Parse.ExplainsUnsignedError, specs.Str.Parse.HasUnsignedDigitsIfOk}
+use Rattle.clap.{specs.Words.found_of, proofs.WalkLemmas.one_text-rows}
+use Rattle.player.{specs.CommandLine.IsNumberRead, proofs.CommandLines.number_read}
 use Rattle.player.proofs.arguments.number.Goals as goal
 
 pub returns : goal.returns

@@ -1,16 +1,13 @@
-use Rattle.std.proofs.Common.{◌≡◌, ◌∙◌, List, ap, codes, map, subst}
+use Rattle.std.proofs.Common.{◌≡◌, ◌∙◌, List, ap, codes, map, refl, subst}
 use Rattle.std.specs.Prelude.{Ok, Err}
-use Rattle.clap.specs.declared.parser.matches.ArgMatches.{ArgMatches}
+use Rattle.clap.{specs.declared.parser.matches.ArgMatches.ArgMatches, proofs.OnLiterals.clap_on_literals, proofs.WalkLemmas.first_value-rows}
 use Rattle.clap.specs.Words.{Row, Text, app_of, first_of, found_of, rows_of}
-use Rattle.clap.proofs.WalkLemmas.{first_value-rows}
-use Rattle.player.specs.CommandLine.{IsFlagOf, rows_given}
-use Rattle.player.proofs.Accepted.{option_is}
+use Rattle.player.{specs.CommandLine.IsFlagOf, specs.CommandLine.rows_given, proofs.Accepted.option_is}
 use Rattle.player.proofs.CommandLines.{rows_are, faults_are, flag_of}
-use Rattle.player.proofs.OptionPlaces.{luns_stands, blocks_stands, pages_stands, words_stands, sectors_stands}
-use Rattle.player.proofs.OptionPlaces.{endurance_stands, workers_stands, brooms_stands, patience_stands, drains_stands}
 use Rattle.player.proofs.arguments.options.Goals as goal
 
 pub returns-clause-numbers : goal.returns-clause-numbers
+unfolding clap_on_literals
 returns-clause-numbers c =
     let words : List Text = map (λ w. w.now) c.args.words.now in
     let command = c.in_ok-command.command in
@@ -18,20 +15,18 @@ returns-clause-numbers c =
     let same = c.in_ok-command.ensures in
     let parsed = c.in-Ok.ensures.parsed in
     let rows : rows_of (found_of m) ≡ rows_given words = rows_are (app_of command) words m same c.in-Ok.ensures.matches in
+    let number = option_is command m parsed same words rows in
     record {
-      luns = option_is command m parsed same words rows 0 (codes "luns") (codes "1") 1 0 4294967295 c.number.result luns_stands c.number.ensures;
-      blocks = option_is command m parsed same words rows 1 (codes "blocks") (codes "64") 64 0 4294967295 c.number-2.result blocks_stands c.number-2.ensures;
-      pages = option_is command m parsed same words rows 2 (codes "pages") (codes "64") 64 0 4294967295 c.number-3.result pages_stands c.number-3.ensures;
-      words = option_is command m parsed same words rows 3 (codes "words") (codes "64") 64 0 4294967295 c.number-4.result words_stands c.number-4.ensures;
-      sectors = option_is command m parsed same words rows 4 (codes "sectors") (codes "3072") 3072 0 4294967295
-          c.number-5.result sectors_stands c.number-5.ensures;
-      endurance = option_is command m parsed same words rows 5 (codes "endurance") (codes "1000") 1000 0 4294967295
-          c.number-6.result endurance_stands c.number-6.ensures;
-      workers = option_is command m parsed same words rows 6 (codes "workers") (codes "0") 0 0 4294967295 c.number-7.result workers_stands c.number-7.ensures;
-      brooms = option_is command m parsed same words rows 7 (codes "brooms") (codes "0") 0 0 4294967295 c.number-8.result brooms_stands c.number-8.ensures;
-      patience = option_is command m parsed same words rows 8 (codes "patience") (codes "1000000") 1000000 1 1000000000
-          c.number-9.result patience_stands c.number-9.ensures;
-      drains = option_is command m parsed same words rows 9 (codes "drains") (codes "1") 1 1 4096 c.number-10.result drains_stands c.number-10.ensures;
+      luns = number 0 (codes "luns") (codes "1") 1 0 4294967295 refl refl refl refl c.number.result c.number.ensures;
+      blocks = number 1 (codes "blocks") (codes "64") 64 0 4294967295 refl refl refl refl c.number-2.result c.number-2.ensures;
+      pages = number 2 (codes "pages") (codes "64") 64 0 4294967295 refl refl refl refl c.number-3.result c.number-3.ensures;
+      words = number 3 (codes "words") (codes "64") 64 0 4294967295 refl refl refl refl c.number-4.result c.number-4.ensures;
+      sectors = number 4 (codes "sectors") (codes "3072") 3072 0 4294967295 refl refl refl refl c.number-5.result c.number-5.ensures;
+      endurance = number 5 (codes "endurance") (codes "1000") 1000 0 4294967295 refl refl refl refl c.number-6.result c.number-6.ensures;
+      workers = number 6 (codes "workers") (codes "0") 0 0 4294967295 refl refl refl refl c.number-7.result c.number-7.ensures;
+      brooms = number 7 (codes "brooms") (codes "0") 0 0 4294967295 refl refl refl refl c.number-8.result c.number-8.ensures;
+      patience = number 8 (codes "patience") (codes "1000000") 1000000 1 1000000000 refl refl refl refl c.number-9.result c.number-9.ensures;
+      drains = number 9 (codes "drains") (codes "1") 1 1 4096 refl refl refl refl c.number-10.result c.number-10.ensures;
       wear = c.get_str.ensures ∙ first_value-rows (found_of m) (codes "wear") ∙ ap (first_of (codes "wear")) rows;
       collections = c.get_str-2.ensures ∙ first_value-rows (found_of m) (codes "collections") ∙ ap (first_of (codes "collections")) rows;
       quiet = subst (λ (r : List Row). IsFlagOf r (codes "quiet") c.get_flag.result) rows

@@ -1,6 +1,5 @@
 use Rattle.answers.specs.Streams.{stream_of}
-use Rattle.player.specs.Session.{filing}
-use Rattle.player.proofs.Endings.{opened_some, same_stream}
+use Rattle.player.{specs.Session.filing, proofs.Endings.opened_some, proofs.Endings.same_stream}
 use Rattle.player.proofs.sessions.open_file.Goals as goal
 
 pub returns-in-Ok-clause-opened : goal.returns-in-Ok-clause-opened

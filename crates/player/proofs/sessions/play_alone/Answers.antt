@@ -1,21 +1,14 @@
-use Rattle.std.proofs.Common.{ap, refl, subst, sym}
-use Rattle.std.specs.Prelude.{Result}
+use Rattle.std.{proofs.Common.ap, proofs.Common.refl, proofs.Common.sym}
 use Rattle.answers.specs.Streams.{over, stream_of}
 use Rattle.runs.specs.Wear.{IsWearOf}
-use Rattle.player.specs.Session.{EndsOn, IsLogFor, filings, refusal_by}
-use Rattle.player.specs.declared.refusal.Refusal.TheVariants as refusal
-use Rattle.player.specs.declared.stop.Stop.{Stop}
+use Rattle.player.specs.{Session.IsLogFor, Session.filings, Session.refusal_by}
 use Rattle.player.proofs.Endings.{file_ended, files_left, not_opened, run_ended}
 use Rattle.player.proofs.RunTexts.{one_left, one_log, one_run, one_text, one_why}
+use Rattle.player.specs.declared.refusal.Refusal.TheVariants as refusal
 use Rattle.player.proofs.sessions.play_alone.Goals as goal
 
 pub returns-in-Err : goal.returns-in-Err
-returns-in-Err g c =
-    not_opened c.in-Err.stop c.args.geometry.now c.args.given
-    (over g.R.Read.remaining c.args.reader.now c.args.reader.now)
-    (over g.W.Write.contents c.args.writer.now c.args.writer.now)
-    (filings g.F.NamedFile.opened_as g.F.NamedFile.refused_as g.F.Write.contents c.args.files.now c.open_files.new.files)
-    c.in-Err.ensures (refl, refl)
+returns-in-Err g c = not_opened _ _ _ _ _ _ c.in-Err.ensures (refl, refl)
 
 pub returns-in-Ok : goal.returns-in-Ok
 returns-in-Ok g c =
@@ -24,8 +17,6 @@ returns-in-Ok g c =
     let opens = c.in_default.ensures in
     let told = c.in-Ok.ensures in
     let start = stream_of g.R.Read.remaining c.args.reader.now in
-    let input = over g.R.Read.remaining c.args.reader.now c.run_with_files.new.reader in
-    let output = over g.W.Write.contents c.args.writer.now c.run_with_files.new.writer in
     let files = filings g.F.NamedFile.opened_as g.F.NamedFile.refused_as g.F.Write.contents c.args.files.now c.run_with_files.new.files in
     let stream = stream_of g.F.Write.contents in
     let mid = c.open_files.new.files in
@@ -36,15 +27,15 @@ returns-in-Ok g c =
     told.collections) in
     let wear = file_ended (λ n. n.now) given.wear c.is_some-2.result (IsWearOf geo) start files.wear (stream mid.wear)
     c.in-Ok.written.wear opens.0 c.is_some-2.ensures told.wear in
-    subst (λ (r : Result (Unit {0}) Stop). EndsOn r geo given input output files) (sym c.outcome.ensures)
-    (run_ended c.in-Ok.written.collections c.in-Ok.written.wear refusal.Worn c.if_counted-count.result geo given input output files
+    rw c.outcome.ensures
+    (run_ended c.in-Ok.written.collections c.in-Ok.written.wear refusal.Worn c.if_counted-count.result geo given _ _ files
     (record {
       end = told.end;
       text = one_text given geo _ _ _ c.requires told.text;
       input_unfailed = told.reader_unfailed;
       output_unfailed = told.writer_unfailed;
       refused = c.in-Ok.written.refused;
-      run = one_run given geo start output files.collections.stream c.in-Ok.written.refused c.requires told.refused;
+      run = one_run given geo start _ files.collections.stream c.in-Ok.written.refused c.requires told.refused;
     })
     log wear (sym c.if_counted-count.ensures) (sym (ap refusal_by c.requires)))
 

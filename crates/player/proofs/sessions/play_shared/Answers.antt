@@ -1,15 +1,12 @@
 use Rattle.std.proofs.Common.{◌∙◌, refl, subst, sym}
-use Rattle.std.specs.Prelude.{Bool, Ok, Result, not}
+use Rattle.std.specs.Prelude.{Bool, Ok, not}
 use Rattle.answers.specs.Streams.{Stream, over, stream_of}
 use Rattle.geometry.specs.Geometry.{hosts_of}
-use Rattle.runs.specs.ByWorkers.{WasPlayed, answers_played, commands_played}
-use Rattle.runs.specs.Refusals.{refused_by_workers}
-use Rattle.runs.specs.Wear.{IsWearOf}
-use Rattle.player.specs.Session.{EndsOn, IsLogFor, filings, run_options_of}
-use Rattle.player.specs.declared.refusal.Refusal.TheVariants as refusal
-use Rattle.player.specs.declared.stop.Stop.{Stop}
+use Rattle.runs.specs.{ByWorkers.WasPlayed, ByWorkers.answers_played, ByWorkers.commands_played, Refusals.refused_by_workers, Wear.IsWearOf}
+use Rattle.player.specs.{Session.IsLogFor, Session.filings, Session.run_options_of}
 use Rattle.player.proofs.Endings.{file_ended, files_left, is_named, not_opened, run_ended, unnamed}
 use Rattle.player.proofs.RunTexts.{shared_left, shared_log, shared_refusal, shared_run, shared_text, shared_why}
+use Rattle.player.specs.declared.refusal.Refusal.TheVariants as refusal
 use Rattle.player.proofs.sessions.play_shared.Goals as goal
 
 pub returns-then-is_some : goal.returns-then-is_some
@@ -17,12 +14,7 @@ returns-then-is_some g c =
     (c.requires, refl, is_named (λ n. n.now) c.args.given.wear (sym c.is_some.ensures ∙ c.if-is_some.true), (refl, refl), (refl, refl))
 
 pub returns-in-Err : goal.returns-in-Err
-returns-in-Err g c =
-    not_opened c.in-Err.stop c.args.geometry.now c.args.given
-    (over g.R.Read.remaining c.args.reader.now c.args.reader.now)
-    (over g.W.Write.contents c.args.writer.now c.args.writer.now)
-    (filings g.F.NamedFile.opened_as g.F.NamedFile.refused_as g.F.Write.contents c.args.files.now c.open_files.new.files)
-    c.in-Err.ensures (refl, refl)
+returns-in-Err g c = not_opened _ _ _ _ _ _ c.in-Err.ensures (refl, refl)
 
 pub returns-in-Ok : goal.returns-in-Ok
 returns-in-Ok g c =
@@ -31,7 +23,6 @@ returns-in-Ok g c =
     let opens = c.in_default.ensures in
     let told = c.in-Ok.ensures in
     let start = stream_of g.R.Read.remaining c.args.reader.now in
-    let input = over g.R.Read.remaining c.args.reader.now c.run_by_workers.new.reader in
     let output = over g.W.Write.contents c.args.writer.now c.run_by_workers.new.writer in
     let stream = stream_of g.F.Write.contents in
     let mid = c.open_files.new.files in
@@ -41,8 +32,8 @@ returns-in-Ok g c =
     c.in-Ok.played.log opens.1 c.is_some-2.ensures
     (shared_log given geo c.is_some-2.result start (over g.F.Write.contents mid.collections new.collections) c.in-Ok.played.log c.requires told.log) in
     let wear = unnamed (λ n. n.now) given.wear (IsWearOf geo) start files.wear (sym c.is_some.ensures ∙ c.if-is_some.false) opens.0.1 in
-    subst (λ (r : Result (Unit {0}) Stop). EndsOn r geo given input output files) (sym c.outcome.ensures)
-    (run_ended c.in-Ok.played.log (Ok tt) refusal.Full c.count_if_wanted-count.result geo given input output files
+    rw c.outcome.ensures
+    (run_ended c.in-Ok.played.log (Ok tt) refusal.Full c.count_if_wanted-count.result geo given _ _ files
     (record {
       end = told.end;
       text = shared_text (hosts_of geo) (not given.quiet) geo start output c.requires told.text;

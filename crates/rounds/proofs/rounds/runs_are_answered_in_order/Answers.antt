@@ -1,5 +1,4 @@
-use Rattle.rounds.proofs.Runs.{run_begins, run_goes_on, meeting_goes_on, run_is_text}
-use Rattle.rounds.proofs.Chains.{rounds_go_on}
+use Rattle.rounds.proofs.{Runs.run_begins, Runs.run_goes_on, Runs.meeting_goes_on, Runs.run_is_text, Chains.rounds_go_on}
 use Rattle.rounds.proofs.rounds.runs_are_answered_in_order.Goals as goal
 
 pub returns : goal.returns

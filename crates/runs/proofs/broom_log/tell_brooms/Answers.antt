@@ -1,12 +1,8 @@
 use Rattle.std.proofs.Common.{◌≡◌, ◌++◌, ◌∙◌, ap, length, arith, subst}
 use Rattle.trace.specs.Watched.{inner_of}
-use Rattle.answers.specs.Answers.{broom_line}
-use Rattle.answers.specs.Delivery.{IsUnderWay}
-use Rattle.answers.specs.Lines.{waiting_of}
-use Rattle.answers.specs.Streams.{stream_of}
+use Rattle.answers.specs.{Answers.broom_line, Delivery.IsUnderWay, Lines.waiting_of, Streams.stream_of}
 use Rattle.answers.proofs.Deliveries.{WritesOut-rest, WritesOut-stopped}
-use Rattle.runs.specs.Brooms.{brooms_before, brooms_text}
-use Rattle.runs.proofs.BroomTexts.{brooms_begins, brooms_turn}
+use Rattle.runs.{specs.Brooms.brooms_before, specs.Brooms.brooms_text, proofs.BroomTexts.brooms_begins, proofs.BroomTexts.brooms_turn}
 use Rattle.runs.proofs.broom_log.tell_brooms.Goals as goal
 
 pub loop-k-preserved : goal.loop-k-preserved

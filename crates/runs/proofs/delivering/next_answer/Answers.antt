@@ -1,11 +1,7 @@
-use Rattle.std.proofs.Common.{◌+◌, ◌<◌, get_or, length, ap, arith, sym, ◌∙◌}
-use Rattle.std.proofs.lemmas.List.{get_or-map, map-set}
-use Rattle.std.specs.Prelude.{if◌then◌else◌, slice_get, slice_set, None}
-use Rattle.rounds.specs.Answers.{first_place, place_of}
-use Rattle.rounds.proofs.Planning.{is_line}
-use Rattle.rounds.specs.Rows.{answers_by}
-use Rattle.runs.specs.Delivering.{passed_in}
-use Rattle.runs.proofs.Rows.{at_more, row_is, row_there}
+use Rattle.std.proofs.{Common.◌+◌, Common.◌<◌, Common.get_or, Common.length, Common.ap, Common.arith, Common.sym, Common.◌∙◌, lemmas.List.get_or-map}
+use Rattle.std.{proofs.lemmas.List.map-set, specs.Prelude.if◌then◌else◌, specs.Prelude.slice_get, specs.Prelude.slice_set, specs.Prelude.None}
+use Rattle.rounds.{specs.Answers.first_place, specs.Answers.place_of, proofs.Planning.is_line, specs.Rows.answers_by}
+use Rattle.runs.{specs.Delivering.passed_in, proofs.Rows.at_more, proofs.Rows.row_is, proofs.Rows.row_there}
 use Rattle.runs.proofs.delivering.next_answer.Goals as goal
 
 pub returns : goal.returns

@@ -1,6 +1,4 @@
-use Rattle.std.proofs.Common.{length, sym, ap, ◌∙◌}
-use Rattle.std.proofs.lemmas.List.{length-replicate}
-use Rattle.std.specs.Prelude.{vec_len}
+use Rattle.std.{proofs.Common.length, proofs.Common.sym, proofs.Common.ap, proofs.Common.◌∙◌, proofs.lemmas.List.length-replicate, specs.Prelude.vec_len}
 use Rattle.rounds.specs.Answers.{first_place}
 use Rattle.runs.proofs.laws.room_for_a_delivery.Goals as goal
 

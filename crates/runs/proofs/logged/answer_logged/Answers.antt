@@ -1,17 +1,14 @@
 use Rattle.std.proofs.Common.{◌∙◌, ap, cond, ltb, refl, sym, None}
-use Rattle.ftl_one.specs.Collections.{collection_between}
-use Rattle.ftl_one.specs.OneFtl.{geometry_of, stock_of}
-use Rattle.runs.specs.Collections.{log_part}
-use Rattle.runs.proofs.LogTexts.{shut_more}
-use Rattle.runs.proofs.Made.{made_is}
+use Rattle.ftl_one.specs.{Collections.collection_between, OneFtl.geometry_of, OneFtl.stock_of}
+use Rattle.runs.{specs.Collections.log_part, proofs.LogTexts.shut_more, proofs.Made.made_is}
 use Rattle.runs.proofs.logged.answer_logged.Goals as goal
 
-pub returns-clause-told : goal.returns-clause-told
-returns-clause-told g c = λ before text logged.
+pub returns-clause-logged : goal.returns-clause-logged
+returns-clause-logged g c = λ before text logged.
     let geo = geometry_of c.args.ftl.now in
     let old = stock_of c.args.ftl.now in
     let new = stock_of c.answer-2.new.ftl in
-    c.tell.ensures.told before text (log_part c.args.line (collection_between geo old new))
+    c.tell.ensures.logged before text (log_part c.args.line (collection_between geo old new))
     (λ takes. ap (log_part c.args.line)
     (made_is geo old new c.args.command.now c.due-due.result c.answer-2.ensures.stock (c.due-due.ensures takes)
     ∙ (ap (λ n. cond (ltb n new.programs) c.due-due.result None) (sym c.counts-programs.ensures.programs)
@@ -30,5 +27,5 @@ returns-in_default g c =
       array = it.array;
       stock = it.stock;
       wanted = refl;
-      told = λ before text logged. shut_more c.args.log.now _ text _ c.in_default.not-Open logged;
+      logged = λ before text logged. shut_more c.args.log.now _ text _ c.in_default.not-Open logged;
     }

@@ -1,18 +1,11 @@
 use Rattle.std.proofs.Common.{◌≡◌, ap, length, arith, refl, subst, sym, ◌∙◌}
 use Rattle.ftl_one.specs.OneFtl.{geometry_of, array_of, stock_of}
 use Rattle.trace.specs.Watched.{inner_of}
-use Rattle.answers.specs.Lines.{waiting_of}
-use Rattle.answers.specs.Streams.{over, stream_of}
-use Rattle.answers.specs.Playable.{IsPlayable}
-use Rattle.runs.specs.Collections.{log_before}
-use Rattle.runs.specs.Logs.{IsLogged}
-use Rattle.runs.specs.Outputs.{written_of}
-use Rattle.runs.specs.Refusals.{refused_before}
-use Rattle.runs.specs.Steps.{ArePlayed, answers_written}
+use Rattle.answers.specs.{Lines.waiting_of, Streams.over, Streams.stream_of, Playable.IsPlayable}
 use Rattle.answers.proofs.Deliveries.{OnErr-any, WritesOut-rest, WritesOut-stopped}
-use Rattle.runs.proofs.LogTexts.{OnOk-any, log_left_of, log_none, log_turn}
+use Rattle.runs.specs.{Collections.log_before, Logs.IsLogged, Outputs.written_of, Refusals.refused_before, Steps.ArePlayed, Steps.answers_written}
+use Rattle.runs.proofs.{LogTexts.OnOk-any, LogTexts.log_left_of, LogTexts.log_none, LogTexts.log_turn, RefusedWrites.refused_few, RefusedWrites.refused_turn}
 use Rattle.runs.proofs.Plays.{All-at, ArePlayed-none, ArePlayed-turn, text_whole, lines_begin}
-use Rattle.runs.proofs.RefusedWrites.{refused_few, refused_turn}
 use Rattle.runs.proofs.one_thread.play.Goals as goal
 
 pub answer_logged-requires-clause-playable : goal.answer_logged-requires-clause-playable
@@ -34,7 +27,7 @@ loop-i-preserved g c =
       c.answer_logged.ensures.wanted ∙ c.loop-i.invariant.4,
       log_turn geo (geometry_of c.loop-i.ftl) commands c.loop-i.i (stock_of c.loop-i.ftl) (stock_of c.answer_logged.new.ftl) c.answer_logged.new.log file
           c.loop-i.invariant.0 c.loop-i.invariant.3.stock_is played.stock_is
-          (c.answer_logged.ensures.told (stream_of g.V.Write.contents c.args.file.now) (log_before geo commands c.loop-i.i) c.loop-i.invariant.5),
+          (c.answer_logged.ensures.logged (stream_of g.V.Write.contents c.args.file.now) (log_before geo commands c.loop-i.i) c.loop-i.invariant.5),
       refused_turn geo (geometry_of c.loop-i.ftl) commands c.loop-i.i c.command-command.result (stock_of c.loop-i.ftl) c.loop-i.desk.refused
           c.make_room.new.self.refused c.answer_logged.new.desk.refused c.loop-i.invariant.0 c.command-command.ensures.at
           c.loop-i.invariant.3.stock_is c.loop-i.invariant.6 c.make_room.ensures.refused c.answer_logged.ensures.refused,

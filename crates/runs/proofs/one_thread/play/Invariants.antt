@@ -2,12 +2,8 @@ use Rattle.std.proofs.Common.{◌≡◌, vec_len}
 use Rattle.geometry.specs.Geometry.{page_bytes_of}
 use Rattle.ftl_one.specs.OneFtl.{geometry_of, array_of, stock_of}
 use Rattle.trace.specs.Watched.{failures_of, inner_of}
-use Rattle.answers.specs.Lines.{waiting_of}
-use Rattle.answers.specs.Streams.{over}
-use Rattle.runs.specs.Collections.{log_before}
-use Rattle.runs.specs.Logs.{IsLogged, is_wanted}
-use Rattle.runs.specs.Refusals.{refused_before}
-use Rattle.runs.specs.Steps.{ArePlayed}
+use Rattle.answers.specs.{Lines.waiting_of, Streams.over}
+use Rattle.runs.specs.{Collections.log_before, Logs.IsLogged, Logs.is_wanted, Refusals.refused_before, Steps.ArePlayed}
 use Rattle.runs.proofs.one_thread.play.Given as goal
 
 abbrev pub invariant-loop-i : goal.invariant-loop-i

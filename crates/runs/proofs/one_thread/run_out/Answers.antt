@@ -1,8 +1,6 @@
-use Rattle.std.proofs.Common.{subst, sym}
-use Rattle.std.specs.List.{All}
+use Rattle.std.{proofs.Common.subst, proofs.Common.sym, specs.List.All}
 use Rattle.answers.specs.Playable.{IsPlayable}
 use Rattle.runs.proofs.one_thread.run_out.Goals as goal
 
 pub play-requires-clause-playable : goal.play-requires-clause-playable
-play-requires-clause-playable g c =
-    subst (λ geo. All (IsPlayable geo) c.in-Ok.commands) (sym c.in-Ok-new.ensures.geometry) c.in-Ok.ensures.playable
+play-requires-clause-playable g c = subst (λ geo. All (IsPlayable geo) c.in-Ok.commands) (sym c.in-Ok-new.ensures.geometry) c.in-Ok.ensures.playable

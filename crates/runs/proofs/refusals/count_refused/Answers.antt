@@ -1,13 +1,8 @@
 use Rattle.std.proofs.Common.{◌+◌, ◌≤◌, ◌∙◌, length, ap, arith, refl, subst, sym}
-use Rattle.std.specs.List.{filter}
-use Rattle.std.proofs.lemmas.List.{length-map, take_all}
-use Rattle.rounds.specs.Answers.{place_of}
-use Rattle.rounds.specs.Merging.{merge}
-use Rattle.rounds.specs.Rows.{answers_by}
-use Rattle.runs.specs.Delivering.{passed_in}
-use Rattle.runs.specs.Refusals.{is_full_line}
-use Rattle.runs.proofs.RefusedWrites.{bit_is, bit_low, lines_few, lines_turn}
-use Rattle.runs.proofs.Rows.{all_at, next_is, next_more, next_there, none_passed}
+use Rattle.std.{specs.List.filter, proofs.lemmas.List.length-map, proofs.lemmas.List.take_all}
+use Rattle.rounds.specs.{Answers.place_of, Merging.merge, Rows.answers_by}
+use Rattle.runs.{specs.Delivering.passed_in, specs.Refusals.is_full_line, proofs.RefusedWrites.lines_few, proofs.RefusedWrites.lines_turn}
+use Rattle.runs.proofs.{RefusedWrites.bit_is, RefusedWrites.bit_low, Rows.all_at, Rows.next_is, Rows.next_more, Rows.next_there, Rows.none_passed}
 use Rattle.runs.proofs.refusals.count_refused.Goals as goal
 
 pub next_answer-answer-requires-clause-there : goal.next_answer-answer-requires-clause-there

@@ -1,8 +1,6 @@
 use Rattle.std.proofs.Common.{◌≡◌, length}
 use Rattle.rounds.specs.Rows.{answers_by}
-use Rattle.runs.specs.Delivering.{AreAt, passed_in}
-use Rattle.runs.proofs.RefusedWrites.{lines_refused}
-use Rattle.runs.proofs.Rows.{AreNext}
+use Rattle.runs.{specs.Delivering.AreAt, specs.Delivering.passed_in, proofs.RefusedWrites.lines_refused, proofs.Rows.AreNext}
 use Rattle.runs.proofs.refusals.count_refused.Given as goal
 
 abbrev pub invariant-loop-i : goal.invariant-loop-i

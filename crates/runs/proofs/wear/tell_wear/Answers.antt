@@ -2,12 +2,9 @@ use Rattle.std.proofs.Common.{◌≡◌, ◌∙◌, ap, arith, subst}
 use Rattle.geometry.specs.Geometry.{blocks_of}
 use Rattle.ftl_one.specs.OneFtl.{geometry_of, stock_of}
 use Rattle.trace.specs.Watched.{inner_of}
-use Rattle.answers.specs.Delivery.{IsUnderWay}
-use Rattle.answers.specs.Lines.{waiting_of}
-use Rattle.answers.specs.Streams.{stream_of}
+use Rattle.answers.specs.{Delivery.IsUnderWay, Lines.waiting_of, Streams.stream_of}
 use Rattle.answers.proofs.Deliveries.{WritesOut-rest, WritesOut-stopped}
-use Rattle.runs.specs.Wear.{wear_before, wear_text}
-use Rattle.runs.proofs.WearTexts.{wear_begins, wear_turn}
+use Rattle.runs.{specs.Wear.wear_before, specs.Wear.wear_text, proofs.WearTexts.wear_begins, proofs.WearTexts.wear_turn}
 use Rattle.runs.proofs.wear.tell_wear.Goals as goal
 
 pub loop-block-preserved : goal.loop-block-preserved

@@ -1,6 +1,5 @@
 use Rattle.std.proofs.Common.{◌≡◌, ◌+◌, ◌-◌, ◌≤◌, length, ap, take, drop, sym, ◌∙◌, arith}
-use Rattle.trace.specs.Stored.{lent_as}
-use Rattle.trace.proofs.CommandFacts.{digits-odd, digits-text}
+use Rattle.trace.{specs.Stored.lent_as, proofs.CommandFacts.digits-odd, proofs.CommandFacts.digits-text}
 use Rattle.trace.proofs.commands.digits_at.Goals as goal
 
 pub returns-then-start-text : goal.returns-then-start-text

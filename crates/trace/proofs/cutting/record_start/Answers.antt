@@ -1,5 +1,4 @@
-use Rattle.std.proofs.Common.{sym, ◌∙◌, arith}
-use Rattle.std.proofs.lemmas.Grind.{common_steps}
+use Rattle.std.proofs.{Common.sym, Common.◌∙◌, Common.arith, lemmas.Grind.common_steps}
 use Rattle.trace.proofs.RecordFacts.{starts-more}
 use Rattle.trace.proofs.cutting.record_start.Goals as goal
 

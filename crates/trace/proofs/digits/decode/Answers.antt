@@ -1,10 +1,7 @@
 use Rattle.std.proofs.Common.{◌≡◌, ◌+◌, ◌*◌, ◌%◌, length, slice_index, ℕ, sym, ap, ◌∙◌, arith}
-use Rattle.std.proofs.lemmas.List.{length-set}
-use Rattle.std.proofs.lemmas.Simd.{length-put_chunk}
-use Rattle.hex.proofs.HexLemmas.{decode_of-even, decode_of-same}
-use Rattle.hex.proofs.Pairs.{decode_done, decode_start, decode_step}
-use Rattle.trace.proofs.DigitFacts.{digit_at, pair_read, value_below}
-use Rattle.trace.proofs.LaneFacts.{decoded_block}
+use Rattle.std.proofs.lemmas.{List.length-set, Simd.length-put_chunk}
+use Rattle.hex.proofs.{HexLemmas.decode_of-even, HexLemmas.decode_of-same, Pairs.decode_done, Pairs.decode_start, Pairs.decode_step}
+use Rattle.trace.proofs.{DigitFacts.digit_at, DigitFacts.pair_read, DigitFacts.value_below, LaneFacts.decoded_block}
 use Rattle.trace.proofs.digits.decode.Goals as goal
 
 pub blocks-2-init : goal.blocks-2-init

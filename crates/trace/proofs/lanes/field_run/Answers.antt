@@ -1,5 +1,4 @@
-use Rattle.std.proofs.Common.{refl}
-use Rattle.std.proofs.lemmas.Simd.{length-chunk, zip2_of_maps, zip2_splat}
+use Rattle.std.proofs.{Common.refl, lemmas.Simd.length-chunk, lemmas.Simd.zip2_of_maps, lemmas.Simd.zip2_splat}
 use lib.Lanes.{chunk}
 use Rattle.trace.proofs.LaneFacts.{run_is}
 use Rattle.trace.proofs.lanes.field_run.Goals as goal

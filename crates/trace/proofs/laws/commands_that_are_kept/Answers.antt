@@ -1,7 +1,6 @@
 use Rattle.std.proofs.Common.{◌≤◌, ◌⊎◌, inl, inr, [], codes, arith}
 use Rattle.std.proofs.lemmas.List.Elements.{All-cons, All-nil}
-use Rattle.trace.specs.Laws.{line_of_write, placed}
-use Rattle.trace.specs.Stored.{IsKept}
+use Rattle.trace.specs.{Laws.line_of_write, Laws.placed, Stored.IsKept}
 use Rattle.trace.proofs.LawFacts.{data-0a, first_kept, no_data-0g, no_data-none, second_kept}
 use Rattle.trace.proofs.laws.commands_that_are_kept.Goals as goal
 
@@ -29,10 +28,7 @@ returns-clause-past_end c h =
 pub returns-clause-across : goal.returns-clause-across
 returns-clause-across c h =
     let whole : (2 ≤ 1) ⊎ (1 ≤ 0) = (first_kept (codes "0") (codes "a") 1 (placed line_of_write 0) [] h).whole in
-    elim whole [
-      | inl text ↦ omega (arith, text)
-      | inr odd ↦ omega (arith, odd)
-    ]
+    elim whole [ inl text ↦ omega (arith, text) | inr odd ↦ omega (arith, odd) ]
 
 pub returns-clause-no_digit : goal.returns-clause-no_digit
 returns-clause-no_digit c h = no_data-0g 1 (first_kept (codes "0g") [] 1 (placed line_of_write 0) [] h).fits

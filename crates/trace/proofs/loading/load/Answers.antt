@@ -1,6 +1,5 @@
 use Rattle.std.proofs.Common.{◌≡◌, ◌∙◌, ℕ, ◌+◌, ◌<◌, length, ap, arith, take, vec_len}
-use Rattle.std.proofs.lemmas.Grind.{common_steps}
-use Rattle.std.proofs.lemmas.List.{length-take}
+use Rattle.std.proofs.lemmas.{Grind.common_steps, List.length-take}
 use Rattle.trace.specs.declared.loading.TheConstants.{MAX_TRACE_BYTES}
 use Rattle.trace.proofs.LoadFacts.{all_taken, one_more_differs, piece_counted, piece_falls, piece_taken, too_many}
 use Rattle.trace.proofs.loading.load.Goals as goal

@@ -1,5 +1,4 @@
-use Rattle.std.proofs.Common.{◌≡◌, ◌^◌, ◌<◌, drop}
-use Rattle.std.specs.Str.{all_ascii_digits}
+use Rattle.std.{proofs.Common.◌≡◌, proofs.Common.◌^◌, proofs.Common.◌<◌, proofs.Common.drop, specs.Str.all_ascii_digits}
 use Rattle.std.specs.Str.Parse.{digits_value, digits_value_after}
 use Rattle.trace.proofs.parsing.number_below.Given as goal
 

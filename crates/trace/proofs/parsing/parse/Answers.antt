@@ -1,5 +1,4 @@
-use Rattle.std.proofs.Common.{◌≡◌, arith}
-use Rattle.std.proofs.lemmas.Grind.{common_steps}
+use Rattle.std.proofs.{Common.◌≡◌, Common.arith, lemmas.Grind.common_steps}
 use Rattle.trace.proofs.parsing.parse.Goals as goal
 use Rattle.trace.proofs.parsing.parse.Goals.{In-Ok}
 

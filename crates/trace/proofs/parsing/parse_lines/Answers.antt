@@ -1,9 +1,6 @@
 use Rattle.std.proofs.Common.{◌∙◌, append-nil, arith, inr, refl}
-use Rattle.trace.specs.declared.fault.TraceFaultKind.TheVariants.{Fields}
-use Rattle.trace.specs.Stored.{drafted}
-use Rattle.trace.proofs.CommandFacts.{line_is}
+use Rattle.trace.{specs.declared.fault.TraceFaultKind.TheVariants.Fields, specs.Stored.drafted, proofs.CommandFacts.line_is, proofs.NumberFacts.falls_past}
 use Rattle.trace.proofs.CheckFacts.{commands_of-commands, first_other, first_refused, one_more_command, refuses_fields, states_fault}
-use Rattle.trace.proofs.NumberFacts.{falls_past}
 use Rattle.trace.proofs.parsing.parse_lines.Goals as goal
 
 pub returns-in-End-clause-commands : goal.returns-in-End-clause-commands

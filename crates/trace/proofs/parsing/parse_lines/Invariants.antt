@@ -1,7 +1,5 @@
 use Rattle.std.proofs.Common.{◌≤◌, ◌-◌, length}
-use Rattle.trace.specs.Drafting.{IsDraft}
-use Rattle.trace.specs.Parsing.{AreSoFar}
-use Rattle.trace.specs.Stored.{drafted}
+use Rattle.trace.specs.{Drafting.IsDraft, Parsing.AreSoFar, Stored.drafted}
 use Rattle.trace.proofs.parsing.parse_lines.Given as goal
 
 -- the records so far are the commands so far

@@ -1,9 +1,5 @@
-use Rattle.std.proofs.Common.{◌∙◌, ap, append-nil, inr, length, sym}
-use Rattle.std.proofs.lemmas.List.{take_rest}
-use Rattle.trace.specs.Trace.{records_of}
-use Rattle.trace.specs.declared.fault.TraceFaultKind.TheVariants.{Fields}
-use Rattle.trace.specs.Stored.{drafted}
-use Rattle.trace.proofs.CommandFacts.{line_is}
+use Rattle.std.proofs.{Common.◌∙◌, Common.ap, Common.append-nil, Common.inr, Common.length, Common.sym, lemmas.List.take_rest}
+use Rattle.trace.{specs.Trace.records_of, specs.declared.fault.TraceFaultKind.TheVariants.Fields, specs.Stored.drafted, proofs.CommandFacts.line_is}
 use Rattle.trace.proofs.CheckFacts.{commands_of-commands, first_other, first_refused, one_more_command, refuses_fields, same_first, states_fault}
 use Rattle.trace.proofs.NumberFacts.{falls_next}
 use Rattle.trace.proofs.parsing.parse_rest.Goals as goal

@@ -1,9 +1,5 @@
 use Rattle.std.proofs.Common.{◌≡◌, ◌≤◌, ◌-◌, drop, length}
-use Rattle.trace.specs.Drafting.{IsDraft}
-use Rattle.trace.specs.Parsing.{AreSoFar}
-use Rattle.trace.specs.Rows.{IsReading, records_left}
-use Rattle.trace.specs.Stored.{drafted}
-use Rattle.trace.specs.Trace.{records_of}
+use Rattle.trace.specs.{Drafting.IsDraft, Parsing.AreSoFar, Rows.IsReading, Rows.records_left, Stored.drafted, Trace.records_of}
 use Rattle.trace.proofs.parsing.parse_rest.Given as goal
 
 -- the records so far are the commands so far, and csv has those behind them left

@@ -1,8 +1,7 @@
 use Rattle.std.proofs.Common.{◌≡◌, ◌∙◌, List, ℕ, [], Option, true, false, ap, ap₂, inr, refl, sym, subst}
 use Rattle.std.specs.Prelude.{IsSome, unwrap_or}
-use Rattle.csv.specs.Machine.{ends_at_end}
+use Rattle.csv.specs.{Machine.ends_at_end, declared.parser.State.State}
 use Rattle.csv.specs.Reading.{builder_config, builder_names_headers, builder_trim, with_flexible, with_names_headers}
-use Rattle.csv.specs.declared.parser.State.{State}
 use Rattle.trace.specs.Rows.{records_after}
 use Rattle.trace.proofs.rows.records.Goals as goal
 

@@ -1,6 +1,5 @@
 use Rattle.std.proofs.Common.{◌≡◌, ◌+◌, ◌-◌, ◌*◌, arith, subst, sym, ◌∙◌}
-use Rattle.trace.proofs.NumberFacts.{ten_to}
-use Rattle.trace.proofs.UsualFacts.{IsNumberSoFar, more_so_far, none_so_far, number_ends}
+use Rattle.trace.proofs.{NumberFacts.ten_to, UsualFacts.IsNumberSoFar, UsualFacts.more_so_far, UsualFacts.none_so_far, UsualFacts.number_ends}
 use Rattle.trace.proofs.usual.usual_number.Goals as goal
 
 pub loop-i-init : goal.loop-i-init

@@ -1,9 +1,6 @@
-use Rattle.std.proofs.Common.{◌≡◌, true, [], ◌∷◌, Some, refl}
-use Rattle.std.specs.Prelude.{Result, Ok, Err}
-use Rattle.std.specs.Result.{is_ok}
-use Rattle.std.proofs.lemmas.Result.{IfOk-weaker, IfOk-at_ok}
-use Rattle.volume.specs.Closing.{sectors_left, last_view}
-use Rattle.volume.specs.Volume.{flash_of}
+use Rattle.std.proofs.{Common.◌≡◌, Common.true, Common.[], Common.◌∷◌, Common.Some, Common.refl, lemmas.Result.IfOk-weaker, lemmas.Result.IfOk-at_ok}
+use Rattle.std.specs.{Prelude.Result, Prelude.Ok, Prelude.Err, Result.is_ok}
+use Rattle.volume.specs.{Closing.sectors_left, Closing.last_view, Volume.flash_of}
 use Rattle.uses.proofs.Callers.{first_ready, second_ready, both_ready, both_values}
 use Rattle.uses.proofs.closing.two_writers.Goals as goal
 

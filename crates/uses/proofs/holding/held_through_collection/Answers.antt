@@ -23,7 +23,7 @@ returns-clause-found c =
     let held = c.in-Held.ensures in
     let first = c.copy_into.ensures.value held.0 held.1 in
     let seen : (view_of c.release.result).seen ≡ (view_of (pass_of c.in-Held.held)).seen =
-    ap (λ (v : View). v.seen) c.release.ensures.told ∙ ap (λ (v : View). v.seen) (c.copy_into-2.ensures.same ∙ c.copy_into.ensures.same) in
+    ap (λ (v : View). v.seen) c.release.ensures.clear ∙ ap (λ (v : View). v.seen) (c.copy_into-2.ensures.same ∙ c.copy_into.ensures.same) in
     rw (seen, held.2) (refl, first.0)
 
 pub returns-clause-same : goal.returns-clause-same

@@ -1,7 +1,6 @@
 use Rattle.std.proofs.Common.{◌∙◌, ap}
 use Rattle.flash_rule.specs.declared.view.View.{View}
-use Rattle.flash_table.specs.Flash.{view_of}
-use Rattle.flash_table.specs.Steps.{HasNumber}
+use Rattle.flash_table.specs.{Flash.view_of, Steps.HasNumber}
 use Rattle.uses.proofs.Rereadings.{read_behind}
 use Rattle.uses.proofs.rereading.write_and_read.Goals as goal
 

@@ -1,10 +1,9 @@
-use Rattle.std.proofs.Common.{◌≡◌, ℕ, zero, suc, true, false, List, [], ◌∷◌, ap, sym, refl, ◌∙◌, arith}
-use Rattle.std.specs.Prelude.{All}
-use Rattle.std.proofs.lemmas.Bool.{false≢true}
+use Rattle.std.proofs.Common.{◌≡◌, zero, suc, true, false, List, [], ◌∷◌, ap, sym, refl, ◌∙◌, arith}
+use Rattle.std.{specs.Prelude.All, proofs.lemmas.Bool.false≢true}
 use Rattle.trace.specs.declared.commands.Command.{Command}
 use Rattle.trace.specs.declared.commands.Op.TheVariants as op
-use Rattle.rounds.specs.Merging.{AreDisjointCommands, IsDisjointTrace, changes}
-use Rattle.uses.specs.Together.{read_by, trim_by}
+use Rattle.rounds.specs.Merging.{AreDisjointCommands, changes}
+use Rattle.uses.specs.Together.{read_by}
 use Rattle.uses.proofs.together.reads_may_be_shared.Goals as goal
 
 reads_disjoint : (round : List Command) → All (λ c. c.op ≡ op.Read) round → AreDisjointCommands round

@@ -1,11 +1,8 @@
-use Rattle.std.proofs.Common.{◌+◌, sym, arith, subst, List}
-use Rattle.std.proofs.lemmas.Grind.{common_steps}
+use Rattle.std.proofs.{Common.◌+◌, Common.sym, Common.arith, Common.subst, Common.List, lemmas.Grind.common_steps}
 use Rattle.std.specs.Option.{option_map}
-use Rattle.geometry.specs.Sectors.{Sector}
-use Rattle.geometry.specs.Geometry.{sectors_of}
+use Rattle.geometry.specs.{Sectors.Sector, Geometry.sectors_of}
 use Rattle.flash_table.specs.Flash.{view_of, geometry_of}
-use Rattle.volume.specs.Closing.{array_of}
-use Rattle.volume.proofs.Looks.{looked-refl}
+use Rattle.volume.{specs.Closing.array_of, proofs.Looks.looked-refl}
 use Rattle.volume.proofs.Sweeps.{Sweeps, sweep_begins, sweeps_next, one_more}
 use Rattle.volume.proofs.closing.read_all.Goals as goal
 

@@ -1,5 +1,4 @@
-use Rattle.std.proofs.Common.{All, length}
-use Rattle.std.specs.Vec.Iter.{into_iter_items}
+use Rattle.std.{proofs.Common.All, proofs.Common.length, specs.Vec.Iter.into_iter_items}
 use Rattle.host.specs.Ready.{IsReady}
 use Rattle.volume.proofs.closing.retire_all.Given as goal
 

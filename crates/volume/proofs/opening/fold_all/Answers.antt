@@ -1,8 +1,5 @@
-use Rattle.std.proofs.Common.{◌≡◌, None, Some}
-use Rattle.std.proofs.lemmas.List.Elements.{All-pop}
-use Rattle.broom.specs.declared.broom.Broom.{Broom}
-use Rattle.broom.specs.Handing.{aside_of}
-use Rattle.broom.specs.Ready.{IsReady}
+use Rattle.std.proofs.{Common.◌≡◌, Common.None, Common.Some, lemmas.List.Elements.All-pop}
+use Rattle.broom.specs.{declared.broom.Broom.Broom, Handing.aside_of, Ready.IsReady}
 use Rattle.volume.proofs.opening.fold_all.Goals as goal
 
 pub fold_new-requires-clause-ready : goal.fold_new-requires-clause-ready

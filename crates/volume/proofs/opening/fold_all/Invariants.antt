@@ -1,6 +1,5 @@
 use Rattle.std.proofs.Common.{◌≡◌, All, None}
-use Rattle.broom.specs.Handing.{aside_of}
-use Rattle.broom.specs.Ready.{IsReady}
+use Rattle.broom.specs.{Handing.aside_of, Ready.IsReady}
 use Rattle.volume.proofs.opening.fold_all.Given as goal
 
 abbrev pub invariant-loop-broom : goal.invariant-loop-broom

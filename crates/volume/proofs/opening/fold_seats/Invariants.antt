@@ -1,5 +1,4 @@
-use Rattle.std.proofs.Common.{All, length}
-use Rattle.std.specs.Vec.Iter.{into_iter_items}
+use Rattle.std.{proofs.Common.All, proofs.Common.length, specs.Vec.Iter.into_iter_items}
 use Rattle.broom.specs.Ready.{IsRested}
 use Rattle.volume.proofs.opening.fold_seats.Given as goal
 

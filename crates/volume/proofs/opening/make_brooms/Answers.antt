@@ -1,14 +1,8 @@
-use Rattle.std.proofs.Common.{◌≡◌, None, length, sym, ap, arith}
-use Rattle.std.proofs.lemmas.Grind.{common_steps}
-use Rattle.std.proofs.lemmas.List.{length_push}
-use Rattle.std.proofs.lemmas.List.Elements.{All-weaker}
-use Rattle.std.specs.Vec.Iter.{into_iter_items}
+use Rattle.std.proofs.{Common.◌≡◌, Common.None, Common.length, Common.sym, Common.ap, Common.arith, lemmas.Grind.common_steps, lemmas.List.length_push}
+use Rattle.std.{proofs.lemmas.List.Elements.All-weaker, specs.Vec.Iter.into_iter_items}
 use Rattle.flash_table.specs.declared.broom_seat.BroomSeat.{BroomSeat}
-use Rattle.broom.specs.declared.broom.Broom.{Broom}
-use Rattle.broom.specs.Handing.{aside_of}
-use Rattle.broom.specs.Ready.{IsReady, IsRested}
-use Rattle.volume.specs.Brooms.{IsFresh}
-use Rattle.volume.proofs.FreshBrooms.{taken, one_made}
+use Rattle.broom.specs.{declared.broom.Broom.Broom, Handing.aside_of, Ready.IsReady, Ready.IsRested}
+use Rattle.volume.{specs.Brooms.IsFresh, proofs.FreshBrooms.taken, proofs.FreshBrooms.one_made}
 use Rattle.volume.proofs.opening.make_brooms.Goals as goal
 
 pub loop-seat-preserved : goal.loop-seat-preserved

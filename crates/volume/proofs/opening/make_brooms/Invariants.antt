@@ -1,5 +1,4 @@
-use Rattle.std.proofs.Common.{◌+◌, ◌≤◌, length}
-use Rattle.std.specs.Vec.Iter.{into_iter_items}
+use Rattle.std.{proofs.Common.◌+◌, proofs.Common.◌≤◌, proofs.Common.length, specs.Vec.Iter.into_iter_items}
 use Rattle.volume.proofs.FreshBrooms.{Making}
 use Rattle.volume.proofs.opening.make_brooms.Given as goal
 

@@ -11,7 +11,8 @@ use Rattle.rounds.specs.Plans.{ends_of}
 use Rattle.workers.specs.declared.{worker.Worker.Worker, collector.Collector.Collector}
 use Rattle.workers.specs.{Meetings.IsAt, Runs.AreManned, Runs.HasBegun, Served.AreAtRunStart, Served.HasCountedNone}
 use Rattle.workers.specs.Shares.{HasFitShare, IsOwner, with_commands, work_in}
-use Rattle.workers.proofs.{Counting.zero_plus, Serving.all_first, Openings.begun, Openings.manned, Openings.row_count, Openings.rows_doable}
+use Rattle.workers.proofs.{Counting.zero_plus, Serving.all_first, Openings.at_first, Openings.row_count, Openings.rows_doable}
+use Rattle.workers.proofs.dealing.deal.Goals.{After-seat_collectors}
 use Rattle.workers.proofs.dealing.deal.Goals as goal
 
 pub make_shares-requires : goal.make_shares-requires
@@ -37,28 +38,19 @@ pub seat_workers-requires-clause-shares_count : goal.seat_workers-requires-claus
 seat_workers-requires-clause-shares_count c =
     let rows = row_count (hosts_of c.args.geometry.now) (arc_value c.args.commands.now) c.args.rows.items c.requires.rows in
     let work = ap (length {A = List Command × List ℕ}) c.in_ok-shares.ensures.work in
-    let passes = ap (length {A = Pass}) c.into_parts-volume.ensures.passes in
-    let new = c.in_ok-unseated.ensures.playing in
+    let passes = ap (length {A = Pass}) c.into_parts-volume.ensures.passes ∙ c.in_ok-unseated.ensures.playing in
     omega (arith, length-map c.in_ok-shares.shares.items work_in, length-map c.args.rows.items (with_commands (arc_value c.args.commands.now)))
 
 pub seat_workers-requires-clause-owners_count : goal.seat_workers-requires-clause-owners_count
 seat_workers-requires-clause-owners_count c =
-    let owners = c.in_ok-worker_owners.ensures.count in
-    let hosts = c.hosts-hosts.ensures in
-    let passes = ap (length {A = Pass}) c.into_parts-volume.ensures.passes in
-    let new = c.in_ok-unseated.ensures.playing in
-    omega arith
+    omega (arith, c.in_ok-worker_owners.ensures.count, ap (length {A = Pass}) c.into_parts-volume.ensures.passes, c.in_ok-unseated.ensures.playing)
 
 pub seat_workers-requires-clause-none : goal.seat_workers-requires-clause-none
 seat_workers-requires-clause-none c = ap (length {A = Worker}) c.in_ok-workers.ensures.items
 
 pub seat_workers-requires-clause-room : goal.seat_workers-requires-clause-room
 seat_workers-requires-clause-room c =
-    let room = c.in_ok-workers.ensures.capacity in
-    let hosts = c.hosts-hosts.ensures in
-    let passes = ap (length {A = Pass}) c.into_parts-volume.ensures.passes in
-    let new = c.in_ok-unseated.ensures.playing in
-    omega arith
+    omega (arith, c.in_ok-workers.ensures.capacity, ap (length {A = Pass}) c.into_parts-volume.ensures.passes, c.in_ok-unseated.ensures.playing)
 
 pub seat_collectors-requires-clause-ready : goal.seat_collectors-requires-clause-ready
 seat_collectors-requires-clause-ready c =
@@ -71,22 +63,14 @@ seat_collectors-requires-clause-owners c =
 
 pub seat_collectors-requires-clause-count : goal.seat_collectors-requires-clause-count
 seat_collectors-requires-clause-count c =
-    let owners = c.in_ok-collector_owners.ensures.count in
-    let count = c.brooms-brooms.ensures in
-    let brooms = ap (length {A = Broom}) c.into_parts-volume.ensures.brooms in
-    let new = c.in_ok-unseated.ensures.collecting in
-    omega arith
+    omega (arith, c.in_ok-collector_owners.ensures.count, ap (length {A = Broom}) c.into_parts-volume.ensures.brooms, c.in_ok-unseated.ensures.collecting)
 
 pub seat_collectors-requires-clause-none : goal.seat_collectors-requires-clause-none
 seat_collectors-requires-clause-none c = ap (length {A = Collector}) c.in_ok-collectors.ensures.items
 
 pub seat_collectors-requires-clause-room : goal.seat_collectors-requires-clause-room
 seat_collectors-requires-clause-room c =
-    let room = c.in_ok-collectors.ensures.capacity in
-    let count = c.brooms-brooms.ensures in
-    let brooms = ap (length {A = Broom}) c.into_parts-volume.ensures.brooms in
-    let new = c.in_ok-unseated.ensures.collecting in
-    omega arith
+    omega (arith, c.in_ok-collectors.ensures.capacity, ap (length {A = Broom}) c.into_parts-volume.ensures.brooms, c.in_ok-unseated.ensures.collecting)
 
 pub returns-clause-geometry : goal.returns-clause-geometry
 returns-clause-geometry c = ap (λ (v : Volume). geometry_of (flash_of v)) c.into_parts-volume.ensures.volume ∙ c.in_ok-unseated.ensures.geometry
@@ -96,34 +80,30 @@ returns-clause-collectors c =
     let brooms = ap (length {A = Broom}) c.into_parts-volume.ensures.brooms in
     (ap (length {A = Collector}) c.in_ok-new.ensures.collectors) ∙ (c.seat_collectors.ensures.count ∙ (brooms ∙ c.in_ok-unseated.ensures.collecting))
 
-pub returns-clause-begun : goal.returns-clause-begun
-returns-clause-begun c =
+-- what the workers have at the beginning
+opened : (c : After-seat_collectors) → let volume = arc_value c.into_parts-volume.result.0 in let cs = arc_value c.args.commands.now in
+    HasBegun volume cs (ends_of cs) c.seat_workers.new.workers.items × AreManned volume c.seat_workers.new.workers.items
+opened c =
     let new = c.in_ok-unseated.ensures in
     let parts = c.into_parts-volume.ensures in
-    let cs = arc_value c.args.commands.now in
-    subst (HasBegun (arc_value c.into_parts-volume.result.0) cs (ends_of cs)) (sym c.in_ok-new.ensures.workers)
-    (begun (arc_value c.into_parts-volume.result.0) c.args.geometry.now
+    at_first (arc_value c.into_parts-volume.result.0) c.args.geometry.now
     (arc_value c.args.commands.now) c.args.rows.items c.into_parts-volume.result.1.items c.seat_workers.new.workers.items
     (ap (λ (v : Volume). geometry_of (flash_of v)) parts.volume ∙ new.geometry) c.requires.hosts c.requires.playable c.requires.rows
     (ap (length {A = Pass}) parts.passes ∙ new.playing)
     (subst (λ (x : Volume × List Pass). (t : ℕ) (p : Pass) → slice_get x.1 t ≡ Some p
     → view_of p ≡ first_view (device (flash_of x.0)) t) (λ i. (sym parts.volume i, sym parts.passes i)) new.first)
     c.seat_workers.ensures.passes (c.seat_workers.ensures.work ∙ c.in_ok-shares.ensures.work)
-    (subst (λ (v : Volume). All (IsAt v) c.seat_workers.new.workers.items) c.deref.ensures c.seat_workers.ensures.at) c.seat_workers.ensures.none)
+    (subst (λ (v : Volume). All (IsAt v) c.seat_workers.new.workers.items) c.deref.ensures c.seat_workers.ensures.at) c.seat_workers.ensures.none
+
+pub returns-clause-begun : goal.returns-clause-begun
+returns-clause-begun c = let cs = arc_value c.args.commands.now in
+    subst (HasBegun (arc_value c.into_parts-volume.result.0) cs (ends_of cs)) (sym c.in_ok-new.ensures.workers)
+    (opened (goal.at.returns-clause-begun c).After-seat_collectors).0
 
 pub returns-clause-manned : goal.returns-clause-manned
 returns-clause-manned c =
-    let new = c.in_ok-unseated.ensures in
-    let parts = c.into_parts-volume.ensures in
     subst (AreManned (arc_value c.into_parts-volume.result.0)) (sym c.in_ok-new.ensures.workers)
-    (manned (arc_value c.into_parts-volume.result.0) c.args.geometry.now
-    (arc_value c.args.commands.now) c.args.rows.items c.into_parts-volume.result.1.items c.seat_workers.new.workers.items
-    (ap (λ (v : Volume). geometry_of (flash_of v)) parts.volume ∙ new.geometry) c.requires.hosts c.requires.playable c.requires.rows
-    (ap (length {A = Pass}) parts.passes ∙ new.playing)
-    (subst (λ (x : Volume × List Pass). (t : ℕ) (p : Pass) → slice_get x.1 t ≡ Some p
-    → view_of p ≡ first_view (device (flash_of x.0)) t) (λ i. (sym parts.volume i, sym parts.passes i)) new.first)
-    c.seat_workers.ensures.passes (c.seat_workers.ensures.work ∙ c.in_ok-shares.ensures.work)
-    (subst (λ (v : Volume). All (IsAt v) c.seat_workers.new.workers.items) c.deref.ensures c.seat_workers.ensures.at) c.seat_workers.ensures.none)
+    (opened (goal.at.returns-clause-manned c).After-seat_collectors).1
 
 pub returns-clause-first : goal.returns-clause-first
 returns-clause-first c =

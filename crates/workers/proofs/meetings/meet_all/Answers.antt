@@ -13,20 +13,20 @@ pub returns-clause-all_met : goal.returns-clause-all_met
 returns-clause-all_met c =
     workers_met c.args.volume.now c.args.workers.now c.in-Some.first.now c.meet_others.new.first c.meet_others-2.new.first c.in-Some.others.now
     c.meet_others.new.others c.meet_others-2.new.others
-    c.in-Some.ensures.cases.0 c.requires.at c.requires.seated c.meet_others.ensures.told c.meet_others-2.ensures.told c.requires.all
+    c.in-Some.ensures.cases.0 c.requires.at c.requires.seated c.meet_others.ensures.met c.meet_others-2.ensures.met c.requires.all
     c.meet_others.ensures.first c.meet_others-2.ensures.first c.meet_others.ensures.others c.meet_others-2.ensures.others
 
 pub returns-clause-seated : goal.returns-clause-seated
 returns-clause-seated c =
     workers_seated c.args.volume.now c.args.workers.now c.in-Some.first.now c.meet_others.new.first c.meet_others-2.new.first c.in-Some.others.now
     c.meet_others.new.others c.meet_others-2.new.others
-    c.in-Some.ensures.cases.0 c.requires.at c.requires.seated c.meet_others.ensures.told c.meet_others-2.ensures.told
+    c.in-Some.ensures.cases.0 c.requires.at c.requires.seated c.meet_others.ensures.met c.meet_others-2.ensures.met
 
 pub returns-clause-rest : goal.returns-clause-rest
 returns-clause-rest c =
     rests_met c.args.volume.now c.args.workers.now c.in-Some.first.now c.meet_others.new.first c.meet_others-2.new.first c.in-Some.others.now
     c.meet_others.new.others c.meet_others-2.new.others
-    c.in-Some.ensures.cases.0 c.requires.at c.requires.seated c.meet_others.ensures.told c.meet_others-2.ensures.told
+    c.in-Some.ensures.cases.0 c.requires.at c.requires.seated c.meet_others.ensures.met c.meet_others-2.ensures.met
     c.meet_others.ensures.first c.meet_others-2.ensures.first c.meet_others.ensures.others c.meet_others-2.ensures.others
 
 pub meet_others-requires-clause-first : goal.meet_others-requires-clause-first

@@ -44,13 +44,13 @@ loop-other-preserved c =
     record {
       met =
           meets_more volume c.args.first.now.pass (passes_of c.args.others.now) i c.loop-other.first.pass now.pass row x x' c.loop-other.invariant.met
-          there low c.meet_two.ensures.told (ready_at volume now at_now) (ready_at volume x' at_x);
+          there low c.meet_two.ensures.met (ready_at volume now at_now) (ready_at volume x' at_x);
       first = c.meet_two.ensures.first ∙ c.loop-other.invariant.first;
       others = rests_kept row i x x' there low c.meet_two.ensures.second ∙ c.loop-other.invariant.others;
     }
 
-pub returns-clause-told : goal.returns-clause-told
-returns-clause-told c =
+pub returns-clause-met : goal.returns-clause-met
+returns-clause-met c =
     met_each (flash_of c.args.volume.now) c.args.first.now.pass c.loop-other.first.pass (passes_of c.args.others.now)
     (passes_of c.loop-other.others) c.loop-other.other-index c.loop-other.invariant.met
     (let past = c.loop-other-test.false in omega (arith, past, length-map c.args.others.now (λ (p : Worker). p.pass)))

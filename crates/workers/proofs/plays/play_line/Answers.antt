@@ -17,7 +17,7 @@ returns-in-Read-clause-played g c t role =
     let answer = subst (λ k. Answers (held k w.seen line.sector) c.read_gated.result.got c.args.page.now c.read_gated.new.out)
     (sym n) c.read_gated.ensures.answer in
     let played = read_line t c.args.patience v line.sector c.read_gated.result.tries line.page c.args.page.now c.read_gated.new.out
-    c.read_gated.result.got c.found.result w c.read_gated.ensures.told answer c.found.ensures in
+    c.read_gated.result.got c.found.result w c.read_gated.ensures.searched answer c.found.ensures in
     subst (λ (o : Op). PlayedLine t c.args.patience v o line.sector line.page c.found.result c.read_gated.new.out (is_full c.found.result) w)
     (sym c.in-Read.is) played
 
@@ -43,6 +43,6 @@ returns-in-Trim-clause-played g c t role =
     let line = c.args.line.now in
     let kind = c.of_was.result in
     let played = trim_line t c.args.patience (view_of c.args.pass.now) line.sector line.page c.args.page.now c.trim.result kind
-    (view_of c.trim.new.pass) (c.trim.ensures.told t role) c.of_was.ensures in
+    (view_of c.trim.new.pass) (c.trim.ensures.called t role) c.of_was.ensures in
     subst (λ (o : Op). PlayedLine t c.args.patience (view_of c.args.pass.now) o line.sector line.page kind c.args.page.now (is_full kind)
     (view_of c.trim.new.pass)) (sym c.in-Trim.is) played

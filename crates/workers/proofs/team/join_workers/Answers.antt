@@ -13,9 +13,7 @@ returns-clause-played g c = λ first.
 
 pub loop-task-init : goal.loop-task-init
 loop-task-init g c = record {
-  played = λ first rest played.
-      let none : c.args.workers.now.items ≡ [] = nil_from_length c.args.workers.now.items (sym c.args.workers.now.ok.0 ∙ first) in
-      rw none played;
+  played = λ first rest played. rw (nil_from_length c.args.workers.now.items (sym c.args.workers.now.ok.0 ∙ first)) played;
   joined = refl;
   from_room = refl;
   to_room = refl;
@@ -24,11 +22,8 @@ loop-task-init g c = record {
 pub loop-task-preserved : goal.loop-task-preserved
 loop-task-preserved g c = record {
   played = λ first rest played.
-      let asks = map (asked c.args.limits) in
-      let back : List Worker = c.join_worker.result ∷ rest in
-      let more : WerePlayed (asks c.loop-task.tasks.items) back =
-      subst (λ (xs : List Task). WerePlayed (asks xs) back) (sym c.in-Some.ensures.items) (c.join_worker.ensures, played) in
-      rw (c.push_back_reserved.ensures.items, append_assoc) (c.loop-task.invariant.played first back more);
+      let more = c.loop-task.invariant.played first (c.join_worker.result ∷ rest) in
+      rw (c.push_back_reserved.ensures.items, append_assoc) (more (rw c.in-Some.ensures.items (c.join_worker.ensures, played)));
   joined = omega (arith, c.in-Some.ensures.len);
   from_room = c.pop_front.ensures.capacity ∙ c.loop-task.invariant.from_room;
   to_room = c.push_back_reserved.ensures.capacity ∙ c.loop-task.invariant.to_room;

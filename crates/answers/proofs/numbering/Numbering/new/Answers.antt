@@ -1,5 +1,4 @@
-use Rattle.std.proofs.Common.{sym, arith}
-use Rattle.std.proofs.lemmas.Fmt.{decimal_digit}
+use Rattle.std.proofs.{Common.sym, Common.arith, lemmas.Fmt.decimal_digit}
 use Rattle.answers.proofs.numbering.Numbering.new.Goals as goal
 
 pub invariant_of-result-clause-digits_of : goal.invariant_of-result-clause-digits_of

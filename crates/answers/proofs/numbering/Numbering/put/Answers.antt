@@ -1,8 +1,6 @@
 use Rattle.std.proofs.Common.{◌≡◌, ◌+◌, ◌-◌, ◌/◌, ◌%◌, ◌<◌, ◌≤◌, ap, ◌∙◌, arith}
 use Rattle.std.specs.Fmt.{decimal}
-use Rattle.answers.specs.Placed.{four_digits}
-use Rattle.answers.proofs.Numbers.{decimal_parts}
-use Rattle.answers.proofs.Places.{Placed-as, Placed-byte, Placed-then}
+use Rattle.answers.{specs.Placed.four_digits, proofs.Numbers.decimal_parts, proofs.Places.Placed-as, proofs.Places.Placed-byte, proofs.Places.Placed-then}
 use Rattle.answers.proofs.numbering.Numbering.put.Goals as goal
 use Rattle.answers.proofs.numbering.Numbering.put.Goals.{then-number-self, else-number-self+else-number-self-ge-STEP}
 

@@ -1,48 +1,16 @@
-use Rattle.std.proofs.Common.{◌≡◌, ◌∙◌, ℕ, ◌+◌, ◌*◌, ◌<◌, ◌≤◌, List, length, get_or, sym, ap, refl, subst, arith, length-set}
+use Rattle.std.proofs.Common.{◌≡◌, ◌∙◌, ℕ, ◌+◌, ◌*◌, ◌<◌, List, length, get_or, sym, ap, refl, subst, arith, length-set}
 use Rattle.std.specs.Vec.{with_items, vec_len}
-use Rattle.std.proofs.lemmas.List.{get_or_read, with_items_is}
-use Rattle.std.proofs.lemmas.Nat.{same_from_place}
-use Rattle.std.proofs.Math.Nat.{mul-le-mul_right}
+use Rattle.std.proofs.{lemmas.List.get_or_read, lemmas.List.with_items_is, lemmas.Nat.same_from_place}
 use Rattle.geometry.specs.Geometry.{blocks_of, pages_of, page_bytes_of}
-use Rattle.die.specs.declared.block_state.BlockState.{BlockState}
-use Rattle.die.specs.declared.die.Die.{Die}
-use Rattle.die.specs.Die.{block_of, ChangesBlock}
-use Rattle.die.specs.Pages.{Page, page_at, programmed}
-use Rattle.die.specs.Slots.{PutsSlot, slot}
-use Rattle.die.specs.Storage.{stored}
-use Rattle.die.proofs.BlockLemmas.{Adds}
-use Rattle.die.proofs.DieLemmas.{state_of, state_read, next-state, counted, sound-set, sound-counted, adds_page, changes_by_adding, pages_within, page-stored}
+use Rattle.die.specs.{Die.block_of, Die.ChangesBlock, Pages.Page, Pages.page_at, Pages.programmed, Storage.stored}
+use Rattle.die.{specs.declared.die.Die.Die, specs.Slots.PutsSlot, specs.Slots.slot, proofs.BlockLemmas.Adds}
+use Rattle.die.proofs.DieLemmas.{state_of, state_read, next_small, counted, sound-set, sound-counted, adds_page, changes_by_adding, pages_within, page-stored}
 use Rattle.die.proofs.die.Die.copyback.Goals as goal
 use Rattle.die.proofs.die.Die.copyback.Goals.{After-deref_mut, After-index_mut-2}
 
 pub place_of-source-requires-clause-page : goal.place_of-source-requires-clause-page
 place_of-source-requires-clause-page c =
     omega (arith, c.requires.source.programmed, pages_within c.args.self.now c.args.from.block c.requires.source.usable.within)
-
--- a place below those of all pages lies within the bytes
-within_bytes : (c : After-deref_mut) (place : ℕ) → place < blocks_of c.args.self.now.geometry * pages_of c.args.self.now.geometry
-    → (place + 1) * c.page_bytes-page_bytes.result ≤ length c.deref_mut.result.now
-within_bytes c place low =
-    let d = c.args.self.now in
-    let room = mul-le-mul_right c.page_bytes-page_bytes.result (the_next place (blocks_of d.geometry * pages_of d.geometry) low) in
-    omega (
-      arith,
-      room,
-      d.bytes_sized,
-      ap (λ (xs : List ℕ). length xs) c.deref_mut.ensures.value,
-      ap (λ (k : ℕ). blocks_of d.geometry * pages_of d.geometry * k) c.page_bytes-page_bytes.ensures,
-    )
-  where
-    the_next : (k n : ℕ) → k < n → k + 1 ≤ n
-    the_next k n h = omega (arith, h)
-
-pub move_page-requires-clause-from_within : goal.move_page-requires-clause-from_within
-move_page-requires-clause-from_within c =
-    within_bytes (goal.at.move_page-requires-clause-from_within c).After-deref_mut c.place_of-source.result c.place_of-source.ensures.within
-
-pub move_page-requires-clause-to_within : goal.move_page-requires-clause-to_within
-move_page-requires-clause-to_within c =
-    within_bytes (goal.at.move_page-requires-clause-to_within c).After-deref_mut c.place_of-place.result c.place_of-place.ensures.within
 
 -- the page that is programmed isn't the one that is copied, which is programmed already
 pub move_page-requires-clause-apart : goal.move_page-requires-clause-apart
@@ -54,24 +22,12 @@ move_page-requires-clause-apart c = λ e.
     (sym c.place_of-source.ensures.value ∙ (e ∙ c.place_of-place.ensures.value)) in
     omega (arith, same.1, c.requires.source.programmed, c.requires.next.next, ap (λ (b : ℕ). length (block_of d b).pages) same.0)
 
-pub index-requires : goal.index-requires
-index-requires c =
-    let d = c.args.self.now in
-    omega (arith, c.place_of-source.ensures.within, d.stamps_sized, d.stamps.ok.0)
-
 the_state : (c : After-index_mut-2) → c.index_mut-2.result.now ≡ state_of c.args.self.now c.args.to.block
 the_state c = state_read c.args.self.now c.args.to.block c.index_mut-2.result.now c.requires.next.usable.within c.index_mut-2.ensures.value
 
 pub overflow_add-index_mut : goal.overflow_add-index_mut
 overflow_add-index_mut c =
-    let e = the_state (goal.at.overflow_add-index_mut c).After-index_mut-2 in
-    omega (
-      arith,
-      ap (λ (s : BlockState). s.next) e,
-      next-state c.args.self.now c.args.to c.requires.next,
-      c.requires.next.within,
-      c.args.self.now.geometry.in_limits.pages_high,
-    )
+    omega (arith, next_small c.args.self.now c.args.to c.requires.next (the_state (goal.at.overflow_add-index_mut c).After-index_mut-2))
 
 -- the place holds what the source's holds, and the other places what they held
 the_bytes : (c : After-index_mut-2) → ((with_items c.args.self.now.bytes c.move_page.new.bytes).items ≡ c.move_page.new.bytes)

@@ -1,11 +1,8 @@
-use Rattle.std.proofs.Common.{◌≡◌, ◌∙◌, ℕ, ◌+◌, eqb, cond, Bool, true, false, List, set, sym, ap, refl, length-set, arith}
+use Rattle.std.proofs.Common.{◌≡◌, ◌∙◌, ℕ, ◌+◌, eqb, cond, Bool, true, false, List, set, sym, ap, refl, length-set}
 use mir.Val.{bool_byte}
 use Rattle.geometry.specs.Geometry.{endurance_of, page_bytes_of, pages_of}
-use Rattle.die.specs.declared.block_state.BlockState.{BlockState}
-use Rattle.die.specs.Die.{block_of}
-use Rattle.die.specs.Pages.{Block}
-use Rattle.die.specs.Storage.{block_in}
-use Rattle.die.proofs.DieLemmas.{state_of, state_read, erases-block, erases_below, wiped, sound-set, sound-wiped, changes_by_wiping}
+use Rattle.die.specs.{declared.block_state.BlockState.BlockState, Die.block_of, Pages.Block, Storage.block_in}
+use Rattle.die.proofs.DieLemmas.{state_of, state_read, erases-block, wiped, sound-set, sound-wiped, changes_by_wiping}
 use Rattle.die.proofs.die.Die.erase.Goals as goal
 use Rattle.die.proofs.die.Die.erase.Goals.{After-index_mut-state}
 
@@ -52,17 +49,3 @@ returns-clause-changes c =
       others = λ k apart low. ap (λ (E : ℕ). by E k) c.endurance-endurance.ensures.value ∙ w.1 k apart;
       geometry = refl;
     }
-
-pub index_mut-state-requires : goal.index_mut-state-requires
-index_mut-state-requires c = let low = c.requires.within in let sized = c.args.self.now.states_sized in let is = c.args.self.now.states.ok.0 in omega arith
-
-pub overflow_add-state : goal.overflow_add-state
-overflow_add-state c =
-    let d = c.args.self.now in
-    let e = the_state (goal.at.overflow_add-state c).After-index_mut-state in
-    let left = erases_below d c.args.block c.requires.within c.requires.not_retired in
-    let most = d.geometry.in_limits.endurance_high in
-    omega (arith, ap (λ (t : BlockState). t.erases) e, erases-block d c.args.block, left, most)
-
-pub returns-clause-copybacks : goal.returns-clause-copybacks
-returns-clause-copybacks c = refl

@@ -1,13 +1,7 @@
-use Rattle.std.proofs.lemmas.Grind.{common_steps}
+use Rattle.std.{specs.List.range_with_len, proofs.lemmas.List.get_or-replicate}
 use Rattle.std.proofs.Common.{◌≡◌, ◌∙◌, ◌+◌, ◌*◌, List, get_or, map, replicate, refl, ap, arith, rules}
-use Rattle.std.specs.List.{range_with_len}
-use Rattle.std.proofs.lemmas.List.{get_or-replicate}
 use Rattle.geometry.specs.Geometry.{pages_of, page_bytes_of}
-use Rattle.die.specs.declared.block_state.BlockState.{BlockState}
-use Rattle.die.specs.Die.{block_of}
-use Rattle.die.specs.Pages.{Block}
-use Rattle.die.specs.Sound.{unused}
-use Rattle.die.specs.Storage.{stored, block_in}
+use Rattle.die.specs.{declared.block_state.BlockState.BlockState, Die.block_of, Pages.Block, Sound.unused, Storage.stored, Storage.block_in}
 use Rattle.die.proofs.die.Die.new.Goals as goal
 
 pub returns : goal.returns
@@ -29,12 +23,3 @@ returns c = record {
       ap by state;
   copybacks = refl;
 }
-
-pub overflow_mul-places : goal.overflow_mul-places
-overflow_mul-places c = grind (arith, common_steps)
-
-pub overflow_mul-places-2 : goal.overflow_mul-places-2
-overflow_mul-places-2 c = grind (arith, common_steps)
-
-pub invariant_of-result : goal.invariant_of-result
-invariant_of-result c = grind (arith, common_steps)

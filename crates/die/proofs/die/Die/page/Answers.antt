@@ -1,14 +1,10 @@
 use Rattle.std.proofs.Common.{◌∙◌, ℕ, List, ap, sym, arith}
 use Rattle.geometry.specs.Geometry.{page_bytes_of}
-use Rattle.die.specs.Pages.{Page}
-use Rattle.die.specs.Slots.{slot}
-use Rattle.die.specs.Storage.{stored}
-use Rattle.die.proofs.DieLemmas.{pages_within, page-stored}
+use Rattle.die.{specs.Pages.Page, specs.Slots.slot, specs.Storage.stored, proofs.DieLemmas.pages_within, proofs.DieLemmas.page-stored}
 use Rattle.die.proofs.die.Die.page.Goals as goal
 
 pub place_of-requires-clause-page : goal.place_of-requires-clause-page
-place_of-requires-clause-page c =
-    omega (arith, c.requires.programmed, pages_within c.args.self.now c.args.at.block c.requires.usable.within)
+place_of-requires-clause-page c = omega (arith, c.requires.programmed, pages_within c.args.self.now c.args.at.block c.requires.usable.within)
 
 pub returns-clause-value : goal.returns-clause-value
 unfolding stored

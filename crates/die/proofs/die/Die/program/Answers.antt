@@ -1,45 +1,20 @@
-use Rattle.std.proofs.Common.{◌≡◌, ◌∙◌, ℕ, ◌+◌, ◌*◌, ◌≤◌, List, length, sym, ap, refl, subst, arith, rules, length-set}
-use Rattle.std.specs.Vec.{with_items, vec_len}
-use Rattle.std.proofs.lemmas.List.{with_items_is, take_all}
-use Rattle.std.proofs.Math.Nat.{mul-le-mul_right}
-use Rattle.geometry.specs.Geometry.{blocks_of, pages_of, page_bytes_of}
-use Rattle.die.specs.declared.block_state.BlockState.{BlockState}
-use Rattle.die.specs.Pages.{Page}
-use Rattle.die.specs.Slots.{PutsSlot}
-use Rattle.die.proofs.DieLemmas.{state_of, state_read, next-state, counted, sound-set, sound-counted, adds_page, changes_by_adding}
+use Rattle.std.proofs.Common.{◌≡◌, ◌∙◌, ℕ, List, length, sym, ap, refl, subst, arith, rules, length-set}
+use Rattle.std.{specs.Vec.with_items, specs.Vec.vec_len, proofs.lemmas.List.with_items_is, proofs.lemmas.List.take_all}
+use Rattle.geometry.specs.Geometry.{page_bytes_of}
+use Rattle.die.specs.{Pages.Page, Slots.PutsSlot}
+use Rattle.die.proofs.DieLemmas.{state_of, state_read, next_small, counted, sound-set, sound-counted, adds_page, changes_by_adding}
 use Rattle.die.proofs.die.Die.program.Goals as goal
 use Rattle.die.proofs.die.Die.program.Goals.{After-index_mut-2}
 
--- the same of a page that is the same
-fits_same : (page bytes : List ℕ) (k n : ℕ) → page ≡ bytes → k * length bytes ≤ n → k * length page ≤ n
-fits_same page bytes k n e h = rw e h
-
 puts_same : (place : ℕ) (old new page bytes : List ℕ) → PutsSlot (length page) old new place page → page ≡ bytes → PutsSlot (length bytes) old new place bytes
 puts_same place old new page bytes h e = subst (λ (xs : List ℕ). PutsSlot (length xs) old new place xs) e h
-
-pub put_page-requires : goal.put_page-requires
-put_page-requires c =
-    let d = c.args.self.now in
-    let g = d.geometry in
-    let place : c.place_of-place.result + 1 ≤ blocks_of g * pages_of g = omega (arith, c.place_of-place.ensures.within) in
-    let room : (c.place_of-place.result + 1) * page_bytes_of g ≤ blocks_of g * pages_of g * page_bytes_of g = mul-le-mul_right (page_bytes_of g) place in
-    let long : length c.deref_mut.result.now ≡ length d.bytes.items = ap (λ (xs : List ℕ). length xs) c.deref_mut.ensures.value in
-    fits_same _ c.args.bytes.now (c.place_of-place.result + 1) _ (search (rules, take_all))
-    (omega (arith, room, long, d.bytes_sized, ap (λ (n : ℕ). (c.place_of-place.result + 1) * n) c.requires.size))
 
 the_state : (c : After-index_mut-2) → c.index_mut-2.result.now ≡ state_of c.args.self.now c.args.at.block
 the_state c = state_read c.args.self.now c.args.at.block c.index_mut-2.result.now c.requires.next.usable.within c.index_mut-2.ensures.value
 
 pub overflow_add-index_mut : goal.overflow_add-index_mut
 overflow_add-index_mut c =
-    let e = the_state (goal.at.overflow_add-index_mut c).After-index_mut-2 in
-    omega (
-      arith,
-      ap (λ (s : BlockState). s.next) e,
-      next-state c.args.self.now c.args.at c.requires.next,
-      c.requires.next.within,
-      c.args.self.now.geometry.in_limits.pages_high,
-    )
+    omega (arith, next_small c.args.self.now c.args.at c.requires.next (the_state (goal.at.overflow_add-index_mut c).After-index_mut-2))
 
 -- the place holds the bytes, and the other places what they held
 the_bytes : (c : After-index_mut-2) → ((with_items c.args.self.now.bytes c.put_page.new.bytes).items ≡ c.put_page.new.bytes)

@@ -1,21 +1,14 @@
-use Rattle.std.proofs.Common.{◌≡◌, ◌∙◌, ℕ, ◌<◌, ◌≤◌, ◌+◌, ◌*◌, List, length, replicate, get_or, ap, sym, arith, rules}
-use Rattle.std.proofs.lemmas.List.{get_or_past, get_or_read}
-use Rattle.std.proofs.Math.Nat.{mul-le-mul_right}
-use Rattle.geometry.specs.Geometry.{blocks_of, pages_of, page_bytes_of}
-use Rattle.die.specs.declared.block_state.BlockState.{BlockState}
-use Rattle.die.specs.declared.die.Die.{Die}
-use Rattle.die.specs.Die.{block_of}
-use Rattle.die.specs.Pages.{Page, page_at, erased_page}
-use Rattle.die.specs.Slots.{slot}
-use Rattle.die.specs.Storage.{stored}
-use Rattle.die.proofs.DieLemmas.{state_read, length-block, pages_within, page-stored}
+use Rattle.std.proofs.Common.{◌≡◌, ◌∙◌, ℕ, ◌<◌, ◌≤◌, List, length, replicate, get_or, ap, sym, arith, rules}
+use Rattle.std.proofs.{lemmas.List.get_or_past, lemmas.List.get_or_read}
+use Rattle.geometry.specs.Geometry.{blocks_of, page_bytes_of}
+use Rattle.die.specs.{declared.block_state.BlockState.BlockState, declared.die.Die.Die, Die.block_of, Pages.Page, Pages.page_at, Pages.erased_page, Slots.slot}
+use Rattle.die.{specs.Storage.stored, proofs.DieLemmas.state_read, proofs.DieLemmas.length-block, proofs.DieLemmas.pages_within, proofs.DieLemmas.page-stored}
 use Rattle.die.proofs.die.Die.read.Goals as goal
 use Rattle.die.proofs.die.Die.read.Goals.{After-index, After-get_page}
 
 -- the state that was read counts the block's pages
 the_next : (d : Die) (b : ℕ) (s : BlockState) → b < blocks_of d.geometry → s ≡ get_or d.states.items b s → s.next ≡ length (block_of d b).pages
-the_next d b s within is =
-    ap (λ (t : BlockState). t.next) (state_read d b s within is) ∙ sym (length-block d b)
+the_next d b s within is = ap (λ (t : BlockState). t.next) (state_read d b s within is) ∙ sym (length-block d b)
 
 -- past the programmed pages a read shows ones
 shown : (c : After-index) → c.index.result.now.next ≤ c.args.at.page
@@ -42,18 +35,6 @@ place_of-place-requires-clause-page c =
       the_next c.args.self.now c.args.at.block c.index.result.now c.requires.usable.within c.index.ensures,
       pages_within c.args.self.now c.args.at.block c.requires.usable.within,
     )
-
-pub get_page-requires : goal.get_page-requires
-get_page-requires c =
-    let d = c.args.self.now in
-    let place : c.place_of-place.result + 1 ≤ blocks_of d.geometry * pages_of d.geometry = omega (arith, c.place_of-place.ensures.within) in
-    let room = mul-le-mul_right (page_bytes_of d.geometry) place in
-    omega (arith, room, d.bytes_sized, ap (λ (k : ℕ). (c.place_of-place.result + 1) * k) c.requires.room, ap (λ (xs : List ℕ). length xs) c.deref.ensures.value)
-
-pub index-requires-2 : goal.index-requires-2
-index-requires-2 c =
-    let d = c.args.self.now in
-    omega (arith, c.place_of-place.ensures.within, d.stamps_sized, d.stamps.ok.0)
 
 -- the page that is read, as the storage has it
 the_page : (c : After-get_page)

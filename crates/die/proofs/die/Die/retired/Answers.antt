@@ -1,8 +1,5 @@
-use Rattle.std.proofs.Common.{◌≡◌, ◌∙◌, sym, ap, arith}
-use Rattle.std.proofs.lemmas.Grind.{common_steps}
-use Rattle.die.specs.Die.{block_of}
-use Rattle.die.specs.declared.block_state.BlockState.{BlockState}
-use Rattle.die.proofs.DieLemmas.{state_read, retired-block}
+use Rattle.std.proofs.{Common.◌≡◌, Common.◌∙◌, Common.sym, Common.ap, Common.arith, lemmas.Grind.common_steps}
+use Rattle.die.{specs.Die.block_of, specs.declared.block_state.BlockState.BlockState, proofs.DieLemmas.state_read, proofs.DieLemmas.retired-block}
 use Rattle.die.proofs.die.Die.retired.Goals as goal
 
 pub returns : goal.returns

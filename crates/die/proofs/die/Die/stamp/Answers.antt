@@ -1,18 +1,9 @@
-use Rattle.std.proofs.Common.{◌∙◌, ℕ, get_or, ap, sym, arith}
-use Rattle.std.proofs.lemmas.List.{get_or_read}
-use Rattle.die.specs.Pages.{Page}
-use Rattle.die.specs.Storage.{stored}
-use Rattle.die.proofs.DieLemmas.{pages_within, page-stored}
+use Rattle.std.proofs.{Common.◌∙◌, Common.ℕ, Common.get_or, Common.ap, Common.sym, Common.arith, lemmas.List.get_or_read}
+use Rattle.die.{specs.Pages.Page, specs.Storage.stored, proofs.DieLemmas.pages_within, proofs.DieLemmas.page-stored}
 use Rattle.die.proofs.die.Die.stamp.Goals as goal
 
 pub place_of-requires-clause-page : goal.place_of-requires-clause-page
-place_of-requires-clause-page c =
-    omega (arith, c.requires.programmed, pages_within c.args.self.now c.args.at.block c.requires.usable.within)
-
-pub index-requires : goal.index-requires
-index-requires c =
-    let d = c.args.self.now in
-    omega (arith, c.place_of.ensures.within, d.stamps_sized, d.stamps.ok.0)
+place_of-requires-clause-page c = omega (arith, c.requires.programmed, pages_within c.args.self.now c.args.at.block c.requires.usable.within)
 
 pub returns : goal.returns
 unfolding stored

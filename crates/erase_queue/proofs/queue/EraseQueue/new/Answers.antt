@@ -1,10 +1,6 @@
-use Rattle.std.proofs.Common.{◌≡◌, ap, rules}
-use Rattle.std.proofs.lemmas.List.Elements.{All-push}
+use Rattle.std.proofs.{Common.◌≡◌, Common.ap, Common.rules, lemmas.List.Elements.All-push}
 use Rattle.crossbeam_queue.specs.Passes.{view, IsPassOf}
-use Rattle.erase_queue.specs.declared.pass.QueuePass.{QueuePass}
-use Rattle.erase_queue.specs.declared.sight.Sight.{Sight}
-use Rattle.erase_queue.specs.Rule.{counter, user_of}
-use Rattle.erase_queue.proofs.Course.{deals}
+use Rattle.erase_queue.{specs.declared.pass.QueuePass.QueuePass, specs.declared.sight.Sight.Sight, specs.Rule.counter, specs.Rule.user_of, proofs.Course.deals}
 use Rattle.erase_queue.proofs.queue.EraseQueue.new.Goals as goal
 
 pub another-requires-clause-rule : goal.another-requires-clause-rule

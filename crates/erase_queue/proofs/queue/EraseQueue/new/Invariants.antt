@@ -1,7 +1,6 @@
 use Rattle.std.proofs.Common.{◌≡◌, All, length}
 use Rattle.crossbeam_queue.specs.Passes.{view, IsPassOf}
-use Rattle.erase_queue.specs.declared.pass.QueuePass.{QueuePass}
-use Rattle.erase_queue.specs.Rule.{counter, dealer, user_of}
+use Rattle.erase_queue.specs.{declared.pass.QueuePass.QueuePass, Rule.counter, Rule.dealer, Rule.user_of}
 use Rattle.erase_queue.proofs.queue.EraseQueue.new.Given as goal
 
 abbrev pub invariant-loop : goal.invariant-loop

@@ -11,4 +11,4 @@ pub returns-clause-called : goal.returns-clause-called
 unfolding HasTrimmed
 returns-clause-called c low t number =
     subst (λ (w : Was). HasCalled c.args.self.now.pass (call.Trim t c.args.sector) c.args.sector w c.trim.new.pass)
-    (sym (ap was_by c.code_of.ensures ∙ was_back c.trim.result)) (c.trim.ensures.told t number)
+    (sym (ap was_by c.code_of.ensures ∙ was_back c.trim.result)) (c.trim.ensures.called t number)

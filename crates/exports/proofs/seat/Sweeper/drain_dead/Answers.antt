@@ -9,11 +9,11 @@ use Rattle.exports.proofs.seat.Sweeper.drain_dead.Goals as goal
 
 pub returns-clause-drained : goal.returns-clause-drained
 returns-clause-drained c =
-    let told = c.drain_dead-answer.ensures.told in
+    let told = c.drain_dead-answer.ensures.drained_dead in
     as_said (λ a. DeadTold c.args.self.now.broom a c.drain_dead-answer.new.broom) _ _ (dead_has_room _ _ _ told) c.hand_out.ensures.answer told
 
 pub returns-clause-below : goal.returns-clause-below
 returns-clause-below c =
     let below = subst (λ (v : Volume). IsBelow (blocks_of (numbers_of v)) c.drain_dead-answer.result) c.deref.ensures c.drain_dead-answer.ensures.block in
     as_said (IsBelow (blocks_of (numbers_of (sweeper_volume c.args.self.now)))) _ _
-    (dead_has_room _ _ _ c.drain_dead-answer.ensures.told) c.hand_out.ensures.answer below
+    (dead_has_room _ _ _ c.drain_dead-answer.ensures.drained_dead) c.hand_out.ensures.answer below

@@ -9,11 +9,11 @@ use Rattle.exports.proofs.seat.Sweeper.drain_next.Goals as goal
 
 pub returns-clause-drained : goal.returns-clause-drained
 returns-clause-drained c =
-    let told = c.drain_next-answer.ensures.told in
+    let told = c.drain_next-answer.ensures.drained_next in
     as_said (λ a. NextTold c.args.self.now.broom a c.drain_next-answer.new.broom) _ _ (next_has_room _ _ _ told) c.hand_out.ensures.answer told
 
 pub returns-clause-below : goal.returns-clause-below
 returns-clause-below c =
     let below = subst (λ (v : Volume). IsBelow (blocks_of (numbers_of v)) c.drain_next-answer.result) c.deref-2.ensures c.drain_next-answer.ensures.block in
     as_said (IsBelow (blocks_of (numbers_of (sweeper_volume c.args.self.now)))) _ _
-    (next_has_room _ _ _ c.drain_next-answer.ensures.told) c.hand_out.ensures.answer below
+    (next_has_room _ _ _ c.drain_next-answer.ensures.drained_next) c.hand_out.ensures.answer below

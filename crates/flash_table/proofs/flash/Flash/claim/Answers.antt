@@ -1,7 +1,7 @@
 use Rattle.flash_table.proofs.{Asking.whose, Asking.of_broom, HereBrooms.claim_here, Rows.just_now, Blocks.claimed_just}
-use Rattle.std.proofs.Common.{ap, sym, ◌∙◌}
+use Rattle.std.proofs.Common.{◌≡◌, [], ◌∷◌, ◌++◌, ap, sym, ◌∙◌}
 use Rattle.flash_rule.specs.BroomPlays.{Claimed}
-use Rattle.flash_table.specs.{Flash.broom_view, Flash.own_blocks, declared.broom_seat.ReclaimedBlock.ReclaimedBlock}
+use Rattle.flash_table.specs.{Flash.broom_view}
 use Rattle.flash_table.proofs.flash.Flash.claim.Goals.{After-compare_exchange-found}
 use Rattle.flash_table.proofs.ToldBrooms.{is_a_broom, stays_broom, claim_can, claimed_view}
 use Rattle.flash_table.proofs.flash.Flash.claim.Goals as goal
@@ -19,35 +19,29 @@ claimed c =
     claimed_view c.requires.broom c.args.block
     c.pack-expected.result c.args.state can c.pin_at-word.ensures c.pack-expected.ensures c.compare_exchange-found.ensures.2
 
--- ---- the claim was lost
-pub invariant_of-broom : goal.invariant_of-broom
-invariant_of-broom c =
-    let s = c.args.broom.now in
-    let told = claimed (goal.at.invariant_of-broom c).After-compare_exchange-found in
-    let changed = told.lost (λ is. c.if-found-expected.true (is ∙ sym c.pack-expected.ensures)) in
-    record { bare = c.compare_exchange-found.ensures.2.0 ∙ s.bare; owns = just_now changed s.owns }
+-- the claim was lost, or the block is the broom's victim
+lost : (c : After-compare_exchange-found) → ¬ (c.compare_exchange-found.result ≡ c.pack-expected.result)
+    → c.compare_exchange-found.new.seat.me.0 ≡ record (broom_view c.args.broom.now) { lost = (broom_view c.args.broom.now).lost ++ c.args.block ∷ [] }
+lost c other = (claimed c).lost (λ is. other (is ∙ sym c.pack-expected.ensures))
+
+pub invariant_of-broom-clause-owns : goal.invariant_of-broom-clause-owns
+invariant_of-broom-clause-owns c =
+    just_now (lost (goal.at.invariant_of-broom-clause-owns c).After-compare_exchange-found c.if-found-expected.true) c.args.broom.now.owns
 
 pub returns-then-found-expected-clause-claimed : goal.returns-then-found-expected-clause-claimed
 returns-then-found-expected-clause-claimed c =
-    let told = claimed (goal.at.returns-then-found-expected-clause-claimed c).After-compare_exchange-found in
-    told.lost (λ is. c.if-found-expected.true (is ∙ sym c.pack-expected.ensures))
+    lost (goal.at.returns-then-found-expected-clause-claimed c).After-compare_exchange-found c.if-found-expected.true
 
 pub returns-then-found-expected-clause-broom : goal.returns-then-found-expected-clause-broom
 returns-then-found-expected-clause-broom c =
-    let told = claimed (goal.at.returns-then-found-expected-clause-broom c).After-compare_exchange-found in
-    stays_broom c.requires.broom c.compare_exchange-found.ensures.0 (ap whose (told.lost (λ is. c.if-found-expected.true (is ∙ sym c.pack-expected.ensures))))
+    let at = (goal.at.returns-then-found-expected-clause-broom c).After-compare_exchange-found in
+    stays_broom c.requires.broom c.compare_exchange-found.ensures.0 (ap whose (lost at c.if-found-expected.true))
 
--- ---- the block is the broom's victim
-pub invariant_of-broom-2 : goal.invariant_of-broom-2
-invariant_of-broom-2 c =
-    let s = c.args.broom.now in
-    let told = claimed (goal.at.invariant_of-broom-2 c).After-compare_exchange-found in
+pub invariant_of-broom-2-clause-owns : goal.invariant_of-broom-2-clause-owns
+invariant_of-broom-2-clause-owns c =
+    let told = claimed (goal.at.invariant_of-broom-2-clause-owns c).After-compare_exchange-found in
     let is = c.if-found-expected.false ∙ c.pack-expected.ensures in
-    let now : ReclaimedBlock = record { block = c.args.block; generation = c.args.state.generation; written = c.args.state.written } in
-    record {
-      bare = c.compare_exchange-found.ensures.2.0 ∙ s.bare;
-      owns = just_now (told.won is) (claimed_just (own_blocks s) s.owns now c.requires.at_rest (told.fresh is));
-    }
+    just_now (told.won is) (claimed_just _ c.args.broom.now.owns _ c.requires.at_rest (told.fresh is))
 
 pub returns-clause-claimed : goal.returns-clause-claimed
 returns-clause-claimed c =

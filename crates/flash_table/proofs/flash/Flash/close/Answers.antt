@@ -1,5 +1,5 @@
 use Rattle.flash_table.proofs.{Asking.whose, Asking.of_pass, Here.close_here, flash.Flash.close.Goals.After-fetch_add}
-use Rattle.std.proofs.Common.{◌≡◌, ap, ◌∙◌}
+use Rattle.std.proofs.Common.{◌≡◌, ap}
 use Rattle.flash_rule.specs.declared.view.View.{View}
 use Rattle.flash_table.specs.{Flash.view_of, Owning.owned_of, GivingUp.closed_pass}
 use Rattle.flash_table.proofs.Told.{stays_pass, close_can, close_view, pass_closed}
@@ -17,14 +17,11 @@ closed c =
     let can = close_can c.args.self.now.geometry (view_of p) c.in-Some.is c.requires.settled in
     pass_closed p o c.in-Some.is c.fetch_add.new.seat.me.0 (close_view (of_pass c.requires.pass) o can.0 c.pin_at-word.ensures c.fetch_add.ensures.2)
 
-pub invariant_of-pass : goal.invariant_of-pass
-invariant_of-pass c = record {
-  bare = c.fetch_add.ensures.2.0 ∙ c.args.pass.now.bare;
-  owns = ap (λ (w : View). w.owns) (closed (goal.at.invariant_of-pass c).After-fetch_add);
-}
+pub invariant_of-pass-clause-owns : goal.invariant_of-pass-clause-owns
+invariant_of-pass-clause-owns c = ap (λ (w : View). w.owns) (closed (goal.at.invariant_of-pass-clause-owns c).After-fetch_add)
 
-pub returns-clause-told : goal.returns-clause-told
-returns-clause-told c = closed (goal.at.returns-clause-told c).After-fetch_add
+pub returns-clause-closed : goal.returns-clause-closed
+returns-clause-closed c = closed (goal.at.returns-clause-closed c).After-fetch_add
 
 pub returns-clause-pass : goal.returns-clause-pass
 returns-clause-pass c = stays_pass c.requires.pass c.fetch_add.ensures.0 (ap whose (closed (goal.at.returns-clause-pass c).After-fetch_add))

@@ -1,6 +1,6 @@
 use Rattle.flash_table.proofs.{Asking.whose, Asking.of_broom, Rows.just_now, Here.close_here, flash.Flash.close_destination.Goals.After-fetch_add}
 use Rattle.std.proofs.Common.{◌≡◌, ap, ◌∙◌}
-use Rattle.flash_table.specs.{Flash.broom_view, Flash.own_blocks, GivingUp.left_closed, Owning.owned_of}
+use Rattle.flash_table.specs.{Flash.broom_view, GivingUp.left_closed, Owning.owned_of}
 use Rattle.flash_table.proofs.{ToldBrooms.stays_broom, Blocks.closed_just, Told.same_block, Told.close_can, Told.close_view}
 use Rattle.flash_table.proofs.flash.Flash.close_destination.Goals as goal
 
@@ -14,13 +14,9 @@ closed c =
     let can = close_can c.args.self.now.geometry (broom_view c.args.broom.now) c.in-Some.is c.requires.settled in
     close_view (of_broom c.requires.broom) c.in-Some.opened can.0 c.pin_at-word.ensures c.fetch_add.ensures.2
 
-pub invariant_of-broom : goal.invariant_of-broom
-invariant_of-broom c =
-    let s = c.args.broom.now in
-    record {
-      bare = c.fetch_add.ensures.2.0 ∙ s.bare;
-      owns = just_now (closed (goal.at.invariant_of-broom c).After-fetch_add) (closed_just (own_blocks s) s.owns c.in-Some.is);
-    }
+pub invariant_of-broom-clause-owns : goal.invariant_of-broom-clause-owns
+invariant_of-broom-clause-owns c =
+    just_now (closed (goal.at.invariant_of-broom-clause-owns c).After-fetch_add) (closed_just _ c.args.broom.now.owns c.in-Some.is)
 
 pub returns-clause-closed : goal.returns-clause-closed
 returns-clause-closed c o is =

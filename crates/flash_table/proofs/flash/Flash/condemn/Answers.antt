@@ -1,7 +1,7 @@
 use Rattle.flash_table.proofs.{Asking.whose, Asking.of_broom, HereErasing.condemn_here}
 use Rattle.std.proofs.Common.{sym, refl, ap, ◌∙◌}
 use Rattle.flash_rule.specs.BroomPlays.{Condemned}
-use Rattle.flash_table.specs.{Flash.broom_view, Flash.own_blocks, declared.broom_seat.ReclaimedBlock.ReclaimedBlock}
+use Rattle.flash_table.specs.{Flash.broom_view}
 use Rattle.flash_table.proofs.{Rows.just_now, Blocks.condemned_just, ToldBrooms.is_a_broom, ToldBrooms.stays_broom}
 use Rattle.flash_table.proofs.{ToldErasing.can_condemn, ToldErasing.condemned, flash.Flash.condemn.Goals.After-compare_exchange-found}
 use Rattle.flash_table.proofs.flash.Flash.condemn.Goals as goal
@@ -19,11 +19,11 @@ its c =
     condemned c.requires.broom c.args.block c.pack-old.result c.args.expected c.pin_at-word.ensures c.pack-old.ensures can c.compare_exchange-found.ensures.2
 
 -- ---- its word wasn't the one expected
-pub invariant_of-broom : goal.invariant_of-broom
-invariant_of-broom c =
-    let s = c.args.broom.now in
-    let changed = (its (goal.at.invariant_of-broom c).After-compare_exchange-found).busy (λ is. c.if-found-old.true (is ∙ sym c.pack-old.ensures)) in
-    record { bare = c.compare_exchange-found.ensures.2.0 ∙ s.bare; owns = just_now changed s.owns }
+pub invariant_of-broom-clause-owns : goal.invariant_of-broom-clause-owns
+invariant_of-broom-clause-owns c =
+    let told = its (goal.at.invariant_of-broom-clause-owns c).After-compare_exchange-found in
+    let changed = told.busy (λ is. c.if-found-old.true (is ∙ sym c.pack-old.ensures)) in
+    just_now changed c.args.broom.now.owns
 
 pub returns-then-found-old-clause-condemned : goal.returns-then-found-old-clause-condemned
 returns-then-found-old-clause-condemned c =
@@ -36,16 +36,11 @@ returns-then-found-old-clause-broom c =
     stays_broom c.requires.broom c.compare_exchange-found.ensures.0 (ap whose (told.busy (λ is. c.if-found-old.true (is ∙ sym c.pack-old.ensures))))
 
 -- ---- the block is the broom's to erase
-pub invariant_of-broom-2 : goal.invariant_of-broom-2
-invariant_of-broom-2 c =
-    let s = c.args.broom.now in
-    let told = its (goal.at.invariant_of-broom-2 c).After-compare_exchange-found in
+pub invariant_of-broom-2-clause-owns : goal.invariant_of-broom-2-clause-owns
+invariant_of-broom-2-clause-owns c =
+    let told = its (goal.at.invariant_of-broom-2-clause-owns c).After-compare_exchange-found in
     let is = c.if-found-old.false ∙ c.pack-old.ensures in
-    let o : ReclaimedBlock = record { block = c.args.block; generation = c.args.expected.generation; written = c.args.expected.written } in
-    record {
-      bare = c.compare_exchange-found.ensures.2.0 ∙ s.bare;
-      owns = just_now (told.won is) (condemned_just (own_blocks s) s.owns o c.requires.rested (told.fresh is));
-    }
+    just_now (told.won is) (condemned_just _ c.args.broom.now.owns _ c.requires.rested (told.fresh is))
 
 pub returns-clause-condemned : goal.returns-clause-condemned
 returns-clause-condemned c =

@@ -21,15 +21,15 @@ counted c o x is can =
     (count_view (of_pass c.requires.pass) o x can
     (c.pin_at-word.ensures ∙ ap (λ (y : OpenBlock). pin_index (device c.args.self.now) y.block) (same_block c.in-Some.is is)) c.fetch_add.ensures.2)
 
-pub invariant_of-pass : goal.invariant_of-pass
-invariant_of-pass c =
+pub invariant_of-pass-clause-owns : goal.invariant_of-pass-clause-owns
+invariant_of-pass-clause-owns c =
     let p = c.args.pass.now in
     let can = count_can c.args.self.now.geometry (view_of p) c.in-Some.is c.requires.filled in
-    let changed = counted (goal.at.invariant_of-pass c).After-fetch_add c.in-Some.opened can.0 c.in-Some.is can.1 in
-    record { bare = c.fetch_add.ensures.2.0 ∙ p.bare; owns = ap (λ (w : View). w.owns) changed }
+    let changed = counted (goal.at.invariant_of-pass-clause-owns c).After-fetch_add c.in-Some.opened can.0 c.in-Some.is can.1 in
+    ap (λ (w : View). w.owns) changed
 
-pub returns-clause-told : goal.returns-clause-told
-returns-clause-told c = counted (goal.at.returns-clause-told c).After-fetch_add
+pub returns-clause-counted : goal.returns-clause-counted
+returns-clause-counted c = counted (goal.at.returns-clause-counted c).After-fetch_add
 
 pub returns-clause-pass : goal.returns-clause-pass
 returns-clause-pass c =

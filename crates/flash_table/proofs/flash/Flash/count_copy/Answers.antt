@@ -22,16 +22,13 @@ counted c o x is can =
     count_view (of_broom c.requires.broom) o x can
     (c.pin_at-word.ensures ∙ ap (λ (y : OpenBlock). pin_index (device c.args.self.now) y.block) (same_block c.in-Some.is is)) c.fetch_add.ensures.2
 
-pub invariant_of-broom : goal.invariant_of-broom
-invariant_of-broom c =
+pub invariant_of-broom-clause-owns : goal.invariant_of-broom-clause-owns
+invariant_of-broom-clause-owns c =
     let s = c.args.broom.now in
     let o = c.in-Some.opened in
     let can = count_can c.args.self.now.geometry (broom_view s) c.in-Some.is c.requires.filled in
-    record {
-      bare = c.fetch_add.ensures.2.0 ∙ s.bare;
-      owns = just_now (counted (goal.at.invariant_of-broom c).After-fetch_add o can.0 c.in-Some.is can.1)
-          (counted_just (own_blocks s) s.owns (record o { written = o.written + 1 }) c.in-Some.is refl);
-    }
+    just_now (counted (goal.at.invariant_of-broom-clause-owns c).After-fetch_add o can.0 c.in-Some.is can.1)
+    (counted_just (own_blocks s) s.owns (record o { written = o.written + 1 }) c.in-Some.is refl)
 
 pub returns-clause-counted : goal.returns-clause-counted
 returns-clause-counted c = counted (goal.at.returns-clause-counted c).After-fetch_add

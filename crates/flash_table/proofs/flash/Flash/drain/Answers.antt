@@ -1,7 +1,7 @@
 use Rattle.flash_table.proofs.{Asking.whose, Asking.of_broom, HereBrooms.drain_here}
 use Rattle.std.proofs.Common.{◌≡◌, ap, ◌∙◌}
 use Rattle.geometry.specs.declared.pin_word.Phase.TheVariants.{Victim}
-use Rattle.flash_table.specs.{GivingUp.left_drained, Owning.reclaimed_as, Flash.broom_view, Flash.own_blocks}
+use Rattle.flash_table.specs.{GivingUp.left_drained, Owning.reclaimed_as, Flash.broom_view}
 use Rattle.flash_table.proofs.{Rows.just_now, Blocks.drained_just, flash.Flash.drain.Goals.After-fetch_add}
 use Rattle.flash_table.proofs.ToldBrooms.{stays_broom, draining_same, drain_can, drained_view}
 use Rattle.flash_table.proofs.flash.Flash.drain.Goals as goal
@@ -17,13 +17,9 @@ drained c =
     let o = c.in-Draining.victim in
     drained_view c.requires.broom o (drain_can c.requires.broom o c.in-Draining.is c.requires.emptied).1 c.pin_at-word.ensures c.fetch_add.ensures.2
 
-pub invariant_of-broom : goal.invariant_of-broom
-invariant_of-broom c =
-    let s = c.args.broom.now in
-    record {
-      bare = c.fetch_add.ensures.2.0 ∙ s.bare;
-      owns = just_now (drained (goal.at.invariant_of-broom c).After-fetch_add) (drained_just (own_blocks s) s.owns c.in-Draining.is);
-    }
+pub invariant_of-broom-clause-owns : goal.invariant_of-broom-clause-owns
+invariant_of-broom-clause-owns c =
+    just_now (drained (goal.at.invariant_of-broom-clause-owns c).After-fetch_add) (drained_just _ c.args.broom.now.owns c.in-Draining.is)
 
 pub returns-clause-drained : goal.returns-clause-drained
 returns-clause-drained c e is =

@@ -1,6 +1,6 @@
 use Rattle.flash_table.proofs.{Asking.whose, Asking.of_broom, Rows.just_now, Blocks.erased_just}
 use Rattle.std.proofs.Common.{◌≡◌, ap, ◌∙◌, arith}
-use Rattle.flash_table.specs.{Flash.broom_view, Flash.own_blocks, GivingUp.left_free}
+use Rattle.flash_table.specs.{Flash.broom_view, GivingUp.left_free}
 use Rattle.flash_table.proofs.{ToldBrooms.stays_broom, HereErasing.freed_here}
 use Rattle.flash_table.proofs.ToldErasing.{same_erased, live_on, can_renew, freed_view}
 use Rattle.flash_table.proofs.flash.Flash.free_block.Goals as goal
@@ -17,13 +17,9 @@ freed c =
     let o = c.in-Erasing.erased in
     freed_view c.requires.broom c.freed.result o (live_on c.requires.broom o c.in-Erasing.is c.requires.wiped) c.pin_at-word.ensures c.fetch_add.ensures.2
 
-pub invariant_of-broom : goal.invariant_of-broom
-invariant_of-broom c =
-    let s = c.args.broom.now in
-    record {
-      bare = c.fetch_add.ensures.2.0 ∙ s.bare;
-      owns = just_now (freed (goal.at.invariant_of-broom c).After-fetch_add) (erased_just (own_blocks s) s.owns c.in-Erasing.is);
-    }
+pub invariant_of-broom-clause-owns : goal.invariant_of-broom-clause-owns
+invariant_of-broom-clause-owns c =
+    just_now (freed (goal.at.invariant_of-broom-clause-owns c).After-fetch_add) (erased_just _ c.args.broom.now.owns c.in-Erasing.is)
 
 pub returns-clause-freed : goal.returns-clause-freed
 returns-clause-freed c x is =

@@ -31,10 +31,9 @@ got c =
     stamp_view c.requires.broom c.args.page o (stamp_can c.requires.broom o c.args.page c.in-Draining.is its.1 c.requires.cleared) c.requires.cleared
     (c.page_word_at-place.ensures ∙ ap (λ i. page_index (device f) o.block c.args.page + i) c.words.ensures.value) c.load.ensures.2
 
-pub invariant_of-broom : goal.invariant_of-broom
-invariant_of-broom c =
-    let s = c.args.broom.now in
-    record { bare = c.load.ensures.2.0 ∙ s.bare; owns = just_now (stamp_changed _ _ _ _ (got (goal.at.invariant_of-broom c).After-load)) s.owns }
+pub invariant_of-broom-clause-owns : goal.invariant_of-broom-clause-owns
+invariant_of-broom-clause-owns c =
+    just_now (stamp_changed _ _ _ _ (got (goal.at.invariant_of-broom-clause-owns c).After-load)) c.args.broom.now.owns
 
 pub returns-clause-stamp : goal.returns-clause-stamp
 returns-clause-stamp c e is =

@@ -14,8 +14,8 @@ load-requires c =
     get_here (of_pass c.requires.pass) c.args.page c.args.i c.requires.block c.requires.page c.requires.word
     (word_place c.args.self.now c.args.page c.args.start c.args.i c.requires.start) c.requires.pinned
 
-pub returns-clause-told : goal.returns-clause-told
-returns-clause-told c value pin =
+pub returns-clause-value : goal.returns-clause-value
+returns-clause-value c value pin =
     let at = word_place c.args.self.now c.args.page c.args.start c.args.i c.requires.start in
     get_value c.requires.pass (c.args.start + c.args.i) c.args.i c.args.page value pin c.requires.word at c.load.ensures.2
 

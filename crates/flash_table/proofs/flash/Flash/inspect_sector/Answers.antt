@@ -1,5 +1,5 @@
 use Rattle.flash_table.proofs.{Asking.whose, Asking.of_broom, Rows.just_now, HereBrooms.inspect_here}
-use Rattle.std.proofs.Common.{ap, ◌∙◌}
+use Rattle.std.proofs.Common.{ap}
 use Rattle.flash_table.proofs.ToldBrooms.{is_a_broom, stays_broom, inspected_by, inspected_changed}
 use Rattle.flash_table.proofs.flash.Flash.inspect_sector.Goals as goal
 
@@ -7,13 +7,9 @@ pub load-found-requires : goal.load-found-requires
 load-found-requires c =
     inspect_here (of_broom c.requires.broom) c.args.block c.args.sector c.args.state c.requires.sector (is_a_broom c.requires.broom) c.requires.next
 
-pub invariant_of-broom : goal.invariant_of-broom
-invariant_of-broom c =
-    let s = c.args.broom.now in
-    record {
-      bare = c.load-found.ensures.2.0 ∙ s.bare;
-      owns = just_now ((inspected_changed _ _ _ _ _ _ (c.load-found.ensures.2.1 c.args.block c.args.state c.requires.next))) s.owns;
-    }
+pub invariant_of-broom-clause-owns : goal.invariant_of-broom-clause-owns
+invariant_of-broom-clause-owns c =
+    just_now ((inspected_changed _ _ _ _ _ _ (c.load-found.ensures.2.1 c.args.block c.args.state c.requires.next))) c.args.broom.now.owns
 
 pub returns-clause-inspected : goal.returns-clause-inspected
 returns-clause-inspected c =

@@ -25,14 +25,11 @@ kept c =
     let o = c.in-Erasing.erased in
     kept_view c.requires.broom c.kept.result o (live_on c.requires.broom o c.in-Erasing.is c.requires.wiped) c.pin_at-word.ensures c.fetch_add.ensures.2
 
-pub invariant_of-broom : goal.invariant_of-broom
-invariant_of-broom c =
+pub invariant_of-broom-clause-owns : goal.invariant_of-broom-clause-owns
+invariant_of-broom-clause-owns c =
     let s = c.args.broom.now in
-    record {
-      bare = c.fetch_add.ensures.2.0 ∙ s.bare;
-      owns = just_now (kept (goal.at.invariant_of-broom c).After-fetch_add)
-          (kept_just (own_blocks s) s.owns (renewed c.in-Erasing.erased) c.in-Erasing.is c.requires.no_spare refl);
-    }
+    just_now (kept (goal.at.invariant_of-broom-clause-owns c).After-fetch_add)
+    (kept_just (own_blocks s) s.owns (renewed c.in-Erasing.erased) c.in-Erasing.is c.requires.no_spare refl)
 
 pub returns-clause-kept : goal.returns-clause-kept
 returns-clause-kept c x is =

@@ -13,11 +13,11 @@ load-found-requires c = state_here (of_broom c.requires.broom) c.args.block c.re
 loaded : (c : After-load-found) → Loaded (broom_view c.args.broom.now) c.args.block c.load-found.result c.load-found.new.seat.me.0
 loaded c = loaded_view c.requires.broom c.args.block c.requires.block c.pin_at-word.ensures c.load-found.ensures.2
 
-pub invariant_of-broom : goal.invariant_of-broom
-invariant_of-broom c =
+pub invariant_of-broom-clause-owns : goal.invariant_of-broom-clause-owns
+invariant_of-broom-clause-owns c =
     let s = c.args.broom.now in
-    let changed = loaded_changed _ _ _ _ (loaded (goal.at.invariant_of-broom c).After-load-found) in
-    record { bare = c.load-found.ensures.2.0 ∙ s.bare; owns = just_now changed s.owns }
+    let changed = loaded_changed _ _ _ _ (loaded (goal.at.invariant_of-broom-clause-owns c).After-load-found) in
+    just_now changed s.owns
 
 pub unreachable-requires : goal.unreachable-requires
 unreachable-requires c =

@@ -5,5 +5,5 @@ use Rattle.flash_table.proofs.flash.Flash.look.Goals as goal
 pub load-found-requires : goal.load-found-requires
 load-found-requires c = look_here (of_pass c.requires.pass) c.args.sector c.requires.pass.role c.requires.unpinned c.requires.sector
 
-pub returns-clause-told : goal.returns-clause-told
-returns-clause-told c = grind (arith, common_steps)
+pub returns-clause-looked : goal.returns-clause-looked
+returns-clause-looked c = grind (arith, common_steps)

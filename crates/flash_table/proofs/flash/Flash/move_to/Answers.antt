@@ -20,11 +20,11 @@ moved c =
     c.pack-old.result c.pack-new.result t.0 c.args.from c.args.to t.1 c.requires.fits t.2.0 t.2.1 c.pack-old.ensures c.pack-new.ensures
     c.compare_exchange-found.ensures.2
 
-pub invariant_of-broom : goal.invariant_of-broom
-invariant_of-broom c =
+pub invariant_of-broom-clause-owns : goal.invariant_of-broom-clause-owns
+invariant_of-broom-clause-owns c =
     let s = c.args.broom.now in
-    let told = moved (goal.at.invariant_of-broom c).After-compare_exchange-found in
-    record { bare = c.compare_exchange-found.ensures.2.0 ∙ s.bare; owns = just_now told.changed s.owns }
+    let told = moved (goal.at.invariant_of-broom-clause-owns c).After-compare_exchange-found in
+    just_now told.changed s.owns
 
 pub returns-clause-moved : goal.returns-clause-moved
 returns-clause-moved c x is =

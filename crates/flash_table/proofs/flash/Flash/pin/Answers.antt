@@ -12,17 +12,17 @@ pinned : (c : After-fetch_add-found) (value : List ℕ) → (view_of c.args.pass
     → Pinned (view_of c.args.pass.now) c.args.page value c.fetch_add-found.result c.fetch_add-found.new.seat.me.0
 pinned c value pin = pin_pinned c.requires.pass c.pin_at-word.result c.args.page value pin c.pin_at-word.ensures c.fetch_add-found.ensures.2
 
-pub invariant_of-pass : goal.invariant_of-pass
-invariant_of-pass c =
-    let told = pinned (goal.at.invariant_of-pass c).After-fetch_add-found c.requires.candidate.0 c.requires.candidate.1 in
-    record { bare = c.fetch_add-found.ensures.2.0 ∙ c.args.pass.now.bare; owns = ap (λ (w : View). w.owns) told.changed ∙ c.args.pass.now.owns }
+pub invariant_of-pass-clause-owns : goal.invariant_of-pass-clause-owns
+invariant_of-pass-clause-owns c =
+    let told = pinned (goal.at.invariant_of-pass-clause-owns c).After-fetch_add-found c.requires.candidate.0 c.requires.candidate.1 in
+    ap (λ (w : View). w.owns) told.changed ∙ c.args.pass.now.owns
 
 pub returns-clause-pass : goal.returns-clause-pass
 returns-clause-pass c =
     let told = pinned (goal.at.returns-clause-pass c).After-fetch_add-found c.requires.candidate.0 c.requires.candidate.1 in
     stays_pass c.requires.pass c.fetch_add-found.ensures.0 (ap whose told.changed)
 
-pub returns-clause-told : goal.returns-clause-told
-returns-clause-told c value pin =
-    let told = pinned (goal.at.returns-clause-told c).After-fetch_add-found value pin in
+pub returns-clause-pinned : goal.returns-clause-pinned
+returns-clause-pinned c value pin =
+    let told = pinned (goal.at.returns-clause-pinned c).After-fetch_add-found value pin in
     by_outcome c.finds_intact.result _ _ _ _ (pin_yes told) (pin_no told) c.finds_intact.ensures

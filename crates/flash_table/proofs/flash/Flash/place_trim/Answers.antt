@@ -8,13 +8,13 @@ use Rattle.flash_table.proofs.flash.Flash.place_trim.Goals as goal
 pub swap-found-requires : goal.swap-found-requires
 swap-found-requires c = trim_here (of_pass c.requires.pass) c.args.sector c.requires.pass.role c.requires.sector
 
-pub invariant_of-pass : goal.invariant_of-pass
-invariant_of-pass c =
+pub invariant_of-pass-clause-owns : goal.invariant_of-pass-clause-owns
+invariant_of-pass-clause-owns c =
     let t = trim_changed c.requires.pass c.args.sector c.swap-found.ensures.2 in
-    record { bare = c.swap-found.ensures.2.0 ∙ c.args.pass.now.bare; owns = ap (λ (w : View). w.owns) t.1.changed ∙ c.args.pass.now.owns }
+    ap (λ (w : View). w.owns) t.1.changed ∙ c.args.pass.now.owns
 
-pub returns-clause-told : goal.returns-clause-told
-returns-clause-told c t role =
+pub returns-clause-called : goal.returns-clause-called
+returns-clause-called c t role =
     called (view_of c.args.pass.now) _ c.args.sector c.swap-found.result _ _ (c.swap-found.ensures.2.1 t role) c.was_by.ensures.empty c.was_by.ensures.written
 
 pub returns-clause-pass : goal.returns-clause-pass

@@ -17,13 +17,13 @@ placed : (c : After-swap-found)
 placed c = write_changed c.requires.pass c.args.sector c.pack-word.result
     c.args.page c.pack-word.ensures c.requires.page c.requires.counted c.swap-found.ensures.2
 
-pub invariant_of-pass : goal.invariant_of-pass
-invariant_of-pass c =
-    let t = placed (goal.at.invariant_of-pass c).After-swap-found in
-    record { bare = c.swap-found.ensures.2.0 ∙ c.args.pass.now.bare; owns = ap (λ (w : View). w.owns) t.2.changed ∙ c.args.pass.now.owns }
+pub invariant_of-pass-clause-owns : goal.invariant_of-pass-clause-owns
+invariant_of-pass-clause-owns c =
+    let t = placed (goal.at.invariant_of-pass-clause-owns c).After-swap-found in
+    ap (λ (w : View). w.owns) t.2.changed ∙ c.args.pass.now.owns
 
-pub returns-clause-told : goal.returns-clause-told
-returns-clause-told c t value role can =
+pub returns-clause-placed : goal.returns-clause-placed
+returns-clause-placed c t value role can =
     called (view_of c.args.pass.now) _ c.args.sector c.swap-found.result _ _
     (c.swap-found.ensures.2.1 t c.args.page value role c.pack-word.ensures c.requires.page can) c.was_by.ensures.empty c.was_by.ensures.written
 

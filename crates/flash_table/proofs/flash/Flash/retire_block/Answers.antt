@@ -1,6 +1,6 @@
 use Rattle.flash_table.proofs.{Asking.whose, Asking.of_broom, Rows.just_now, Blocks.erased_just}
 use Rattle.std.proofs.Common.{◌≡◌, ap, ◌∙◌}
-use Rattle.flash_table.specs.{Flash.broom_view, Flash.own_blocks, GivingUp.left_retired}
+use Rattle.flash_table.specs.{Flash.broom_view, GivingUp.left_retired}
 use Rattle.flash_table.proofs.{HereErasing.retired_here, ToldBrooms.stays_broom, flash.Flash.retire_block.Goals.After-fetch_add}
 use Rattle.flash_table.proofs.ToldErasing.{same_erased, last_erase, can_retire, retired_view}
 use Rattle.flash_table.proofs.flash.Flash.retire_block.Goals as goal
@@ -16,13 +16,9 @@ retired c =
     let o = c.in-Erasing.erased in
     retired_view c.requires.broom o (last_erase c.requires.broom o c.in-Erasing.is c.requires.last) c.pin_at-word.ensures c.fetch_add.ensures.2
 
-pub invariant_of-broom : goal.invariant_of-broom
-invariant_of-broom c =
-    let s = c.args.broom.now in
-    record {
-      bare = c.fetch_add.ensures.2.0 ∙ s.bare;
-      owns = just_now (retired (goal.at.invariant_of-broom c).After-fetch_add) (erased_just (own_blocks s) s.owns c.in-Erasing.is);
-    }
+pub invariant_of-broom-clause-owns : goal.invariant_of-broom-clause-owns
+invariant_of-broom-clause-owns c =
+    just_now (retired (goal.at.invariant_of-broom-clause-owns c).After-fetch_add) (erased_just _ c.args.broom.now.owns c.in-Erasing.is)
 
 pub returns-clause-retired : goal.returns-clause-retired
 returns-clause-retired c x is =

@@ -9,8 +9,8 @@ load-seen-requires c =
     let seat : IsSeatOf c.args.self.now c.args.seat.now = record { table = c.requires.table; player = c.requires.player; numbers = c.requires.numbers } in
     test_here seat c.args.block c.requires.block c.pin_at-word.ensures
 
-pub returns-in_err-generation_if_free-clause-told : goal.returns-in_err-generation_if_free-clause-told
-returns-in_err-generation_if_free-clause-told c =
+pub returns-in_err-generation_if_free-clause-taken : goal.returns-in_err-generation_if_free-clause-taken
+returns-in_err-generation_if_free-clause-taken c =
     rw c.from_residual.ensures
     (tested_taken c.requires.numbers c.args.block c.requires.block c.pin_at-word.ensures c.load-seen.ensures.2 c.in_err-generation_if_free.ensures.none)
 
@@ -27,8 +27,8 @@ fetch_or-found-requires c =
       numbers = ap (λ (w : View). w.numbers) same ∙ c.requires.numbers;
     } in take_here seat c.args.block c.requires.block c.pin_at-word.ensures
 
-pub returns-clause-told : goal.returns-clause-told
-returns-clause-told c =
-    let same = unchanged (goal.at.returns-clause-told c).After-load-seen _ c.in_ok-generation_if_free.ensures.some in
+pub returns-clause-taken : goal.returns-clause-taken
+returns-clause-taken c =
+    let same = unchanged (goal.at.returns-clause-taken c).After-load-seen _ c.in_ok-generation_if_free.ensures.some in
     took_by (ap (λ (w : View). w.numbers) same ∙ c.requires.numbers) c.args.block c.requires.block c.pin_at-word.ensures same c.fetch_or-found.ensures.2
     c.generation_if_free-2.result c.generation_if_free-2.ensures.some c.generation_if_free-2.ensures.none

@@ -1,5 +1,5 @@
 use Rattle.flash_table.proofs.{Asking.whose, Asking.IsPlace, Asking.of_broom, HereErasing.wipe_here, Rows.just_now}
-use Rattle.std.proofs.Common.{◌≡◌, ◌+◌, ap, ◌∙◌, arith, subst}
+use Rattle.std.proofs.Common.{◌≡◌, ◌+◌, ap, arith, subst}
 use Rattle.geometry.specs.TableOrder.{page_index}
 use Rattle.flash_table.specs.Flash.{device, broom_view}
 use Rattle.flash_table.proofs.{ToldBrooms.stays_broom, flash.Flash.wipe.Goals.After-store}
@@ -32,10 +32,9 @@ changed c =
     let at : c.args.start + c.args.i ≡ page_index (device c.args.self.now) t.0.block 0 + c.args.i = ap (λ n. n + c.args.i) (c.requires.start t.0 t.1.its) in
     wipe_view c.requires.broom c.args.i t.0 can c.requires.next at c.store.ensures.2
 
-pub invariant_of-broom : goal.invariant_of-broom
-invariant_of-broom c =
-    let s = c.args.broom.now in
-    record { bare = c.store.ensures.2.0 ∙ s.bare; owns = just_now (changed (goal.at.invariant_of-broom c).After-store) s.owns }
+pub invariant_of-broom-clause-owns : goal.invariant_of-broom-clause-owns
+invariant_of-broom-clause-owns c =
+    just_now (changed (goal.at.invariant_of-broom-clause-owns c).After-store) c.args.broom.now.owns
 
 pub returns-clause-wiped : goal.returns-clause-wiped
 returns-clause-wiped c = changed (goal.at.returns-clause-wiped c).After-store

@@ -1,24 +1,15 @@
-use Rattle.std.proofs.Common.{◌≡◌, ◌≢◌, ◌∙◌, ℕ, ◌+◌, ◌<◌, ◌≤◌, Bool, true, false, cond, eqb, List, length, get_or, set, map, sum_by, Option}
-use Rattle.std.proofs.Common.{None, Some, sym, ap, refl, subst, arith, length-set, get_or-set_same, get_or-set_other}
-use Rattle.std.specs.Vec.{with_items}
-use Rattle.std.proofs.lemmas.List.{with_items_is}
-use Rattle.geometry.specs.declared.geometry.Geometry.{Geometry}
-use Rattle.geometry.specs.Geometry.{blocks_of, pages_of, endurance_of, hosts_of}
-use Rattle.ftl_one.specs.declared.role.Role.{Role}
-use Rattle.ftl_one.specs.declared.role.Role.TheVariants.{Open, Spare, Retired}
-use Rattle.ftl_one.specs.Stock.{Stock, Block, is_free, is_closed, is_retired, victim_of, collect, change_at, unused}
-use Rattle.ftl_one.specs.Store as pages
-use Rattle.ftl_one.specs.Lawful.{IsLawful, KnowsSpare, role_in}
-use Rattle.ftl_one.specs.Blocks.{blocks_in, weight}
-use Rattle.ftl_one.specs.OneFtl.{geometry_of, stock_of}
-use Rattle.ftl_one.proofs.FtlLemmas.{open_of-stock, blocks-collect, weight-collect}
+use Rattle.std.proofs.Common.{◌≡◌, ◌≢◌, ◌∙◌, ℕ, ◌+◌, ◌<◌, ◌≤◌, Bool, true, false, cond, eqb, List, length, get_or, set, map, sum_by, Option, None, Some, sym}
+use Rattle.std.proofs.Common.{ap, refl, subst, arith, length-set, get_or-set_same, get_or-set_other}
+use Rattle.std.{specs.Vec.with_items, proofs.lemmas.List.with_items_is}
+use Rattle.geometry.specs.{declared.geometry.Geometry.Geometry, Geometry.blocks_of, Geometry.pages_of, Geometry.endurance_of, Geometry.hosts_of}
 use Rattle.geometry.specs.Greedy.{IsGreedy, IsClosed}
-use Rattle.ftl_one.specs.Stock.{live_of, filled, emptied}
-use Rattle.ftl_one.specs.Store.{counts_of}
-use Rattle.ftl_one.proofs.FtlLemmas.{length-blocks, get_or-blocks, total_small, free-kept}
-use Rattle.ftl_one.proofs.LawfulLemmas.{spare-collected}
-use Rattle.ftl_one.specs.Fewest.{IsFewest}
+use Rattle.ftl_one.specs.declared.role.Role.{Role, TheVariants.Open, TheVariants.Spare, TheVariants.Retired}
+use Rattle.ftl_one.specs.Stock.{Stock, Block, is_free, is_closed, is_retired, victim_of, collect, change_at, unused, live_of, filled, emptied}
+use Rattle.ftl_one.specs.{Lawful.IsLawful, Lawful.KnowsSpare, Lawful.role_in, Blocks.blocks_in, Blocks.weight, OneFtl.geometry_of, OneFtl.stock_of}
+use Rattle.ftl_one.proofs.FtlLemmas.{open_of-stock, blocks-collect, weight-collect, length-blocks, get_or-blocks, total_small, free-kept}
+use Rattle.ftl_one.{specs.Store.counts_of, proofs.LawfulLemmas.spare-collected, specs.Fewest.IsFewest}
 use Rattle.ftl_one.proofs.CollectLemmas.{spare_within, victim_within, victim_role, victim_apart, greedy_by, victim_by, spare_room, law_after}
+use Rattle.ftl_one.specs.Store as pages
 use Rattle.ftl_one.proofs.one_ftl.OneFtl.collect.Goals as goal
 use Rattle.ftl_one.proofs.one_ftl.OneFtl.collect.Goals.{After-fewest_beside-victim, After-hand_over}
 
@@ -39,11 +30,6 @@ pub clear-copies-requires-clause-room : goal.clear-copies-requires-clause-room
 clear-copies-requires-clause-room c =
     let at_end = (goal.at.clear-copies-requires-clause-room c).After-fewest_beside-victim in
     spare_room c.args.self.now c.args.spare c.requires.none c.requires.no_free c.requires.spare c.fewest_beside-victim.result (the_best at_end).is_closed
-
-pub clear-copies-requires-clause-apart : goal.clear-copies-requires-clause-apart
-clear-copies-requires-clause-apart c =
-    let at_end = (goal.at.clear-copies-requires-clause-apart c).After-fewest_beside-victim in
-    victim_apart c.args.self.now c.args.spare c.requires.none c.requires.no_free c.requires.spare c.fewest_beside-victim.result (the_best at_end).is_closed
 
 -- the victim is in use
 the_usable : (c : After-fewest_beside-victim) → pages.retired_of c.args.self.now.store c.fewest_beside-victim.result ≡ false

@@ -1,12 +1,7 @@
-use Rattle.std.proofs.Common.{◌≡◌, ◌<◌, ◌∙◌, ℕ, false, List, None, Some, sym, ap, subst, refl}
-use Rattle.std.specs.Prelude.{option_map}
-use Rattle.std.specs.List.{position}
-use Rattle.ftl_one.specs.declared.role.Role.{Role}
-use Rattle.ftl_one.specs.Collections.{collection_into}
-use Rattle.ftl_one.specs.Stock.{free_of, is_free, spare_of}
-use Rattle.ftl_one.specs.Lawful.{role_in}
-use Rattle.ftl_one.specs.OneFtl.{geometry_of, stock_of}
-use Rattle.ftl_one.proofs.FtlLemmas.{open_of-stock, free_of-stock, spare_of-stock}
+use Rattle.std.proofs.Common.{◌∙◌, false, None, Some, sym, ap, refl}
+use Rattle.std.specs.{Prelude.option_map, List.position}
+use Rattle.ftl_one.specs.{Stock.free_of, Stock.is_free, Stock.spare_of, OneFtl.geometry_of, OneFtl.stock_of}
+use Rattle.ftl_one.{specs.Collections.collection_into, proofs.FtlLemmas.open_of-stock, proofs.FtlLemmas.free_of-stock, proofs.FtlLemmas.spare_of-stock}
 use Rattle.ftl_one.proofs.CollectionLemmas.{due_free, due_is, due_open, none_of}
 use Rattle.ftl_one.proofs.one_ftl.OneFtl.collection_due.Goals as goal
 
@@ -16,10 +11,6 @@ returns-then-is_some c =
     let k = stock_of f in
     sym (due_is (geometry_of f) k f.open_block (free_of k.blocks) (spare_of k.blocks) (open_of-stock f) refl refl
     ∙ due_open (geometry_of f) k f.open_block (free_of k.blocks) (spare_of k.blocks) (sym c.is_some.ensures ∙ c.if-is_some.true))
-
-pub lowest_free-requires-clause-none_below : goal.lowest_free-requires-clause-none_below
-lowest_free-requires-clause-none_below c =
-    subst (λ (xs : List Role). (b : ℕ) → b < c.args.self.now.free_from → is_free (role_in xs b) ≡ false) (sym c.deref.ensures.value) c.args.self.now.free_above
 
 pub returns-then-is_some-2 : goal.returns-then-is_some-2
 returns-then-is_some-2 c =

@@ -1,13 +1,9 @@
 use Rattle.std.proofs.Common.{◌∙◌, ◌+◌, ◌<◌, ℕ, eqb, cond, List, ap, subst, arith}
 use Rattle.geometry.specs.Geometry.{blocks_of, endurance_of, lun_of}
-use Rattle.ftl_one.specs.Fewest.{IsFewest}
-use Rattle.ftl_one.specs.Laws.{block_at}
-use Rattle.ftl_one.specs.OneFtl.{geometry_of, stock_of}
-use Rattle.ftl_one.specs.Store.{counts_of}
-use Rattle.ftl_one.specs.Store as pages
+use Rattle.ftl_one.specs.{Fewest.IsFewest, Laws.block_at, OneFtl.geometry_of, OneFtl.stock_of, Store.counts_of}
 use Rattle.ftl_one.proofs.CollectLemmas.{greedy_by, spare_within, victim_by, victim_within}
-use Rattle.ftl_one.proofs.CollectionLemmas.{same_collection}
-use Rattle.ftl_one.proofs.FtlLemmas.{erases_at}
+use Rattle.ftl_one.proofs.{CollectionLemmas.same_collection, FtlLemmas.erases_at}
+use Rattle.ftl_one.specs.Store as pages
 use Rattle.ftl_one.proofs.one_ftl.OneFtl.collection_into.Goals as goal
 use Rattle.ftl_one.proofs.one_ftl.OneFtl.collection_into.Goals.{After-fewest_beside-victim}
 
@@ -40,9 +36,6 @@ overflow_add-erases c =
       erases_at c.args.self.now c.fewest_beside-victim.result (the_low (goal.at.overflow_add-erases c).After-fewest_beside-victim),
       c.args.self.now.store.die.geometry.in_limits.endurance_high,
     )
-
-pub copybacks-requires-clause-victim : goal.copybacks-requires-clause-victim
-copybacks-requires-clause-victim c = the_low (goal.at.copybacks-requires-clause-victim c).After-fewest_beside-victim
 
 pub copybacks-requires-clause-spare : goal.copybacks-requires-clause-spare
 copybacks-requires-clause-spare c = spare_within c.args.self.now c.args.spare c.requires.none c.requires.no_free c.requires.spare

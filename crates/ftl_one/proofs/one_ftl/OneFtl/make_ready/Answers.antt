@@ -1,16 +1,9 @@
-use Rattle.std.proofs.Common.{◌≡◌, ◌∙◌, ℕ, ◌<◌, false, List, Option, None, Some, sym, ap, refl, subst}
+use Rattle.std.proofs.Common.{◌≡◌, ◌∙◌, ℕ, Option, None, Some, sym, ap, refl}
 use Rattle.std.specs.List.{position}
 use Rattle.geometry.specs.Geometry.{endurance_of}
-use Rattle.ftl_one.specs.declared.role.Role.{Role}
-use Rattle.ftl_one.specs.Stock.{Stock, is_free, open_of, free_of, spare_of, ready, ready_by}
-use Rattle.ftl_one.specs.Lawful.{role_in}
-use Rattle.ftl_one.specs.OneFtl.{geometry_of, stock_of}
-use Rattle.ftl_one.proofs.FtlLemmas.{open_of-stock, free_of-stock, spare_of-stock}
+use Rattle.ftl_one.specs.{OneFtl.geometry_of, Stock.Stock, Stock.is_free, Stock.open_of, Stock.free_of, Stock.spare_of, Stock.ready, Stock.ready_by}
+use Rattle.ftl_one.{specs.OneFtl.stock_of, proofs.FtlLemmas.open_of-stock, proofs.FtlLemmas.free_of-stock, proofs.FtlLemmas.spare_of-stock}
 use Rattle.ftl_one.proofs.one_ftl.OneFtl.make_ready.Goals as goal
-
-pub lowest_free-requires-clause-none_below : goal.lowest_free-requires-clause-none_below
-lowest_free-requires-clause-none_below c =
-    subst (λ (xs : List Role). (b : ℕ) → b < c.args.self.now.free_from → is_free (role_in xs b) ≡ false) (sym c.deref.ensures.value) c.args.self.now.free_above
 
 -- what the stock is ready for, by what is open, free and spare
 ready_is : (E : ℕ) (k : Stock) (o f s : Option ℕ) → open_of k.blocks ≡ o → free_of k.blocks ≡ f → spare_of k.blocks ≡ s → ready E k ≡ ready_by E k o f s
@@ -61,8 +54,7 @@ collect-requires-clause-no_free c =
     free_of-stock c.args.self.now ∙ (ap (position is_free) (sym c.deref.ensures.value) ∙ (sym c.lowest_free.ensures ∙ c.in_default-lowest_free.is))
 
 pub collect-requires-clause-spare : goal.collect-requires-clause-spare
-collect-requires-clause-spare c =
-    spare_of-stock c.args.self.now ∙ c.in_ok-spare.was
+collect-requires-clause-spare c = spare_of-stock c.args.self.now ∙ c.in_ok-spare.was
 
 pub returns-clause-ready : goal.returns-clause-ready
 returns-clause-ready c =

@@ -1,19 +1,12 @@
 use Rattle.std.proofs.Common.{◌≡◌, ◌≢◌, inl, inr, ◌∙◌, ℕ, ◌<◌, List, length, set, sum_by, sym, ap, arith, length-set, get_or-set_same, get_or-set_other}
 use Rattle.std.proofs.lemmas.Bool.{cases_eq}
 use Rattle.geometry.specs.Geometry.{blocks_of, pages_of}
-use Rattle.ftl_one.specs.declared.role.Role.{Role}
-use Rattle.ftl_one.specs.declared.role.Role.TheVariants.{Open, Retired}
-use Rattle.ftl_one.specs.declared.one_ftl.OneFtl.{OneFtl}
-use Rattle.ftl_one.specs.Stock.{Stock, Block, is_free, change_at}
+use Rattle.ftl_one.specs.declared.{role.Role.Role, role.Role.TheVariants.Open, role.Role.TheVariants.Retired, one_ftl.OneFtl.OneFtl}
+use Rattle.ftl_one.specs.{Stock.Stock, Stock.Block, Stock.is_free, Stock.change_at, Lawful.role_in, Blocks.blocks_in, Blocks.weight, OneFtl.stock_of}
+use Rattle.ftl_one.proofs.LawfulLemmas.{lawful-open, free≢spare, open≢spare, spare-kept}
+use Rattle.ftl_one.proofs.FtlLemmas.{open_of-stock, blocks-role, weight-role, length-blocks, free_found, none_below}
 use Rattle.ftl_one.specs.Store as pages
-use Rattle.ftl_one.specs.Lawful.{role_in}
-use Rattle.ftl_one.specs.Blocks.{blocks_in, weight}
-use Rattle.ftl_one.specs.OneFtl.{stock_of}
-use Rattle.ftl_one.proofs.LawfulLemmas.{lawful-open}
-use Rattle.ftl_one.proofs.FtlLemmas.{open_of-stock, blocks-role, weight-role}
 use Rattle.ftl_one.proofs.one_ftl.OneFtl.open.Goals as goal
-use Rattle.ftl_one.proofs.FtlLemmas.{length-blocks, free_found, none_below}
-use Rattle.ftl_one.proofs.LawfulLemmas.{free≢spare, open≢spare, spare-kept}
 
 pub index_mut-requires : goal.index_mut-requires
 index_mut-requires c = omega (arith, (free_found c.args.self.now c.args.block c.requires.free).0, c.args.self.now.roles.ok.0)

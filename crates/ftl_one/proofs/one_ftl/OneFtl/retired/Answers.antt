@@ -1,11 +1,7 @@
-use Rattle.std.proofs.Common.{◌≡◌, ◌∙◌, false, sym, ap, refl, arith}
-use Rattle.std.proofs.lemmas.List.{get_or_read}
-use Rattle.ftl_one.specs.declared.role.Role.{Role}
+use Rattle.std.proofs.{Common.◌≡◌, Common.◌∙◌, Common.false, Common.sym, Common.ap, Common.refl, Common.arith, lemmas.List.get_or_read}
+use Rattle.ftl_one.{specs.declared.role.Role.Role, specs.OneFtl.geometry_of, specs.OneFtl.stock_of, specs.Laws.block_at, proofs.FtlLemmas.block_at-stock}
 use Rattle.ftl_one.specs.declared.role.Role.TheVariants.{Free, Open, Closed, Spare, Retired}
-use Rattle.ftl_one.specs.OneFtl.{geometry_of, stock_of}
 use Rattle.ftl_one.specs.Stock.{Block, is_retired}
-use Rattle.ftl_one.specs.Laws.{block_at}
-use Rattle.ftl_one.proofs.FtlLemmas.{block_at-stock}
 use Rattle.ftl_one.proofs.one_ftl.OneFtl.retired.Goals as goal
 use Rattle.ftl_one.proofs.one_ftl.OneFtl.retired.Goals.{After-index}
 
@@ -18,11 +14,8 @@ the_role c =
     ∙ sym (get_or_read f.roles.items c.args.block c.index.result.now (omega (arith, c.requires, f.roles_sized)) c.index.ensures Retired)
 
 not_retired : (r : Role) → (r ≡ Retired → ⊥) → is_retired r ≡ false
-not_retired Free h = refl
-not_retired Open h = refl
-not_retired Closed h = refl
-not_retired Spare h = refl
 not_retired Retired h = absurd (h refl)
+not_retired _ _ = refl
 
 pub returns-in-Retired : goal.returns-in-Retired
 returns-in-Retired c = sym (ap is_retired (the_role (goal.at.returns-in-Retired c).After-index ∙ c.in-Retired.is))

@@ -1,15 +1,9 @@
 use Rattle.std.proofs.Common.{◌≡◌, ◌∙◌, ◌+◌, ◌≤◌, List, length, sum_by, Some, sym, ap, subst, arith}
 use Rattle.std.proofs.lemmas.List.{length-map}
-use Rattle.geometry.specs.declared.geometry.Geometry.{Geometry}
-use Rattle.geometry.specs.Geometry.{blocks_of, pages_of, hosts_of}
-use Rattle.ftl_one.specs.Stock.{Stock, Block, next}
+use Rattle.geometry.specs.{declared.geometry.Geometry.Geometry, Geometry.blocks_of, Geometry.pages_of, Geometry.hosts_of}
+use Rattle.ftl_one.specs.{Stock.Stock, Stock.Block, Stock.next, Stock.Entry, Stock.forgotten, Lawful.IsLawful, Lawful.role_in, Blocks.blocks_in, Blocks.weight}
+use Rattle.ftl_one.{specs.OneFtl.stock_of, proofs.LawfulLemmas.lawful-same, proofs.FtlLemmas.blocks-forget, proofs.FtlLemmas.weight-forget}
 use Rattle.ftl_one.specs.Store as pages
-use Rattle.ftl_one.specs.Lawful.{IsLawful, role_in}
-use Rattle.ftl_one.specs.Blocks.{blocks_in, weight}
-use Rattle.ftl_one.specs.OneFtl.{stock_of}
-use Rattle.ftl_one.proofs.LawfulLemmas.{lawful-same}
-use Rattle.ftl_one.proofs.FtlLemmas.{blocks-forget, weight-forget}
-use Rattle.ftl_one.specs.Stock.{Entry, forgotten}
 use Rattle.ftl_one.proofs.one_ftl.OneFtl.trim.Goals as goal
 
 pub invariant_of-self : goal.invariant_of-self

@@ -1,23 +1,13 @@
-use Rattle.std.proofs.Common.{◌≡◌, ◌≢◌, ◌∙◌, ℕ, ◌+◌, ◌<◌, ◌≤◌, Bool, true, cond, eqb, List, length, set, map, sum_by, Option, None}
-use Rattle.std.proofs.Common.{Some, sym, ap, refl, subst, arith, length-set, get_or-set_same, get_or-set_other}
-use Rattle.std.proofs.lemmas.List.{length-map}
-use Rattle.geometry.specs.declared.geometry.Geometry.{Geometry}
-use Rattle.geometry.specs.Geometry.{blocks_of, pages_of, hosts_of}
-use Rattle.ftl_one.specs.declared.role.Role.{Role}
-use Rattle.ftl_one.specs.declared.role.Role.TheVariants.{Closed, Retired}
-use Rattle.ftl_one.specs.Stock.{Stock, Block, write_of, write_into, forget, change_at, with_page, closed_if_full}
-use Rattle.ftl_one.specs.Store as pages
-use Rattle.ftl_one.specs.Lawful.{IsLawful, role_in}
-use Rattle.ftl_one.specs.Blocks.{blocks_in, weight}
-use Rattle.ftl_one.specs.OneFtl.{geometry_of, stock_of}
-use Rattle.ftl_one.proofs.LawfulLemmas.{lawful-put, lawful-close}
-use Rattle.ftl_one.proofs.FtlLemmas.{blocks-put, weight-put}
-use Rattle.std.proofs.lemmas.List.{length_push}
+use Rattle.std.proofs.Common.{◌≡◌, ◌≢◌, ◌∙◌, ℕ, ◌+◌, ◌<◌, ◌≤◌, Bool, true, cond, eqb, List, length, set, map, sum_by, Option, None, Some, sym, ap, refl, subst}
+use Rattle.std.proofs.{Common.arith, Common.length-set, Common.get_or-set_same, Common.get_or-set_other, lemmas.List.length-map, lemmas.List.length_push}
 use Rattle.std.proofs.lemmas.Bool.{eqb-true, eqb-false}
-use Rattle.ftl_one.specs.Stock.{Entry, forgotten}
-use Rattle.ftl_one.proofs.StoreLemmas.{entries_within}
-use Rattle.ftl_one.proofs.FtlLemmas.{length-blocks, open_found, open_room, total_small, free-kept}
-use Rattle.ftl_one.proofs.LawfulLemmas.{open≢spare, closed≢spare, spare-kept}
+use Rattle.geometry.specs.{declared.geometry.Geometry.Geometry, Geometry.blocks_of, Geometry.pages_of, Geometry.hosts_of}
+use Rattle.ftl_one.specs.{declared.role.Role.Role, Lawful.IsLawful, Lawful.role_in, Blocks.blocks_in, Blocks.weight, OneFtl.geometry_of, OneFtl.stock_of}
+use Rattle.ftl_one.{specs.declared.role.Role.TheVariants.Closed, specs.declared.role.Role.TheVariants.Retired, proofs.StoreLemmas.entries_within}
+use Rattle.ftl_one.specs.Stock.{Stock, Block, write_of, write_into, forget, change_at, with_page, closed_if_full, Entry, forgotten}
+use Rattle.ftl_one.proofs.LawfulLemmas.{lawful-put, lawful-close, open≢spare, closed≢spare, spare-kept}
+use Rattle.ftl_one.proofs.FtlLemmas.{blocks-put, weight-put, length-blocks, open_found, open_room, total_small, free-kept}
+use Rattle.ftl_one.specs.Store as pages
 use Rattle.ftl_one.proofs.one_ftl.OneFtl.write_into.Goals as goal
 use Rattle.ftl_one.proofs.one_ftl.OneFtl.write_into.Goals.{After-put-was, After-is_full}
 

@@ -1,8 +1,6 @@
 use Rattle.std.proofs.Common.{◌≡◌, ◌∙◌, ℕ, List, None, Some, is_some, refl, sym, ap}
-use Rattle.geometry.specs.History.{Write, WriteNew, put_new}
-use Rattle.geometry.specs.Sectors.{Sector, sector_at}
-use Rattle.ftl_one.specs.OneFtl.{geometry_of, array_of, stock_of}
-use Rattle.ftl_one.specs.Stock.{next}
+use Rattle.geometry.specs.{History.Write, History.WriteNew, Sectors.sector_at}
+use Rattle.ftl_one.specs.{OneFtl.geometry_of, OneFtl.array_of, OneFtl.stock_of, Stock.next}
 use Rattle.ftl_one.proofs.Current.{has_page-stock, none_of, some_of, next_empty, next_written}
 use Rattle.ftl_one.proofs.one_ftl.OneFtl.write_new.Goals as goal
 use Rattle.ftl_one.proofs.one_ftl.OneFtl.write_new.Goals.{In-Empty, In-Written}
@@ -28,16 +26,6 @@ returns-in-Written-clause-written c = λ _.
     let f = c.args.self.now in
     let value = its_value (goal.at.returns-in-Written-clause-written c).In-Written in
     next_written (geometry_of f) (stock_of f) c.args.sector c.args.bytes.now (has_page-stock f c.args.sector c.requires.sector ∙ ap is_some value.1)
-
-pub returns-in-Written-clause-unchanged : goal.returns-in-Written-clause-unchanged
-returns-in-Written-clause-unchanged c = λ _.
-    let value = its_value (goal.at.returns-in-Written-clause-unchanged c).In-Written in
-    ap (λ (x : Sector). put_new (array_of c.args.self.now) c.args.sector x c.args.bytes.now) value.1
-
-pub returns-in-Ok-clause-array : goal.returns-in-Ok-clause-array
-returns-in-Ok-clause-array c =
-    let empty = the_sector (goal.at.returns-in-Ok-clause-array c).In-Empty in
-    c.in-Ok.ensures.array ∙ sym (ap (λ (x : Sector). put_new (array_of c.args.self.now) c.args.sector x c.args.bytes.now) empty)
 
 pub returns-in-Ok-clause-stock : goal.returns-in-Ok-clause-stock
 returns-in-Ok-clause-stock c = by_write (goal.at.returns-in-Ok-clause-stock c).In-Empty ∙ c.in-Ok.ensures.stock

@@ -1,12 +1,8 @@
 use Rattle.std.proofs.Common.{◌∙◌, ◌<◌, length, sym, arith}
-use Rattle.ftl_one.specs.Store.{entries_of}
-use Rattle.ftl_one.proofs.StoreLemmas.{length-entries_of}
-use Rattle.ftl_one.proofs.ClearLemmas.{ClearedTo-none, ClearedTo-dead, ClearedTo-live, ClearedTo-room, ClearedTo-all, copies_below}
+use Rattle.ftl_one.{specs.Store.entries_of, proofs.StoreLemmas.length-entries_of}
+use Rattle.ftl_one.proofs.ClearLemmas.{ClearedTo-dead, ClearedTo-live, ClearedTo-room, ClearedTo-all}
 use Rattle.ftl_one.proofs.store.Store.clear.Goals as goal
 use Rattle.ftl_one.proofs.store.Store.clear.Goals.{then-is_live, else-is_live}
-
-pub loop-page-init : goal.loop-page-init
-loop-page-init c = ClearedTo-none c.args.self.now c.args.victim c.args.spare
 
 pub is_live-requires-clause-page : goal.is_live-requires-clause-page
 is_live-requires-clause-page c = omega (arith, c.loop-page.invariant.size, c.next-page-end.ensures.value, length-entries_of c.args.self.now c.args.victim)
@@ -16,11 +12,6 @@ relocate-requires-clause-room c =
     ClearedTo-room c.args.self.now c.loop-page.self c.args.victim c.args.spare c.loop-page.page c.loop-page.copies c.loop-page.invariant
     (omega (arith, c.next-page-end.ensures.value, length-entries_of c.args.self.now c.args.victim))
     (sym c.is_live.ensures ∙ c.if-is_live.true) c.requires.room
-
-pub overflow_add-copies : goal.overflow_add-copies
-overflow_add-copies c =
-    let below = copies_below c.args.self.now c.loop-page.self c.args.victim c.args.spare c.loop-page.page c.loop-page.copies c.loop-page.invariant in
-    omega (arith, below, c.next-page-end.ensures.within, c.args.self.now.die.geometry.in_limits.pages_high)
 
 pub loop-page-preserved : goal.loop-page-preserved
 loop-page-preserved c =

@@ -1,12 +1,8 @@
-use Rattle.std.proofs.Common.{◌≡◌, ◌∙◌, ℕ, ◌<◌, List, length, get_or, set, Option, None, sym, ap, subst, arith}
-use Rattle.std.specs.Option.{IfSome}
-use Rattle.std.specs.Vec.{with_items}
-use Rattle.std.proofs.lemmas.List.{get_or_read}
-use Rattle.geometry.specs.declared.page_addr.PageAddr.{PageAddr}
-use Rattle.geometry.specs.Geometry.{blocks_of, page_bytes_of, sectors_of}
+use Rattle.std.proofs.Common.{◌≡◌, ◌∙◌, ℕ, List, get_or, set, Option, None, sym, ap, subst, arith}
+use Rattle.std.{specs.Vec.with_items, proofs.lemmas.List.get_or_read}
+use Rattle.geometry.specs.{declared.page_addr.PageAddr.PageAddr, Geometry.blocks_of, Geometry.page_bytes_of, Geometry.sectors_of}
 use Rattle.die.specs.Die.{geometry_of as die_geometry_of, block_of}
-use Rattle.ftl_one.specs.Entries.{Recounts, IsMapped, sectors_in, entries_in}
-use Rattle.ftl_one.specs.Store.{array_of, entries_of}
+use Rattle.ftl_one.specs.{Entries.Recounts, Entries.IsMapped, Entries.sectors_in, Entries.entries_in, Store.array_of, Store.entries_of}
 use Rattle.ftl_one.proofs.MapLemmas.{mapped-forget, entries-forget, sectors-set}
 use Rattle.ftl_one.proofs.StoreLemmas.{named_within, named_counted, was-named, recounted}
 use Rattle.ftl_one.proofs.store.Store.forget.Goals as goal
@@ -21,15 +17,13 @@ the_was c =
 
 pub recount-requires-clause-dead_within : goal.recount-requires-clause-dead_within
 recount-requires-clause-dead_within c =
-    let was = the_was (goal.at.recount-requires-clause-dead_within c).After-page-was in
-    subst (λ (xs : List ℕ). IfSome c.page-was.result (λ at. at.block < length xs)) (sym c.deref_mut.ensures.value)
-    (named_within c.args.self.now c.args.sector c.page-was.result was)
+    named_within c.args.self.now c.args.sector c.page-was.result _ c.deref_mut.ensures.value
+    (the_was (goal.at.recount-requires-clause-dead_within c).After-page-was)
 
 pub recount-requires-clause-counted : goal.recount-requires-clause-counted
 recount-requires-clause-counted c =
-    let was = the_was (goal.at.recount-requires-clause-counted c).After-page-was in
-    subst (λ (xs : List ℕ). IfSome c.page-was.result (λ at. 0 < get_or xs at.block 0)) (sym c.deref_mut.ensures.value)
-    (named_counted c.args.self.now c.args.sector c.page-was.result was)
+    named_counted c.args.self.now c.args.sector c.page-was.result _ c.deref_mut.ensures.value
+    (the_was (goal.at.recount-requires-clause-counted c).After-page-was)
 
 -- the counts without that page
 the_counts : (c : After-recount) → get_or c.args.self.now.current.items c.args.sector None ≡ c.page-was.result

@@ -1,18 +1,11 @@
-use Rattle.std.proofs.Common.{◌≡◌, ◌∙◌, inl, inr, ℕ, zero, suc, cond, ◌<◌, List, [], ◌∷◌, length, map, get_or, replicate}
-use Rattle.std.proofs.Common.{sum_by, Option, None, Some, is_some, sym, ap, refl, subst, arith, rules}
-use Rattle.std.specs.Option.{option_map}
-use Rattle.std.proofs.lemmas.List.{length-replicate, get_or-replicate, get_or_past, nil_from_length}
-use Rattle.std.proofs.lemmas.List.Sums.{sum_by-cons}
-use Rattle.std.proofs.lemmas.Bool.{cases_lt}
-use Rattle.geometry.specs.declared.geometry.Geometry.{Geometry}
-use Rattle.geometry.specs.declared.page_addr.PageAddr.{PageAddr}
+use Rattle.std.proofs.Common.{◌≡◌, ◌∙◌, inl, inr, ℕ, zero, suc, cond, ◌<◌, List, [], ◌∷◌, length, map, get_or, replicate, sum_by, Option, None, Some, is_some}
+use Rattle.std.{proofs.Common.sym, proofs.Common.ap, proofs.Common.refl, proofs.Common.subst, proofs.Common.arith, proofs.Common.rules, specs.Option.option_map}
+use Rattle.std.proofs.lemmas.{List.length-replicate, List.get_or-replicate, List.get_or_past, List.nil_from_length, List.Sums.sum_by-cons, Bool.cases_lt}
+use Rattle.geometry.specs.{declared.geometry.Geometry.Geometry, declared.page_addr.PageAddr.PageAddr, Sectors.Sector}
 use Rattle.geometry.specs.Geometry.{blocks_of, page_bytes_of, sectors_of}
-use Rattle.geometry.specs.Sectors.{Sector}
-use Rattle.die.specs.Die.{geometry_of as die_geometry_of, block_of}
-use Rattle.die.specs.Pages.{Block, new_block}
+use Rattle.die.specs.{Die.geometry_of as die_geometry_of, Die.block_of, Pages.Block, Pages.new_block}
 use Rattle.ftl_one.specs.Entries.{IsMapped, entries_in, sectors_in, value_in, live_count}
-use Rattle.ftl_one.specs.Store.{array_of, entries_of, erases_of, retired_of}
-use Rattle.ftl_one.proofs.EntryLemmas.{length-entries}
+use Rattle.ftl_one.{specs.Store.array_of, specs.Store.entries_of, specs.Store.erases_of, specs.Store.retired_of, proofs.EntryLemmas.length-entries}
 use Rattle.ftl_one.proofs.store.Store.new.Goals as goal
 use Rattle.ftl_one.proofs.store.Store.new.Goals.{In_ok-vec-3}
 

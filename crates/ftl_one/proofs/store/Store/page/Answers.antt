@@ -1,12 +1,8 @@
 use Rattle.std.proofs.Common.{◌≡◌, ◌∙◌, get_or, Option, None, Some, sym, ap, arith}
-use Rattle.std.proofs.lemmas.List.{get_or_read}
-use Rattle.std.specs.Option.{option_map}
+use Rattle.std.{proofs.lemmas.List.get_or_read, specs.Option.option_map}
 use Rattle.geometry.specs.declared.page_addr.PageAddr.{PageAddr}
 use Rattle.die.specs.Die.{block_of}
-use Rattle.ftl_one.specs.Entries.{value_in}
-use Rattle.ftl_one.specs.Store.{array_of}
-use Rattle.ftl_one.proofs.MapLemmas.{sector-at}
-use Rattle.ftl_one.proofs.StoreLemmas.{size_of}
+use Rattle.ftl_one.{specs.Entries.value_in, specs.Store.array_of, proofs.MapLemmas.sector-at, proofs.StoreLemmas.size_of}
 use Rattle.ftl_one.proofs.store.Store.page.Goals as goal
 use Rattle.ftl_one.proofs.store.Store.page.Goals.{After-index}
 

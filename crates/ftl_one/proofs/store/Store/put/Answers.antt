@@ -1,16 +1,10 @@
-use Rattle.std.proofs.Common.{◌≡◌, ◌∙◌, ℕ, ◌<◌, List, length, get_or, set, Option, None, Some, sym, ap, subst, arith}
-use Rattle.std.specs.Option.{IfSome}
-use Rattle.std.specs.Vec.{with_items}
-use Rattle.std.proofs.lemmas.List.{get_or_read}
-use Rattle.geometry.specs.declared.page_addr.PageAddr.{PageAddr}
-use Rattle.geometry.specs.Geometry.{blocks_of, page_bytes_of, sectors_of}
-use Rattle.die.specs.Die.{geometry_of as die_geometry_of, block_of, IsNext}
-use Rattle.die.specs.Pages.{Page}
-use Rattle.ftl_one.specs.Stock.{Entry}
-use Rattle.ftl_one.specs.Entries.{Recounts, IsMapped, sectors_in, entries_in}
-use Rattle.ftl_one.specs.Store.{array_of, entries_of, erases_of, retired_of}
-use Rattle.ftl_one.proofs.StoreLemmas.{next_of_block, count_small, named_within, named_counted, was-named, recounted, put-mapped}
-use Rattle.ftl_one.proofs.StoreLemmas.{put-sectors, put-changed, put-others, put-erases, put-retired}
+use Rattle.std.proofs.Common.{◌≡◌, ◌∙◌, ℕ, List, get_or, set, Option, None, Some, sym, ap, subst, arith}
+use Rattle.std.{specs.Vec.with_items, proofs.lemmas.List.get_or_read}
+use Rattle.geometry.specs.{declared.page_addr.PageAddr.PageAddr, Geometry.blocks_of, Geometry.page_bytes_of, Geometry.sectors_of}
+use Rattle.die.specs.{Die.geometry_of as die_geometry_of, Die.block_of, Die.IsNext, Pages.Page}
+use Rattle.ftl_one.{specs.Stock.Entry, specs.Store.retired_of, proofs.StoreLemmas.put-others, proofs.StoreLemmas.put-erases, proofs.StoreLemmas.put-retired}
+use Rattle.ftl_one.specs.{Entries.Recounts, Entries.IsMapped, Entries.sectors_in, Entries.entries_in, Store.array_of, Store.entries_of, Store.erases_of}
+use Rattle.ftl_one.proofs.StoreLemmas.{next_of_block, count_small, named_within, named_counted, was-named, recounted, put-mapped, put-sectors, put-changed}
 use Rattle.ftl_one.proofs.store.Store.put.Goals as goal
 use Rattle.ftl_one.proofs.store.Store.put.Goals.{After-next_page-at, After-page-was, After-recount}
 
@@ -30,20 +24,13 @@ the_was c =
 
 pub recount-requires-clause-dead_within : goal.recount-requires-clause-dead_within
 recount-requires-clause-dead_within c =
-    let was = the_was (goal.at.recount-requires-clause-dead_within c).After-page-was in
-    subst (λ (xs : List ℕ). IfSome c.page-was.result (λ at. at.block < length xs)) (sym c.deref_mut.ensures.value)
-    (named_within c.args.self.now c.args.sector c.page-was.result was)
+    named_within c.args.self.now c.args.sector c.page-was.result _ c.deref_mut.ensures.value
+    (the_was (goal.at.recount-requires-clause-dead_within c).After-page-was)
 
 pub recount-requires-clause-counted : goal.recount-requires-clause-counted
 recount-requires-clause-counted c =
-    let was = the_was (goal.at.recount-requires-clause-counted c).After-page-was in
-    subst (λ (xs : List ℕ). IfSome c.page-was.result (λ at. 0 < get_or xs at.block 0)) (sym c.deref_mut.ensures.value)
-    (named_counted c.args.self.now c.args.sector c.page-was.result was)
-
-pub recount-requires-clause-live_within : goal.recount-requires-clause-live_within
-recount-requires-clause-live_within c =
-    let s = c.args.self.now in
-    omega (arith, c.next_page-at.ensures.block, c.requires.room.within, s.mapped.live_size, ap (λ (xs : List ℕ). length xs) c.deref_mut.ensures.value)
+    named_counted c.args.self.now c.args.sector c.page-was.result _ c.deref_mut.ensures.value
+    (the_was (goal.at.recount-requires-clause-counted c).After-page-was)
 
 pub recount-requires-clause-room : goal.recount-requires-clause-room
 recount-requires-clause-room c =

@@ -1,12 +1,9 @@
-use Rattle.std.proofs.Common.{◌≡◌, ◌≢◌, ◌∙◌, ◌==◌, ℕ, List, length, get_or, set, Option, None, Some, sym, ap, subst, arith}
-use Rattle.std.specs.Vec.{with_items}
-use Rattle.std.proofs.lemmas.List.{with_items_is}
-use Rattle.geometry.specs.declared.page_addr.PageAddr.{PageAddr}
-use Rattle.geometry.specs.Geometry.{blocks_of, page_bytes_of, sectors_of, lun_of}
+use Rattle.std.proofs.Common.{◌≡◌, ◌≢◌, ◌∙◌, ℕ, List, length, get_or, set, Option, None, Some, sym, ap, subst, arith}
+use Rattle.std.{specs.Vec.with_items, proofs.lemmas.List.with_items_is}
+use Rattle.geometry.specs.{declared.page_addr.PageAddr.PageAddr, Geometry.blocks_of, Geometry.page_bytes_of, Geometry.sectors_of}
 use Rattle.die.specs.Die.{geometry_of as die_geometry_of, block_of, IsNext}
-use Rattle.ftl_one.specs.Stock.{Entry}
+use Rattle.ftl_one.specs.{Stock.Entry, Store.array_of, Store.entries_of, Store.erases_of, Store.retired_of}
 use Rattle.ftl_one.specs.Entries.{Recounts, IsMapped, sectors_in, entries_in}
-use Rattle.ftl_one.specs.Store.{array_of, entries_of, erases_of, retired_of}
 use Rattle.ftl_one.proofs.StoreLemmas.{programmed_page, next_of_block, count_small, named_counted, recounted, put-mapped, put-erases, put-retired}
 use Rattle.ftl_one.proofs.RelocateLemmas.{page_of, sector_of-page, names_live, stamp_below, relocate-copied, relocate-dead, relocate-others, relocate-sectors}
 use Rattle.ftl_one.proofs.store.Store.relocate.Goals as goal
@@ -27,11 +24,6 @@ pub copy_page-requires-clause-next : goal.copy_page-requires-clause-next
 copy_page-requires-clause-next c =
     next_of_block c.args.self.now c.next_page-to.result c.args.block c.requires.room c.next_page-to.ensures.block c.next_page-to.ensures.page
 
-pub copy_page-requires-clause-one_lun : goal.copy_page-requires-clause-one_lun
-copy_page-requires-clause-one_lun c =
-    let geo = die_geometry_of c.args.self.now.die in
-    c.requires.one_lun ∙ ap (λ (b : ℕ). lun_of geo c.args.source.block == lun_of geo b) (sym c.next_page-to.ensures.block)
-
 -- the page that is programmed is the block's next
 the_next : (c : After-next_page-to) → IsNext c.args.self.now.die c.next_page-to.result
 the_next c = next_of_block c.args.self.now c.next_page-to.result c.args.block c.requires.room c.next_page-to.ensures.block c.next_page-to.ensures.page
@@ -41,22 +33,11 @@ index_mut-requires c =
     let s = c.args.self.now in
     omega (arith, stamp_below s c.args.source c.requires.source_block c.requires.source_page, c.stamp-sector.ensures, s.current.ok.0, s.mapped.current_size)
 
-pub recount-requires-clause-dead_within : goal.recount-requires-clause-dead_within
-recount-requires-clause-dead_within c =
-    let s = c.args.self.now in
-    omega (arith, c.requires.source_block, s.mapped.live_size, ap (λ (xs : List ℕ). length xs) c.deref_mut-2.ensures.value)
-
 pub recount-requires-clause-counted : goal.recount-requires-clause-counted
 recount-requires-clause-counted c =
     let s = c.args.self.now in
     let named = names_live s c.args.source c.requires.source_page c.requires.live in
-    let some = named_counted s (page_of s c.args.source).stamp (Some c.args.source) named in
-    omega (arith, some, ap (λ (xs : List ℕ). get_or xs c.args.source.block 0) c.deref_mut-2.ensures.value)
-
-pub recount-requires-clause-live_within : goal.recount-requires-clause-live_within
-recount-requires-clause-live_within c =
-    let s = c.args.self.now in
-    omega (arith, c.next_page-to.ensures.block, c.requires.room.within, s.mapped.live_size, ap (λ (xs : List ℕ). length xs) c.deref_mut-2.ensures.value)
+    named_counted s (page_of s c.args.source).stamp (Some c.args.source) _ c.deref_mut-2.ensures.value named
 
 pub recount-requires-clause-room : goal.recount-requires-clause-room
 recount-requires-clause-room c =

@@ -1,12 +1,8 @@
-use Rattle.std.proofs.Common.{◌≡◌, ℕ, ◌+◌, ◌-◌, ◌<◌, ◌≤◌, Some, List, refl, get_or, length, take, drop, sym, ap, ◌∙◌, subst, arith, add-zero}
-use Rattle.std.specs.Prelude.{slice_get}
-use Rattle.std.proofs.lemmas.Grind.{common_steps}
-use Rattle.std.proofs.lemmas.Option.{slice_get_read}
-use Rattle.rounds.specs.Pages.{bytes_of, bytes_in, said_from}
-use Rattle.rounds.specs.declared.answer.Kind.{Kind}
-use Rattle.rounds.specs.declared.answer.Kind.TheVariants as kind
-use Rattle.rounds.specs.declared.answer_list.Answers.{Answers}
+use Rattle.std.proofs.Common.{◌≡◌, ℕ, ◌+◌, ◌-◌, ◌<◌, ◌≤◌, Some, refl, get_or, length, take, drop, sym, ap, ◌∙◌, subst, arith, add-zero}
+use Rattle.std.{specs.Prelude.slice_get, proofs.lemmas.Grind.common_steps, proofs.lemmas.Option.slice_get_read}
+use Rattle.rounds.specs.{Pages.bytes_of, Pages.bytes_in, Pages.said_from, declared.answer.Kind.Kind, declared.answer_list.Answers.Answers}
 use Rattle.rounds.proofs.Pages.{no_bytes, bytes_till, said_long, said_at}
+use Rattle.rounds.specs.declared.answer.Kind.TheVariants as kind
 use Rattle.rounds.proofs.answer_list.Answers.next.Goals as goal
 
 within : (answers : Answers) (i : ℕ) → i < length (said_from answers.page_bytes answers.kinds.items answers.pages.items) → i < length answers.kinds.items

@@ -1,8 +1,6 @@
-use Rattle.std.proofs.Common.{◌≡◌, ℕ, ◌+◌, List, [], ◌∷◌, ◌++◌, length, take, sym, ap, ◌∙◌, subst, arith, append-nil, length-append, refl}
-use Rattle.std.proofs.lemmas.List.{length_push, take_all}
-use Rattle.std.specs.Prelude.{if◌then◌else◌, ◌≤◌}
-use Rattle.rounds.specs.Pages.{bytes_of, bytes_in, said_from}
-use Rattle.rounds.specs.declared.answer.Kind.{Kind}
+use Rattle.std.proofs.Common.{ℕ, ◌+◌, List, [], ◌∷◌, ◌++◌, length, take, sym, ap, ◌∙◌, arith, append-nil, length-append, refl}
+use Rattle.std.{proofs.lemmas.List.length_push, specs.Prelude.if◌then◌else◌, specs.Prelude.◌≤◌}
+use Rattle.rounds.specs.{Pages.bytes_of, Pages.bytes_in, Pages.said_from, declared.answer.Kind.Kind}
 use Rattle.rounds.proofs.Pages.{no_bytes, bytes_more, said_more}
 use Rattle.rounds.proofs.answer_list.Answers.push.Goals as goal
 

@@ -1,11 +1,7 @@
 use Rattle.std.proofs.Common.{◌≡◌, ℕ, ◌+◌, ◌<◌, [], ◌∷◌, ◌++◌, true, false, map, take, ap, sym, ◌∙◌, arith}
-use Rattle.std.proofs.lemmas.Grind.{common_steps}
-use Rattle.std.specs.Prelude.{Vec}
-use Rattle.std.specs.Global.{Global}
-use Rattle.std.proofs.lemmas.List.{length-map}
+use Rattle.std.{proofs.lemmas.Grind.common_steps, specs.Prelude.Vec, specs.Global.Global, proofs.lemmas.List.length-map}
 use Rattle.trace.specs.declared.commands.Command.{Command}
-use Rattle.rounds.specs.Merging.{is_meet}
-use Rattle.rounds.specs.Plans.{items_of}
+use Rattle.rounds.specs.{Merging.is_meet, Plans.items_of}
 use Rattle.rounds.proofs.Planning.{rows_begin, rows_meet, row_grown, is_line, meeting_more, no_meeting_more, at_place, commands_more, row_there}
 use Rattle.rounds.proofs.plan.Plan.new.Goals as goal
 use Rattle.rounds.proofs.plan.Plan.new.Goals.{in-Meet+in_ok-push-in-Meet, in_default+in_ok-push-in_default}

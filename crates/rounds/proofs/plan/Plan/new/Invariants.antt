@@ -1,5 +1,4 @@
-use Rattle.std.proofs.Common.{◌≡◌, map, take}
-use Rattle.std.specs.List.{range_with_len}
+use Rattle.std.{proofs.Common.◌≡◌, proofs.Common.map, proofs.Common.take, specs.List.range_with_len}
 use Rattle.rounds.specs.Plans.{items_of, places_for, meetings_from}
 use Rattle.rounds.proofs.plan.Plan.new.Given as goal
 

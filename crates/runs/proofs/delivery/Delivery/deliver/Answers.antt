@@ -1,13 +1,8 @@
 use Rattle.std.proofs.Common.{◌+◌, List, length, vec_len, refl, get_or, drop, sym, ap, ◌∙◌, arith, subst}
-use Rattle.std.proofs.lemmas.Grind.{common_steps}
-use Rattle.answers.specs.Lines.{waiting_of}
-use Rattle.answers.specs.Streams.{stream_of}
+use Rattle.std.proofs.lemmas.{Grind.common_steps, List.length-map}
+use Rattle.answers.{specs.Lines.waiting_of, specs.Streams.stream_of, proofs.Deliveries.WritesOut-rest, proofs.Deliveries.WritesOut-stopped}
 use Rattle.trace.specs.Watched.{inner_of}
-use Rattle.answers.proofs.Deliveries.{WritesOut-rest, WritesOut-stopped}
-use Rattle.rounds.specs.Rows.{answers_by}
-use Rattle.std.proofs.lemmas.List.{length-map}
-use Rattle.rounds.specs.Answers.{place_of}
-use Rattle.rounds.specs.declared.answer_list.Cursor.{Cursor}
+use Rattle.rounds.specs.{Rows.answers_by, Answers.place_of, declared.answer_list.Cursor.Cursor}
 use Rattle.runs.specs.Delivering.{AreAt, digits_in, passed_in, text_of, HasDigits}
 use Rattle.runs.proofs.Deliveries.{delivery_turn, delivery_whole, text_before, text_begins}
 use Rattle.runs.proofs.Rows.{all_digits, answer_found, lent, none_passed, all_at, next_is, next_more, next_there, AreNext}

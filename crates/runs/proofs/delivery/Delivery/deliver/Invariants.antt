@@ -1,11 +1,8 @@
 use Rattle.std.proofs.Common.{◌≡◌, length}
 use Rattle.trace.specs.Watched.{failures_of, inner_of}
-use Rattle.answers.specs.Delivery.{IsUnderWay}
-use Rattle.answers.specs.Lines.{page_digits_of, waiting_of}
+use Rattle.answers.specs.{Delivery.IsUnderWay, Lines.page_digits_of, Lines.waiting_of}
 use Rattle.rounds.specs.Rows.{answers_by}
-use Rattle.runs.specs.Delivering.{AreAt, digits_in, passed_in}
-use Rattle.runs.proofs.Deliveries.{text_before}
-use Rattle.runs.proofs.Rows.{AreNext}
+use Rattle.runs.{specs.Delivering.AreAt, specs.Delivering.digits_in, specs.Delivering.passed_in, proofs.Deliveries.text_before, proofs.Rows.AreNext}
 use Rattle.runs.proofs.delivery.Delivery.deliver.Given as goal
 
 abbrev pub invariant-loop-i : goal.invariant-loop-i

@@ -1,9 +1,6 @@
 use Rattle.std.proofs.Common.{subst, sym}
 use Rattle.answers.specs.Streams.{stream_of}
-use Rattle.runs.specs.Files.{EndsText}
-use Rattle.runs.specs.Logs.{IsLogged, is_wanted}
-use Rattle.runs.specs.declared.log.Log.{Log}
-use Rattle.runs.proofs.LogTexts.{ends_open}
+use Rattle.runs.{specs.Files.EndsText, specs.Logs.IsLogged, specs.Logs.is_wanted, specs.declared.log.Log.Log, proofs.LogTexts.ends_open}
 use Rattle.runs.proofs.log.Log.finish.Goals as goal
 
 pub returns-in-Open : goal.returns-in-Open

@@ -1,13 +1,11 @@
 use Rattle.std.proofs.Common.{◌∙◌, ap, refl, subst, sym}
 use Rattle.answers.specs.Streams.{stream_of}
-use Rattle.runs.specs.Collections.{log_part}
-use Rattle.runs.specs.Logs.{IsLogged, IsOpen}
-use Rattle.runs.specs.declared.log.Log.{Log}
+use Rattle.runs.specs.{Collections.log_part, Logs.IsLogged, Logs.IsOpen, declared.log.Log.Log}
 use Rattle.runs.proofs.LogTexts.{fails_open, shut_more, tells_open}
 use Rattle.runs.proofs.log.Log.tell.Goals as goal
 
-pub returns-in-Ok-clause-told : goal.returns-in-Ok-clause-told
-returns-in-Ok-clause-told g c = λ before text more told logged.
+pub returns-in-Ok-clause-logged : goal.returns-in-Ok-clause-logged
+returns-in-Ok-clause-logged g c = λ before text more told logged.
     let old = stream_of g.V.Write.contents c.args.file.now in
     let new = stream_of g.V.Write.contents c.make_room.new.writer in
     tells_open c.in-Open.lines before old new c.args.line c.in-Some.it text more _ _
@@ -15,8 +13,8 @@ returns-in-Ok-clause-told g c = λ before text more told logged.
     c.in-Ok.ensures.unfailed c.in-Ok.ensures.moved c.collection.ensures.waiting
     (told (subst IsOpen (sym c.in-Open.is) tt) ∙ ap (log_part c.args.line) c.in-Some.is)
 
-pub returns-in-Err-clause-told : goal.returns-in-Err-clause-told
-returns-in-Err-clause-told g c = λ before text more told logged.
+pub returns-in-Err-clause-logged : goal.returns-in-Err-clause-logged
+returns-in-Err-clause-logged g c = λ before text more told logged.
     let old = stream_of g.V.Write.contents c.args.file.now in
     let new = stream_of g.V.Write.contents c.make_room.new.writer in
     fails_open c.in-Open.lines before old new text more
@@ -25,4 +23,4 @@ returns-in-Err-clause-told g c = λ before text more told logged.
 
 pub returns-in_default-self : goal.returns-in_default-self
 returns-in_default-self g c =
-    record { wanted = refl; told = λ before text more told logged. shut_more c.args.self.now _ text more c.in_default-self.not-Open logged }
+    record { wanted = refl; logged = λ before text more told logged. shut_more c.args.self.now _ text more c.in_default-self.not-Open logged }

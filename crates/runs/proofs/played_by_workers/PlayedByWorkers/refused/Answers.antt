@@ -1,5 +1,4 @@
-use Rattle.std.proofs.Common.{arith}
-use Rattle.std.proofs.lemmas.Grind.{common_steps}
+use Rattle.std.proofs.{Common.arith, lemmas.Grind.common_steps}
 use Rattle.runs.proofs.RefusedWrites.{first_places}
 use Rattle.runs.proofs.played_by_workers.PlayedByWorkers.refused.Goals as goal
 

@@ -1,17 +1,11 @@
 use Rattle.std.proofs.Common.{◌≡◌, ℕ, All, List, ◌∷◌, ◌++◌, Some, length, take, drop, sym, ap, ◌∙◌, subst, slice_get, arith}
-use Rattle.std.proofs.Math.Seq.{take-append_seam}
-use Rattle.std.specs.Vec.Iter.{into_iter_items}
-use Rattle.geometry.specs.Geometry.{hosts_of}
-use Rattle.geometry.specs.History.{Call}
+use Rattle.std.{proofs.Math.Seq.take-append_seam, specs.Vec.Iter.into_iter_items}
+use Rattle.geometry.specs.{Geometry.hosts_of, History.Call}
 use Rattle.flash_rule.specs.declared.view.View.{View}
-use Rattle.flash_table.specs.declared.pass.Pass.{Pass}
-use Rattle.flash_table.specs.Flash.{geometry_of, device, view_of}
-use Rattle.flash_table.specs.Leaving.{retired_view}
+use Rattle.flash_table.specs.{declared.pass.Pass.Pass, Flash.geometry_of, Flash.device, Flash.view_of, Leaving.retired_view}
 use Rattle.host.specs.Ready.{IsReady}
 use Rattle.volume.specs.Closing.{array_of, AreAll, AreRead, AreFinal, HaveLooked}
-use Rattle.volume.specs.Volume.{flash_of}
-use Rattle.volume.proofs.Ends.{has_left}
-use Rattle.volume.proofs.FreshBrooms.{taken}
+use Rattle.volume.{specs.Volume.flash_of, proofs.Ends.has_left, proofs.FreshBrooms.taken}
 use Rattle.volume.proofs.volume.Volume.close.Goals as goal
 use Rattle.volume.proofs.volume.Volume.close.Goals.{After-gather, In-Some, After-retire-first}
 

@@ -3,4 +3,4 @@ use Rattle.volume.proofs.volume.Volume.drain_dead.Goals as goal
 
 pub returns-clause-array : goal.returns-clause-array
 returns-clause-array g c =
-    dead_drained c.args.broom.now c.drain_dead.new.broom c.drain_dead.result c.drain_dead.ensures.told c.drain_dead.ensures.ready.rested.callers
+    dead_drained c.args.broom.now c.drain_dead.new.broom c.drain_dead.result c.drain_dead.ensures.drained_dead c.drain_dead.ensures.ready.rested.callers

@@ -1,6 +1,7 @@
-use Rattle.volume.proofs.ArrayLeft.{drained_one}
+use Rattle.volume.proofs.ArrayLeft.{turned}
+use Rattle.broom.specs.declared.turns.Choice.TheVariants as choice
 use Rattle.volume.proofs.volume.Volume.drain_one.Goals as goal
 
 pub returns-clause-array : goal.returns-clause-array
 returns-clause-array g c =
-    drained_one _ c.args.broom.now c.drain_one.new.broom c.drain_one.result c.drain_one.ensures.told c.drain_one.ensures.ready.rested.callers
+    turned choice.Survey _ c.args.broom.now c.drain_one.new.broom c.drain_one.result c.drain_one.ensures.drained_one c.drain_one.ensures.ready.rested.callers

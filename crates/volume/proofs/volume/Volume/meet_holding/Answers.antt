@@ -1,5 +1,4 @@
-use Rattle.std.proofs.Common.{arith}
-use Rattle.std.proofs.lemmas.Grind.{common_steps}
+use Rattle.std.proofs.{Common.arith, lemmas.Grind.common_steps}
 use Rattle.volume.proofs.volume.Volume.meet_holding.Goals as goal
 
 pub returns-clause-undisturbed : goal.returns-clause-undisturbed

@@ -1,9 +1,7 @@
 use Rattle.std.proofs.Common.{◌<◌, All, sym, ap, ◌∙◌, subst}
-use Rattle.geometry.specs.Geometry.{hosts_of, brooms_of}
-use Rattle.geometry.specs.declared.geometry.Geometry.{Geometry}
+use Rattle.geometry.specs.{Geometry.hosts_of, Geometry.brooms_of, declared.geometry.Geometry.Geometry}
 use Rattle.host.specs.Ready.{IsReady}
-use Rattle.volume.proofs.Answered.{all_fresh}
-use Rattle.volume.proofs.FreshBrooms.{all_rested, as_many, begins, fresh_queued}
+use Rattle.volume.proofs.{Answered.all_fresh, FreshBrooms.all_rested, FreshBrooms.as_many, FreshBrooms.begins, FreshBrooms.fresh_queued}
 use Rattle.volume.proofs.volume.Volume.open_over.Goals as goal
 
 pub make_brooms-requires-clause-seats : goal.make_brooms-requires-clause-seats

@@ -1,9 +1,8 @@
-use Rattle.std.proofs.Common.{arith}
-use Rattle.std.proofs.lemmas.Grind.{common_steps}
+use Rattle.std.proofs.{Common.arith, lemmas.Grind.common_steps}
 use Rattle.volume.proofs.volume.Volume.stand.Goals as goal
 
-pub returns-clause-told : goal.returns-clause-told
-returns-clause-told c = grind (arith, common_steps)
+pub returns-clause-stood : goal.returns-clause-stood
+returns-clause-stood c = grind (arith, common_steps)
 
 pub returns-clause-undisturbed : goal.returns-clause-undisturbed
 returns-clause-undisturbed c = grind (arith, common_steps)

@@ -12,5 +12,5 @@ returns g c =
     let answer = by.DrainDead c.drain_dead_one-drain.result in
     let broom = c.drain_dead_one-drain.new.broom in
     collected_one self _ answer refl refl
-    (subst (λ (v : Volume). CallTold (limit_of (queue_of v)) self.broom answer broom) c.deref.ensures c.drain_dead_one-drain.ensures.told)
+    (subst (λ (v : Volume). CallTold (limit_of (queue_of v)) self.broom answer broom) c.deref.ensures c.drain_dead_one-drain.ensures.drained_dead_one)
     c.with_answer-self.ensures

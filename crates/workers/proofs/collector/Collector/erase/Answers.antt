@@ -12,4 +12,5 @@ returns g c =
     let answer = by.Erase c.erase_one-erase.result in
     let broom = c.erase_one-erase.new.broom in
     collected_one self _ answer refl refl
-    (subst (λ (v : Volume). CallTold (limit_of (queue_of v)) self.broom answer broom) c.deref.ensures c.erase_one-erase.ensures.told) c.with_answer-self.ensures
+    (subst (λ (v : Volume). CallTold (limit_of (queue_of v)) self.broom answer broom) c.deref.ensures c.erase_one-erase.ensures.erased_one)
+    c.with_answer-self.ensures

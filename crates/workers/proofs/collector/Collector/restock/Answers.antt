@@ -6,5 +6,5 @@ use Rattle.workers.proofs.collector.Collector.restock.Goals as goal
 pub returns : goal.returns
 returns c =
     collected_one c.args.self.now _ (by.Restock c.restock-has_spare.result) refl refl
-    (record { told = c.restock-has_spare.ensures.told; queue = c.restock-has_spare.ensures.queue; survey = c.restock-has_spare.ensures.survey })
+    (record { told = c.restock-has_spare.ensures.restocked; queue = c.restock-has_spare.ensures.queue; survey = c.restock-has_spare.ensures.survey })
     c.with_answer-self.ensures
