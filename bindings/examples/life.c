@@ -60,8 +60,11 @@ int main(void)
     for (uint32_t sector = 0; sector < SECTORS; sector++)
         found += mintlintel_host_look(&hosts[0], sector);
     code = mintlintel_broom_counts(&brooms[0], &counts);
-    printf("%ld pages written, %u of %d blocks retired, %s; %u of %d sectors can be read\n", atomic_load(&written), counts.retired, BLOCKS,
-           code == MINTLINTEL_EXHAUSTED ? "and none can become free" : "the rest is full", found, SECTORS);
+    const char *why = code == MINTLINTEL_EXHAUSTED ? "none can become free" : "the brooms are behind";
+    if (code == MINTLINTEL_DONE && mintlintel_most_sectors(BLOCKS - counts.retired, PAGES, HOSTS, 1) < SECTORS)
+        why = "the others have no room for all sectors";
+    printf("%ld pages written, %u of %d blocks retired, and %s; %u of %d sectors can be read\n", atomic_load(&written), counts.retired, BLOCKS, why, found,
+           SECTORS);
     for (int i = 0; i < HOSTS; i++)
         mintlintel_seat_close(&hosts[i]);
     mintlintel_seat_close(&brooms[0]);

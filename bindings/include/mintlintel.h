@@ -53,7 +53,8 @@ enum mintlintel_code {
     MINTLINTEL_NO_BLOCK = 7,        /* shared: no block was free for a write; let a broom erase, pause, and try again a bounded number of times */
     MINTLINTEL_ALREADY_OPEN = 8,    /* the handle, or one of the handles, is open already */
     MINTLINTEL_WRONG_KIND = 9,      /* the handle is of another kind: see the kinds of a seat below */
-    MINTLINTEL_NO_SUCH_BLOCK = 10,  /* the device has no such block, or a page no such word */
+    MINTLINTEL_NO_SUCH_BLOCK = 10,  /* the device has no such block */
+    MINTLINTEL_NO_SUCH_WORD = 10,   /* of host_word: a page has no such word */
     MINTLINTEL_NOTHING_TO_GAIN = 20, /* a drain: no block is closed, or the best one is all live */
     MINTLINTEL_NO_SPARE = 21,       /* a drain: the broom has no block to copy to; a restock: no block is free; erase something, or drain_dead */
     MINTLINTEL_LOST = 22,           /* a drain: the block's state changed since it was loaded; try again */

@@ -113,7 +113,7 @@ uint32_t mintlintel_durable_write(struct mintlintel_durable *device, uint32_t se
 uint32_t mintlintel_durable_write_new(struct mintlintel_durable *device, uint32_t sector, const void *bytes, size_t count);
 
 /* Empties `count` sectors from `first` on: 1 if any of them was written, and 0 if none was; 3 if the device lacks one of them, and nothing changes;
- * otherwise as a write. After a code above 1 some of them may be empty already. */
+ * otherwise as a write. After a code above 1 some of them may be empty already. Of up to 4096 sectors it programs one page. */
 uint32_t mintlintel_durable_trim(struct mintlintel_durable *device, uint32_t first, uint32_t count);
 
 /* Returns once what was acknowledged is durable: 0; 2 or 28; 29 if the sync failed. */
@@ -137,8 +137,9 @@ uint32_t mintlintel_durable_numbers(struct mintlintel_durable *device, struct mi
 /* A page's block, and its index in the block. */
 struct mintlintel_place { uint32_t block, page; };
 
-/* A command: kind 1 programs page `page` of `block` with the sector's new value and a stamp of this number; 2 copies the page of `sector` from
- * (from_block, from_page) to (block, page), with its stamp; 3 erases `block`. What a command doesn't name is 0. */
+/* A command: kind 1 programs page `page` of `block` with the new value of the call's sectors, the first of which is `sector`, and a stamp of this
+ * number; 2 copies the page of `sector` from (from_block, from_page) to (block, page), with its stamp; 3 erases `block`. What a command doesn't name
+ * is 0. */
 struct mintlintel_command { uint32_t kind, sector, from_block, from_page, block, page; uint64_t number; };
 
 /* Begins a mount: 0; 6 or 8; 109 unless sectors < (blocks - 1) * pages. */
@@ -148,9 +149,10 @@ uint32_t mintlintel_core_open(struct mintlintel_core *core, uint32_t blocks, uin
  * if read_blocks < blocks. After a command that failed, give its block such a number and mount again: the update may be there or not. */
 uint32_t mintlintel_core_open_over(struct mintlintel_core *core, uint32_t read_blocks, uint32_t blocks, uint32_t pages, uint32_t sectors);
 
-/* Notes what the next page holds, block by block: a version with its sector and number, or with has_version 0 none (it is erased or torn).
- * 0; 2; 9 if the layer is mounted; 30 if the device has no such sector, or if it is the last number; 32 after the last page. */
-uint32_t mintlintel_core_note(struct mintlintel_core *core, uint32_t has_version, uint32_t sector, uint64_t number);
+/* Notes what the next page holds, block by block: a version with its sectors, `count` from `first` on, and its number, or with has_version 0 none (it is
+ * erased or torn). 0; 2; 9 if the layer is mounted; 30 if the device lacks one of the sectors, if there are none, or if it is the last number; 32 after
+ * the last page. */
+uint32_t mintlintel_core_note(struct mintlintel_core *core, uint32_t has_version, uint32_t first, uint32_t count, uint64_t number);
 
 /* Mounts the layer once every page was noted: 0; 2; 9 if it is mounted; 32 before the last page. With 6, or with 7 if no block can be freed, the
  * handle is closed. */
@@ -159,11 +161,12 @@ uint32_t mintlintel_core_finish(struct mintlintel_core *core);
 /* The page that has the sector's newest version, a value or a trim: 1 with its place; 0 if none has; 2, 3 or 9. */
 uint32_t mintlintel_core_page(struct mintlintel_core *core, uint32_t sector, struct mintlintel_place *place);
 
-/* The command that comes next for a write or trim of the sector: 0; 2, 3 or 9; 31 if the numbers have run out. It changes nothing. */
-uint32_t mintlintel_core_next(struct mintlintel_core *core, uint32_t sector, struct mintlintel_command *command);
+/* The command that comes next for a write of a sector, or a trim of `count` from `first` on, for which one page is programmed: 0; 2; 3 also if there
+ * are none; 9; 31 if the numbers have run out. It changes nothing. */
+uint32_t mintlintel_core_next(struct mintlintel_core *core, uint32_t first, uint32_t count, struct mintlintel_command *command);
 
 /* This command has succeeded: 0, and after a command of kind 1 the write or trim is acknowledged. 2, 3 or 9; 32 if it isn't the one that comes next. */
-uint32_t mintlintel_core_done(struct mintlintel_core *core, uint32_t sector, struct mintlintel_command *command);
+uint32_t mintlintel_core_done(struct mintlintel_core *core, uint32_t first, uint32_t count, struct mintlintel_command *command);
 
 /* What has succeeded since the mount: 0; 2 or 9. */
 uint32_t mintlintel_core_counts(struct mintlintel_core *core, struct mintlintel_totals *totals);

@@ -60,8 +60,25 @@ void brooms_end(struct brooms *brooms) {
     pthread_rwlock_destroy(&brooms->choosing);
 }
 
+uint64_t brooms_copies(const struct brooms *brooms) {
+    uint64_t copies = 0;
+    for (uint32_t i = 0; i < brooms->count; i++)
+        copies += tally_of(&brooms->brooms[i].copies) + tally_of(&brooms->brooms[i].renewed);
+    return copies;
+}
+
 int brooms_retire(const struct brooms *brooms, uint32_t erases) {
     return erases + 1 >= brooms->endurance;
+}
+
+uint32_t *brooms_erases(const struct brooms *brooms, uint64_t *sum, uint64_t *retired) {
+    uint32_t *erases = calloc(brooms->blocks, sizeof *erases);
+    *sum = *retired = 0;
+    for (uint32_t i = 0; erases && i < brooms->blocks; i++) {
+        *sum += erases[i] = atomic_load_explicit(&brooms->erases[i], memory_order_relaxed);
+        *retired += (uint64_t) brooms_retire(brooms, erases[i]);
+    }
+    return erases;
 }
 
 // A code that no call of a broom should return. It is reported once.
@@ -102,11 +119,13 @@ static uint32_t next_destination(struct broom *broom) {
     return broom->destination;
 }
 
-// Copies that a host was before with its write are pages of the destination too.
-static void count_filled(struct broom *broom) {
-    struct mintlintel_state state;
-    if (broom->destination != NO_BLOCK && mintlintel_broom_block(announced(broom->seat), broom->destination, &state) == MINTLINTEL_DONE)
-        broom->filled = state.phase == MINTLINTEL_PHASE_OPEN ? state.written : broom->all->pages;
+// The pages that the broom has programmed for copies since it was asked last, also those whose sectors were written or trimmed meanwhile.
+static uint32_t new_copies(struct broom *broom) {
+    struct mintlintel_tally tally = {0, 0, 0};
+    mintlintel_broom_tally(announced(broom->seat), &tally);
+    uint64_t copies = tally.programs - tally_of(&broom->copies);
+    tally_add(&broom->copies, copies);
+    return (uint32_t) copies;
 }
 
 // The copies of a drain take their time one after the other, so that requests come between them.
@@ -117,7 +136,6 @@ static void take_copies(struct broom *broom, uint32_t victim, uint32_t count) {
         until = luns_copy(broom->all->luns, victim, to == NO_BLOCK ? victim : to, until);
         sleep_until(broom, until);
     }
-    count_filled(broom);
 }
 
 // ---- Which block is drained.
@@ -326,14 +344,12 @@ static int erase_drained(struct broom *broom, int are_all) {
 
 // Drains a block. 0 if there is nothing to gain, or the broom's next spare still waits to be erased.
 static int drain(struct broom *broom) {
-    uint32_t block = 0, moved = 0, code = drain_one(broom, &block, &moved);
-    broom->was_poor = 0;
+    uint32_t block = 0, moved = 0, code = drain_one(broom, &block, &moved), copies = new_copies(broom);
+    broom->was_poor = copies > broom->all->pages - broom->all->pages / POOR_PART;
     switch (code) {
     case MINTLINTEL_DONE:
-        broom->was_poor = moved > broom->all->pages - broom->all->pages / POOR_PART;
         tally_add(&broom->drains, 1);
-        tally_add(&broom->copies, moved);
-        take_copies(broom, block, moved);
+        take_copies(broom, block, copies);
         return 1;
     case MINTLINTEL_LOST:
         tally_add(&broom->lost, 1);

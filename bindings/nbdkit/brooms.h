@@ -29,7 +29,9 @@ struct broom {
     uint32_t destination, filled; // the block that it copies to, and how many of its pages are copies; or NO_BLOCK
     uint32_t spare;               // the block after that, or NO_BLOCK
     uint64_t random;              // for the sectors whose blocks are compared
-    tally drains, copies, kept, pinned, lost, fruitless;
+    tally copies;                 // its programs, by the library's tally of its seat
+    tally renewed;                // pages that a host's seat has written anew for it
+    tally drains, kept, pinned, lost, fruitless;
 };
 
 struct brooms {
@@ -55,8 +57,14 @@ int brooms_begin(struct brooms *brooms, const struct options *options, struct st
                  struct mintlintel_seat *seats);
 void brooms_end(struct brooms *brooms);
 
+// The pages that were programmed for collection.
+uint64_t brooms_copies(const struct brooms *brooms);
+
 // Whether a block that was erased so often is retired.
 int brooms_retire(const struct brooms *brooms, uint32_t erases);
+
+// The erases of each block, at one moment, and of these the sum and how many blocks are retired. NULL if there is no memory.
+uint32_t *brooms_erases(const struct brooms *brooms, uint64_t *sum, uint64_t *retired);
 
 // Starts the threads: 0, or -1 with an error reported. They end after stock_stop, and brooms_join waits for them.
 int brooms_start(struct brooms *brooms);

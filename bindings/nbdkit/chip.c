@@ -11,6 +11,7 @@
 #include <unistd.h>
 
 #include "luns.h"
+#include "power.h"
 #include "random.h"
 
 enum { DONE = 0, FAILED = 1 }; // what the chip answers
@@ -75,6 +76,7 @@ static int chip_read(void *at, uint32_t block, uint32_t page, void *main, void *
 static int chip_program(void *at, uint32_t block, uint32_t page, const void *main, const void *stamp) {
     chip.is_untimed = 0;
     chip.end = luns_program(&chip.luns, block, chip.end);
+    announce_given();
     return fails(block, chip.options->fail_programs) ? fail_program(block, page, main) : chip.nand.program(at, block, page, main, stamp);
 }
 

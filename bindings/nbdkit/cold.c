@@ -36,7 +36,7 @@ static int renew(struct broom *broom, struct host *host, const struct found *fou
     if (block_of(host->seat, found->sector, page, all->page) != found->block
         || mintlintel_host_write(announced(host->seat), found->sector, page, all->page) != MINTLINTEL_WRITTEN)
         return 0;
-    tally_add(&broom->copies, 1);
+    tally_add(&broom->renewed, 1);
     *until = luns_copy(all->luns, found->block, block_of(host->seat, found->sector, NULL, 0), 0);
     return 1;
 }

@@ -15,10 +15,7 @@ struct host_counts {
     uint64_t reads, writes, trims, refusals, handles_that_wrote;
 };
 struct broom_counts {
-    uint64_t drains, copies, kept, pinned, lost, fruitless;
-};
-struct block_counts {
-    uint32_t erases, is_retired;
+    uint64_t drains, kept, pinned, lost, fruitless;
 };
 struct stock_counts {
     uint64_t free, open, waits, waited_ns, gave_up, miscounts, lost_wake_ups;
@@ -42,7 +39,6 @@ static struct broom_counts counts_of_brooms(const struct brooms *brooms) {
     for (uint32_t i = 0; i < brooms->count; i++) {
         struct broom *broom = &brooms->brooms[i];
         counts.drains += tally_of(&broom->drains);
-        counts.copies += tally_of(&broom->copies);
         counts.kept += tally_of(&broom->kept);
         counts.pinned += tally_of(&broom->pinned);
         counts.lost += tally_of(&broom->lost);
@@ -89,7 +85,7 @@ static void print_counts(FILE *file, struct device *device, uint64_t erases, uin
         uint64_t number;
     } lines[] = {
         {"programs", hosts.writes},
-        {"copies", brooms.copies},
+        {"copies", brooms_copies(&device->brooms)},
         {"erases", erases},
         {"free_blocks", stock.free},
         {"retired_blocks", retired},
@@ -113,31 +109,18 @@ static void print_counts(FILE *file, struct device *device, uint64_t erases, uin
         fprintf(file, "%s,%" PRIu64 "\n", lines[i].name, lines[i].number);
 }
 
-// The blocks at one moment, so that their sums are those of the lines above them.
-static struct block_counts *counts_of_blocks(const struct brooms *brooms, uint64_t *erases, uint64_t *retired) {
-    struct block_counts *blocks = calloc(brooms->blocks, sizeof *blocks);
-    *erases = *retired = 0;
-    for (uint32_t i = 0; blocks && i < brooms->blocks; i++) {
-        blocks[i].erases = atomic_load_explicit(&brooms->erases[i], memory_order_relaxed);
-        blocks[i].is_retired = (uint32_t) brooms_retire(brooms, blocks[i].erases);
-        *erases += blocks[i].erases;
-        *retired += blocks[i].is_retired;
-    }
-    return blocks;
-}
-
 static int print_all(FILE *file, struct device *device) {
-    uint64_t erases, retired;
-    struct block_counts *blocks = counts_of_blocks(&device->brooms, &erases, &retired);
-    if (!blocks)
+    uint64_t sum, retired;
+    uint32_t *erases = brooms_erases(&device->brooms, &sum, &retired);
+    if (!erases)
         return -1;
     fprintf(file, "name,number\n");
     print_numbers(file, &device->options);
-    print_counts(file, device, erases, retired);
+    print_counts(file, device, sum, retired);
     fprintf(file, "block,erases,retired\n");
     for (uint32_t i = 0; i < device->brooms.blocks; i++)
-        fprintf(file, "%" PRIu32 ",%" PRIu32 ",%" PRIu32 "\n", i, blocks[i].erases, blocks[i].is_retired);
-    free(blocks);
+        fprintf(file, "%" PRIu32 ",%" PRIu32 ",%d\n", i, erases[i], brooms_retire(&device->brooms, erases[i]));
+    free(erases);
     return 0;
 }
 

@@ -8,6 +8,9 @@
 #include <stdlib.h>
 #include <string.h>
 
+#include <crc.h>
+#include <flash.h>
+
 #include "chip.h"
 #include "luns.h"
 #include "pieces.h"
@@ -53,6 +56,15 @@ static uint32_t open_image(struct image_disk *disk) {
     return mintlintel_image_open(&disk->image, options->image, mode, options->luns, options->blocks, options->pages, options->page, options->sectors);
 }
 
+// Who waits for the lock spins a little first, since it is mostly held for less than a sleep takes.
+static void make_mutex(pthread_mutex_t *mutex) {
+    pthread_mutexattr_t kind;
+    pthread_mutexattr_init(&kind);
+    pthread_mutexattr_settype(&kind, PTHREAD_MUTEX_ADAPTIVE_NP);
+    pthread_mutex_init(mutex, &kind);
+    pthread_mutexattr_destroy(&kind);
+}
+
 int image_disk_open(struct image_disk *disk, struct options *options) {
     struct mintlintel_durable_numbers numbers;
     disk->options = options;
@@ -64,7 +76,7 @@ int image_disk_open(struct image_disk *disk, struct options *options) {
         tell_refusal(options, code, errno);
         return -1;
     }
-    pthread_mutex_init(&disk->mutex, NULL);
+    make_mutex(&disk->mutex);
     mintlintel_durable_numbers(&disk->image.device, &numbers);
     options->luns = numbers.luns;
     options->blocks = numbers.blocks;
@@ -75,7 +87,7 @@ int image_disk_open(struct image_disk *disk, struct options *options) {
     if (disk->is_worn)
         tell_worn();
     if (options->page <= MAX_PAGE_BYTES)
-        return unreadable_begin(&disk->unreadable, &options->unreadable, options->sectors) == -1 ? -1 : power_open(&disk->power, options, &disk->mutex);
+        return unreadable_begin(&disk->unreadable, &options->unreadable, options->sectors) == -1 ? -1 : power_open(&disk->power, options);
     nbdkit_error("image=%s has pages of %" PRIu32 " bytes, and the plugin takes at most %d", options->image, options->page, MAX_PAGE_BYTES);
     return -1;
 }
@@ -110,6 +122,14 @@ static int fail(struct image_disk *disk, const char *call, uint32_t code) {
     disk->has_failed = 1;
     nbdkit_set_error(error == ENOSPC ? ENOSPC : EIO);
     return -1;
+}
+
+// The same of a write that couldn't be done, without the lock.
+static int fail_commit(struct image_disk *disk, uint32_t code) {
+    pthread_mutex_lock(&disk->mutex);
+    int result = fail(disk, "write", code);
+    pthread_mutex_unlock(&disk->mutex);
+    return result;
 }
 
 // Too few blocks are good for the sectors.
@@ -175,11 +195,9 @@ static int load_piece(struct image_disk *disk, const struct piece *piece, uint8_
     return 0;
 }
 
-static int store_piece(struct image_disk *disk, const struct piece *piece, const uint8_t *from) {
+static int store_part(struct image_disk *disk, const struct piece *piece, const uint8_t *from) {
     uint8_t page[MAX_PAGE_BYTES];
     int is_empty;
-    if (piece->is_whole)
-        return store(disk, piece->sector, from);
     if (load(disk, piece->sector, page, &is_empty) == -1)
         return -1;
     memcpy(page + piece->at, from, piece->count);
@@ -205,40 +223,143 @@ static void end_turn(struct image_disk *disk) {
     pthread_mutex_lock(&disk->mutex);
 }
 
-int image_disk_read(struct image_disk *disk, uint8_t *to, uint32_t count, uint64_t offset) {
-    struct range range = {.offset = offset, .count = count, .page = disk->options->page};
-    struct piece piece;
-    uint64_t began = luns_now(), until = began;
-    int result = 0;
+// ---- Reads without the lock: it is held only while the pages are looked up.
+
+// Whether reads have to be in order with all else: commands take time, or pages can't be read.
+static int reads_in_turn(const struct image_disk *disk) {
+    return disk->options->part.read > 0 || disk->unreadable.words;
+}
+
+// Finds where the pages of some sectors are, in runs: how many of these, or 0 if each call is refused.
+static uint32_t find_runs(struct image_disk *disk, uint32_t sector, uint32_t count, struct mtl_run *runs, uint8_t *is_empty) {
+    uint32_t found = 0;
     pthread_mutex_lock(&disk->mutex);
-    for (uint32_t done = 1; result == 0 && next_piece(&range, &piece); done++) {
+    for (uint32_t done = 0; done < count; done += runs[found++].count) {
+        uint32_t code = mtl_image_find(&disk->image, sector + done, count - done, &runs[found]);
+        if (code > MINTLINTEL_WRITTEN) {
+            found = 0;
+            break;
+        }
+        is_empty[found] = code == MINTLINTEL_EMPTY;
+    }
+    disk->reads += found ? count : 0;
+    pthread_mutex_unlock(&disk->mutex);
+    return found;
+}
+
+// These pages have to be read under the lock, and are counted there.
+static int read_again(struct image_disk *disk, uint32_t count) {
+    pthread_mutex_lock(&disk->mutex);
+    disk->reads -= count;
+    pthread_mutex_unlock(&disk->mutex);
+    return 0;
+}
+
+// Reads whole pages, at most those of a turn: 1, or 0 if that has to be done under the lock.
+static int read_beside(struct image_disk *disk, uint8_t *to, uint32_t sector, uint32_t count) {
+    struct mtl_run runs[PAGES_OF_A_TURN];
+    uint8_t is_empty[PAGES_OF_A_TURN];
+    uint32_t found = find_runs(disk, sector, count, runs, is_empty);
+    for (uint32_t i = 0; i < found; i++) {
+        size_t bytes = (size_t) runs[i].count * disk->options->page;
+        if (is_empty[i])
+            memset(to, 0, bytes);
+        else if (!mtl_image_read_run(&disk->image, &runs[i], to))
+            return read_again(disk, count);
+        to += bytes;
+    }
+    return found > 0;
+}
+
+// Reads what comes next of a request as far as it can: 1 if it has read some whole pages.
+static int read_ahead(struct image_disk *disk, uint8_t *to, struct range *range) {
+    uint32_t page = range->page, pages = range->count / page, count = pages < PAGES_OF_A_TURN ? pages : PAGES_OF_A_TURN;
+    if (count == 0 || range->offset % page != 0 || reads_in_turn(disk) || !read_beside(disk, to, (uint32_t) (range->offset / page), count))
+        return 0;
+    range->offset += (uint64_t) count * page;
+    range->count -= count * page;
+    return 1;
+}
+
+// The next pages of a read.
+static int read_turn(struct image_disk *disk, uint8_t *to, struct range *range, uint64_t began, uint64_t *until) {
+    struct piece piece;
+    int result = 0;
+    if (read_ahead(disk, to, range))
+        return 0;
+    pthread_mutex_lock(&disk->mutex);
+    for (uint32_t done = 0; result == 0 && done < PAGES_OF_A_TURN && next_piece(range, &piece); done++) {
         chip_ask(began);
         result = load_piece(disk, &piece, to);
-        note_time(&until);
+        note_time(until);
         to += piece.count;
-        if (done % PAGES_OF_A_TURN == 0)
-            end_turn(disk);
     }
     pthread_mutex_unlock(&disk->mutex);
+    return result;
+}
+
+int image_disk_read(struct image_disk *disk, uint8_t *to, uint32_t count, uint64_t offset) {
+    struct range range = {.offset = offset, .count = count, .page = disk->options->page};
+    uint64_t began = luns_now(), until = began;
+    int result = 0;
+    while (result == 0 && range.count > 0)
+        result = read_turn(disk, to + (count - range.count), &range, began, &until);
     luns_sleep(until);
     return result;
 }
 
+// ---- Writes: the lock is held while the layer says what to do, and not while that is done.
+
+// A part of a page.
+static int write_part(struct image_disk *disk, const struct piece *piece, const uint8_t *from, uint64_t began, uint64_t *until) {
+    pthread_mutex_lock(&disk->mutex);
+    chip_ask(began);
+    int result = store_part(disk, piece, from);
+    note_time(until);
+    pthread_mutex_unlock(&disk->mutex);
+    return result;
+}
+
+// Whole pages, at most those of a turn.
+static int write_pages(struct image_disk *disk, const uint8_t *from, uint32_t sector, uint32_t count, uint64_t began, uint64_t *until) {
+    size_t page = disk->options->page;
+    uint32_t checks[PAGES_OF_A_TURN];
+    int result = 0;
+    for (uint32_t i = 0; i < count; i++)
+        checks[i] = mtl_crc(0, from + i * page, page);
+    pthread_mutex_lock(&disk->mutex);
+    mtl_image_keep(&disk->image, from, checks, count);
+    for (uint32_t i = 0; result == 0 && i < count; i++) {
+        chip_ask(began);
+        result = store(disk, sector + i, from + i * page);
+        note_time(until);
+    }
+    uint64_t ticket = mtl_image_let_go(&disk->image);
+    pthread_mutex_unlock(&disk->mutex);
+    uint32_t code = mtl_image_commit(&disk->image, ticket);
+    return result == 0 && code != MINTLINTEL_DONE ? fail_commit(disk, code) : result;
+}
+
+// What comes next of a write: whole pages, or a part of one.
+static int write_turn(struct image_disk *disk, const uint8_t *from, struct range *range, uint64_t began, uint64_t *until) {
+    uint32_t page = range->page, whole = range->count / page, count = whole < PAGES_OF_A_TURN ? whole : PAGES_OF_A_TURN;
+    uint32_t sector = (uint32_t) (range->offset / page);
+    struct piece piece;
+    if (range->offset % page != 0 || count == 0) {
+        next_piece(range, &piece);
+        return write_part(disk, &piece, from, began, until);
+    }
+    range->offset += (uint64_t) count * page;
+    range->count -= count * page;
+    return write_pages(disk, from, sector, count, began, until);
+}
+
 int image_disk_write(struct image_disk *disk, const uint8_t *from, uint32_t count, uint64_t offset) {
     struct range range = {.offset = offset, .count = count, .page = disk->options->page};
-    struct piece piece;
     uint64_t began = luns_now(), until = began;
     int result = 0;
-    pthread_mutex_lock(&disk->mutex);
-    for (uint32_t done = 1; result == 0 && next_piece(&range, &piece); done++) {
-        chip_ask(began);
-        result = store_piece(disk, &piece, from);
-        note_time(&until);
-        from += piece.count;
-        if (done % PAGES_OF_A_TURN == 0)
-            end_turn(disk);
-    }
-    pthread_mutex_unlock(&disk->mutex);
+    while (result == 0 && range.count > 0)
+        result = write_turn(disk, from + (count - range.count), &range, began, &until);
     luns_sleep(until);
     return result;
 }

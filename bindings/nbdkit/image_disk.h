@@ -1,6 +1,7 @@
 // The disk in an image file: a device that survives the end of the server, by image=FILE.
 //
-// One lock is round all calls of the layer. A request of many pages gives it up from time to time, so it is not one step; each of its pages is.
+// One lock is round all calls of the layer. A request of many pages gives it up from time to time, so it is not one step; each of its pages is. The
+// pages of a write that stand one behind another are written together. A read looks its pages up under the lock, and reads them without it.
 #ifndef NBDKIT_IMAGE_DISK_H
 #define NBDKIT_IMAGE_DISK_H
 

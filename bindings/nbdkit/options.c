@@ -16,6 +16,9 @@
 enum {
     MAX_SECTORS_OF_AN_IMAGE = 268435456,
     BLOCKS_OF_AN_IMAGE = 4, // that are kept to collect with
+    FEWEST_PAGES = 64,      // of a block, by default
+    MOST_PAGES = 1024,
+    BLOCKS_BEFORE_PAGES = 512, // so many blocks an image has before these are made larger
     MAX_SPARE = 10000,
     MAX_WAIT = 600000,
     MAX_AGE = 1000,
@@ -24,7 +27,7 @@ enum {
 const char options_help[] = "[size=]SIZE            Bytes of the device, such as 64M (default 96M).\n"
                             "spare=PERCENT%         Pages beyond the sectors, of these (default 12%).\n"
                             "page=BYTES             A page, which is a sector (default 4096).\n"
-                            "pages=N                Pages of a block (default 64).\n"
+                            "pages=N                Pages of a block (default 64; of an image up to 1024).\n"
                             "sectors=N, blocks=N    In place of size= and spare=.\n"
                             "luns=N                 LUNs (default 1).\n"
                             "endurance=N            Erases of a block; the last would fail\n"
@@ -64,7 +67,6 @@ void options_begin(struct options *options) {
     *options = (struct options){
         .page = 4096,
         .luns = 1,
-        .pages = 64,
         .endurance = MINTLINTEL_MAX_ENDURANCE,
         .hosts = default_hosts(),
         .brooms = 1,
@@ -291,6 +293,20 @@ static uint64_t kept_blocks(const struct options *options) {
     return options->image ? BLOCKS_OF_AN_IMAGE : options->hosts + 2 * (uint64_t) options->brooms;
 }
 
+// An image is synced for each block, so a large one has large blocks. One that is there has its own, from which the number of blocks follows.
+static void choose_pages(struct options *options) {
+    struct mintlintel_image_head head = {0};
+    if (options->pages)
+        return;
+    if (options->image && mintlintel_image_look(options->image, &head) == MINTLINTEL_DONE)
+        options->pages = head.numbers.pages;
+    if (options->pages)
+        return;
+    options->pages = FEWEST_PAGES;
+    while (options->image && options->pages < MOST_PAGES && options->sectors / options->pages >= 2 * BLOCKS_BEFORE_PAGES)
+        options->pages *= 2;
+}
+
 static int choose_blocks(struct options *options) {
     if (options->blocks && options->has_spare) {
         nbdkit_error("spare= and blocks= say the same: give one of them");
@@ -339,7 +355,10 @@ int options_complete(struct options *options) {
         nbdkit_error("%s= is of a device %s", wrong, options->image ? "in memory, and this one is in an image" : "in an image: give image= too");
         return -1;
     }
-    if (choose_sectors(options) == -1 || choose_blocks(options) == -1)
+    if (choose_sectors(options) == -1)
+        return -1;
+    choose_pages(options);
+    if (choose_blocks(options) == -1)
         return -1;
     return options->image ? 0 : choose_marks(options);
 }

@@ -6,11 +6,13 @@
 #include <inttypes.h>
 #include <mintlintel_image.h>
 #include <nbdkit-plugin.h>
+#include <pthread.h>
 #include <signal.h>
 #include <stdatomic.h>
 #include <stdio.h>
 #include <stdlib.h>
 #include <string.h>
+#include <sys/uio.h>
 #include <unistd.h>
 
 #include "random.h"
@@ -29,18 +31,27 @@ struct unsynced {
     uint8_t bytes[]; // those before, and those after
 };
 
-// There is one image, and all of this is used under its lock.
+// There is one image, whose file several threads read and write. What they do is in some order, by the mutex.
 static struct {
+    pthread_mutex_t mutex; // of all but the last two
     struct unsynced *newest, *oldest;
     uint64_t writes, cut, random, kept, lost;
     int is_armed;
     _Atomic int is_due; // the next write is cut
-} state;
+} state = {.mutex = PTHREAD_MUTEX_INITIALIZER};
 
+ssize_t __real_pread64(int fd, void *bytes, size_t count, off_t at);
 ssize_t __real_pwrite64(int fd, const void *bytes, size_t count, off_t at);
+ssize_t __real_pwritev64(int fd, const struct iovec *parts, int count, off_t at);
 int __real_fdatasync(int fd);
+ssize_t __wrap_pread64(int fd, void *bytes, size_t count, off_t at);
 ssize_t __wrap_pwrite64(int fd, const void *bytes, size_t count, off_t at);
+ssize_t __wrap_pwritev64(int fd, const struct iovec *parts, int count, off_t at);
 int __wrap_fdatasync(int fd);
+
+#ifdef __SANITIZE_THREAD__
+char power_given;
+#endif
 
 static void forget_all(void) {
     while (state.oldest) {
@@ -75,7 +86,7 @@ static void lose_writes(void) {
 // The machine's run has another name from now on, so that the next server doubts what it finds.
 static void end_session(int fd) {
     uint8_t session[SESSION_BYTES];
-    if (pread(fd, session, sizeof session, SESSION_AT) != sizeof session)
+    if (__real_pread64(fd, session, sizeof session, SESSION_AT) != sizeof session)
         return;
     memset(session + BOOT_AT, '-', BOOT_BYTES);
     uint32_t check = mintlintel_crc32c(0, session, SESSION_CHECK_AT);
@@ -102,7 +113,7 @@ static int keep(int fd, const void *bytes, size_t count, off_t at) {
         return 0;
     *write = (struct unsynced){.older = state.newest, .fd = fd, .at = at, .count = count};
     memset(write->bytes, 0, count);
-    if (pread(fd, write->bytes, count, at) < 0) {
+    if (__real_pread64(fd, write->bytes, count, at) < 0) {
         free(write);
         return 0;
     }
@@ -118,9 +129,17 @@ static size_t torn(size_t count, off_t at) {
     return end > (size_t) at ? end - (size_t) at : 0;
 }
 
-ssize_t __wrap_pwrite64(int fd, const void *bytes, size_t count, off_t at) {
+// Nothing is read once the power is cut.
+ssize_t __wrap_pread64(int fd, void *bytes, size_t count, off_t at) {
     if (!state.is_armed)
-        return __real_pwrite64(fd, bytes, count, at);
+        return __real_pread64(fd, bytes, count, at);
+    pthread_mutex_lock(&state.mutex);
+    ssize_t result = __real_pread64(fd, bytes, count, at);
+    pthread_mutex_unlock(&state.mutex);
+    return result;
+}
+
+static ssize_t write_armed(int fd, const void *bytes, size_t count, off_t at) {
     state.writes++;
     int is_cut = state.writes == state.cut || atomic_load(&state.is_due);
     size_t most = is_cut ? torn(count, at) : count;
@@ -133,10 +152,38 @@ ssize_t __wrap_pwrite64(int fd, const void *bytes, size_t count, off_t at) {
     return __real_pwrite64(fd, bytes, count, at);
 }
 
+ssize_t __wrap_pwrite64(int fd, const void *bytes, size_t count, off_t at) {
+    if (!state.is_armed)
+        return __real_pwrite64(fd, bytes, count, at);
+    pthread_mutex_lock(&state.mutex);
+    ssize_t result = write_armed(fd, bytes, count, at);
+    pthread_mutex_unlock(&state.mutex);
+    return result;
+}
+
+// Pages that are written together, or their stamps, are a write each.
+ssize_t __wrap_pwritev64(int fd, const struct iovec *parts, int count, off_t at) {
+    announce_taken();
+    if (!state.is_armed)
+        return __real_pwritev64(fd, parts, count, at);
+    ssize_t all = 0;
+    for (int i = 0; i < count; i++) {
+        ssize_t written = __wrap_pwrite64(fd, parts[i].iov_base, parts[i].iov_len, at + all);
+        all += written > 0 ? written : 0;
+        if (written != (ssize_t) parts[i].iov_len)
+            return all > 0 ? all : written;
+    }
+    return all;
+}
+
 int __wrap_fdatasync(int fd) {
+    if (!state.is_armed)
+        return __real_fdatasync(fd);
+    pthread_mutex_lock(&state.mutex);
     int result = __real_fdatasync(fd);
     if (result == 0)
         forget_all();
+    pthread_mutex_unlock(&state.mutex);
     return result;
 }
 
@@ -160,13 +207,13 @@ static void *wait_for_signal(void *argument) {
         return NULL;
     atomic_store(&state.is_due, 1);
     usleep(WAIT_FOR_A_WRITE_US);
-    pthread_mutex_lock(power->mutex);
+    pthread_mutex_lock(&state.mutex);
     cut(state.newest ? state.newest->fd : -1);
     return NULL;
 }
 
-int power_open(struct power *power, const struct options *options, pthread_mutex_t *mutex) {
-    *power = (struct power){.mutex = mutex, .is_armed = options->cut != NO_CUT};
+int power_open(struct power *power, const struct options *options) {
+    *power = (struct power){.is_armed = options->cut != NO_CUT};
     if (!power->is_armed)
         return 0;
     state.is_armed = 1;

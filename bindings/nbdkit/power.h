@@ -1,7 +1,7 @@
 // Power cuts of an image's disk, by cut=: the power goes at a write to the file, or at SIGUSR2. That write is torn, each write that was not synced
 // is lost or kept, by the seed, and the server ends. The next one finds what a machine finds after a power cut.
 //
-// All writes and syncs of the library go through this: its calls of pwrite and fdatasync are linked to the functions here.
+// All reads, writes and syncs of the library go through this: its calls of pread, pwrite and fdatasync are linked to the functions here.
 #ifndef NBDKIT_POWER_H
 #define NBDKIT_POWER_H
 
@@ -13,17 +13,34 @@
 enum { STATUS_OF_A_CUT = 3 };
 
 struct power {
-    pthread_mutex_t *mutex; // held by whoever writes to the file
-    pthread_t thread;       // waits for SIGUSR2
+    pthread_t thread; // waits for SIGUSR2
     int has_thread, is_armed;
     _Atomic int is_stopping;
 };
 
 // From now on the writes to the image are counted and kept, if the options have a cut. 0, or -1 with an error reported.
-int power_open(struct power *power, const struct options *options, pthread_mutex_t *mutex);
+int power_open(struct power *power, const struct options *options);
 
 // Starts the thread that waits for SIGUSR2.
 int power_start(struct power *power);
 void power_close(struct power *power);
+
+// The library gives pages that wait to the thread that writes them, by an atomic number that ThreadSanitizer doesn't see: so it is told of that.
+#ifdef __SANITIZE_THREAD__
+void __tsan_acquire(void *at);
+void __tsan_release(void *at);
+extern char power_given;
+static inline void announce_given(void) {
+    __tsan_release(&power_given);
+}
+static inline void announce_taken(void) {
+    __tsan_acquire(&power_given);
+}
+#else
+static inline void announce_given(void) {
+}
+static inline void announce_taken(void) {
+}
+#endif
 
 #endif

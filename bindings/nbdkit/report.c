@@ -34,8 +34,7 @@ static struct work work_of(struct device *device) {
         filled += tally_of(&host->filled);
     }
     work.used = filled > work.emptied ? filled - work.emptied : 0; // both are of moments near each other
-    for (uint32_t i = 0; i < device->brooms.count; i++)
-        work.copies += tally_of(&device->brooms.brooms[i].copies);
+    work.copies = brooms_copies(&device->brooms);
     return work;
 }
 
@@ -52,16 +51,6 @@ static struct supply supply_of(struct stock *stock) {
         supply.waits_by_time[i] = stock->waits_by_time[i];
     pthread_mutex_unlock(&stock->mutex);
     return supply;
-}
-
-// The blocks at one moment, so that their sums are those of the lines above them. NULL if there is no memory.
-static uint32_t *erases_of_blocks(const struct brooms *brooms, struct work *work) {
-    uint32_t *erases = calloc(brooms->blocks, sizeof *erases);
-    for (uint32_t i = 0; erases && i < brooms->blocks; i++) {
-        work->erases += erases[i] = atomic_load_explicit(&brooms->erases[i], memory_order_relaxed);
-        work->retired += (uint64_t) brooms_retire(brooms, erases[i]);
-    }
-    return erases;
 }
 
 static void tell_blocks(FILE *file, const uint32_t *erases, uint32_t blocks) {
@@ -124,7 +113,7 @@ static int tell(FILE *file, struct device *device) {
     const struct options *options = &device->options;
     struct work work = work_of(device);
     struct supply supply = supply_of(&device->stock);
-    uint32_t *erases = erases_of_blocks(&device->brooms, &work);
+    uint32_t *erases = brooms_erases(&device->brooms, &work.erases, &work.retired);
     if (!erases)
         return -1;
     tell_numbers(file, options);

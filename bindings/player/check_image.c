@@ -45,14 +45,15 @@ static int read_all(int fd, uint8_t *bytes, size_t count, uint64_t at)
 /* Notes a version, whose page may not fit its sum. Of two with one number, one is a copy of the other. */
 static void note(struct look *look, const struct stamp *stamp, uint32_t block, int fits)
 {
-    struct newest *newest = &look->sectors[stamp->sector];
     uint64_t after = stamp->number + 1;
     uint8_t is_behind = look->gaps[block] > 0;
-    if (after > newest->after)
-        *newest = (struct newest){after, block, (uint8_t)stamp->kind, (uint8_t)fits, is_behind};
-    else if (after == newest->after) {
-        newest->fits &= (uint8_t)fits;
-        newest->is_behind &= is_behind;
+    for (struct newest *newest = look->sectors + stamp->sector; newest < look->sectors + stamp->sector + stamp->count; newest++) {
+        if (after > newest->after)
+            *newest = (struct newest){after, block, (uint8_t)stamp->kind, (uint8_t)fits, is_behind};
+        else if (after == newest->after) {
+            newest->fits &= (uint8_t)fits;
+            newest->is_behind &= is_behind;
+        }
     }
     look->updates = after > look->updates ? after : look->updates;
 }
@@ -64,7 +65,7 @@ static int check_version(struct look *look, const uint8_t *spare, uint64_t at, u
     if (!read_all(look->fd, look->page, look->numbers.page_bytes, at))
         return 0;
     int fits = mintlintel_stamp_fits(spare, look->page, look->numbers.page_bytes);
-    int is_known = stamp.sector < look->numbers.sectors && stamp.count == 1 && (stamp.kind == STAMP_VALUE || stamp.kind == STAMP_TRIM);
+    int is_known = mtl_stamp_is_of(&stamp, look->numbers.sectors);
     look->broken += !fits || !is_known;
     look->versions += fits && is_known;
     if (!is_known)

@@ -1,5 +1,6 @@
 /* A device that survives power cuts: it performs the commands of the proved core by the caller's functions. This file is plain C, and not proved. */
 #include "mintlintel_durable.h"
+#include "crc.h"
 #include "flash.h"
 #include "stamp.h"
 #include <stdlib.h>
@@ -11,6 +12,8 @@ enum { MOST_LUNS = 8, FEWEST_BLOCKS = 3, MOST_BLOCKS = 1048576, MOST_PAGES = 163
 enum { LOOKED_AT = 4096 };
 /* How many versions an open reads whole, to tell a device with pages of another size. */
 enum { SAMPLES = 8 };
+/* How many sectors one page may trim: a mount notes each of them. */
+enum { MOST_TRIMMED = 4096 };
 /* Of so many blocks one is in reserve, and at least one of a device, if the sectors leave room for it. */
 enum { ONE_RESERVE_IN = 50 };
 /* A block that has failed is marked once nothing in it is needed; so a marked one is not read. Nor is one that failed an erase: it kept nothing, and
@@ -18,7 +21,7 @@ enum { ONE_RESERVE_IN = 50 };
 enum { GOOD, FAILED, FAILED_ERASE, MARKED };
 
 /* A page as its stamp tells it: what a read of the stamp alone returned, and if that is 0 the version. */
-struct noted { uint64_t number; uint32_t sector, erases : 24, reading : 2; };
+struct noted { uint64_t number; uint32_t sector, count, erases : 24, reading : 2; };
 
 /* What a mount reads first: each page as its stamp tells it, and of each sector twice the newest number, and one more if two pages have it. */
 struct stamps { struct noted *pages; uint64_t *newest; };
@@ -42,9 +45,12 @@ struct mintlintel_flash {
     uint32_t stopped; /* the code that every call returns since the power went, or a sync or a mount failed, or 0 */
     uint32_t worn; /* the code of writes and trims since bad blocks have left no room, or 0 */
     uint8_t *page, *moved;
+    const uint8_t *known; /* pages whose checks are known, or null */
+    const uint32_t *checks;
+    size_t known_pages;
 };
 
-struct update { uint32_t sector; const uint8_t *bytes; /* null: a trim */ };
+struct update { uint32_t first, count; const uint8_t *bytes; /* null: a trim */ };
 
 /* What an open finds out, and a mount after a failure knows. */
 struct opening { int has_trace; };
@@ -70,15 +76,22 @@ static int read_page(struct mintlintel_flash *flash, uint32_t block, uint32_t pa
     return 0;
 }
 
+/* The CRC-32C of a page, which may be known. */
+static uint32_t crc_of(const struct mintlintel_flash *flash, const uint8_t *page)
+{
+    size_t bytes = flash->numbers.page_bytes, at = flash->known && page >= flash->known ? (size_t)(page - flash->known) : SIZE_MAX;
+    return at / bytes < flash->known_pages && at % bytes == 0 ? flash->checks[at / bytes] : mtl_crc(0, page, bytes);
+}
+
 static uint32_t program(struct mintlintel_flash *flash, const struct mintlintel_command *command, struct update update)
 {
-    struct stamp stamp = {update.bytes ? STAMP_VALUE : STAMP_TRIM, command->number, command->sector, 1,
+    struct stamp stamp = {update.bytes ? STAMP_VALUE : STAMP_TRIM, command->number, update.first, update.count,
                           flash->erases[flash->chip_block[command->block]]};
     uint8_t bytes[MINTLINTEL_STAMP_BYTES];
     if (!update.bytes)
         memset(flash->page, 0, flash->numbers.page_bytes);
     const uint8_t *page = update.bytes ? update.bytes : flash->page;
-    mtl_stamp_into(bytes, &stamp, page, flash->numbers.page_bytes);
+    mtl_stamp_into(bytes, &stamp, crc_of(flash, page));
     return code_of(flash->nand.program(flash->nand.chip, flash->chip_block[command->block], command->page, page, bytes));
 }
 
@@ -115,8 +128,9 @@ static uint32_t perform(struct mintlintel_flash *flash, const struct mintlintel_
 /* After these codes memory and flash may differ, so that only an open helps. */
 static uint32_t stops(struct mintlintel_flash *flash, uint32_t code)
 {
-    if (code == MINTLINTEL_POWER_GONE && flash->reason && *flash->reason)
-        code = *flash->reason;
+    uint32_t reason = flash->reason ? __atomic_load_n(flash->reason, __ATOMIC_ACQUIRE) : MINTLINTEL_DONE;
+    if (code == MINTLINTEL_POWER_GONE && reason)
+        code = reason;
     else if (code != MINTLINTEL_POWER_GONE && code != MINTLINTEL_FAILED)
         return code;
     flash->stopped = code;
@@ -217,14 +231,21 @@ static void number_all(struct mintlintel_flash *flash)
  * elsewhere too, until a newer one is there. And only the newest version of a sector counts. So a stamp is believed but in two cases, in which the page
  * is read whole: where it is the last one of its block, and where two pages have the newest version. */
 
+/* Whether a stamp is of this sector. */
+static int covers(const struct stamp *stamp, uint32_t sector)
+{
+    return sector >= stamp->sector && sector - stamp->sector < stamp->count;
+}
+
 /* Notes the newest numbers in a block. */
 static void note_newest(struct stamps *stamps, const struct noted *pages, uint32_t count)
 {
     for (const struct noted *page = pages; page < pages + count; page++) {
         if (page->reading != 0)
             continue;
-        uint64_t *newest = &stamps->newest[page->sector], number = page->number << 1;
-        *newest = number > *newest ? number : number == (*newest & ~(uint64_t)1) ? number | 1 : *newest;
+        uint64_t number = page->number << 1;
+        for (uint64_t *newest = stamps->newest + page->sector; newest < stamps->newest + page->sector + page->count; newest++)
+            *newest = number > *newest ? number : number == (*newest & ~(uint64_t)1) ? number | 1 : *newest;
     }
 }
 
@@ -237,12 +258,12 @@ static uint32_t stamps_of_block(struct mintlintel_flash *flash, uint32_t block)
         int reading = read_page(flash, block, (uint32_t)(page - pages), NULL, &stamp);
         if (reading == 3)
             return MINTLINTEL_POWER_GONE;
-        if (reading == 0 && (stamp.kind > STAMP_TRIM || stamp.count != 1 || stamp.sector >= flash->numbers.sectors))
+        if (reading == 0 && !mtl_stamp_is_of(&stamp, flash->numbers.sectors))
             return MINTLINTEL_OTHER_DEVICE;
         page->reading = (unsigned)reading & 3;
         if (reading != 0)
             continue;
-        *page = (struct noted){stamp.number, stamp.sector, stamp.erases & STAMP_MOST_ERASES, 0};
+        *page = (struct noted){stamp.number, stamp.sector, stamp.count, stamp.erases & STAMP_MOST_ERASES, 0};
         last = page;
     }
     int reading = last ? read_page(flash, block, (uint32_t)(last - pages), flash->page, &stamp) : 0;
@@ -282,15 +303,24 @@ static uint32_t read_stamps(struct mintlintel_flash *flash)
     return code;
 }
 
-/* A page as a mount has to note it: what `read_page` returns. The kind of a version isn't kept. */
+/* Whether another page too has the version of this one, and it is the newest of a sector. */
+static int is_doubled(const struct stamps *stamps, const struct noted *noted)
+{
+    for (uint32_t i = 0; i < noted->count; i++)
+        if (stamps->newest[noted->sector + i] == (noted->number << 1 | 1))
+            return 1;
+    return 0;
+}
+
+/* A page as a mount has to note it: what `read_page` returns. The kind of a version isn't kept, but that only a trim is of several sectors. */
 static int read_noted(struct mintlintel_flash *flash, uint32_t block, uint32_t page, struct stamp *stamp)
 {
     if (!flash->stamps.pages)
         return read_page(flash, block, page, NULL, stamp);
     const struct noted *noted = &flash->stamps.pages[(size_t)block * flash->numbers.pages + page];
-    if (noted->reading == 0 && flash->stamps.newest[noted->sector] == (noted->number << 1 | 1))
+    if (noted->reading == 0 && is_doubled(&flash->stamps, noted))
         return read_page(flash, block, page, flash->page, stamp);
-    *stamp = (struct stamp){STAMP_VALUE, noted->number, noted->sector, 1, noted->erases};
+    *stamp = (struct stamp){noted->count == 1 ? STAMP_VALUE : STAMP_TRIM, noted->number, noted->sector, noted->count, noted->erases};
     return noted->reading;
 }
 
@@ -305,9 +335,9 @@ static uint32_t note_block(struct mintlintel_durable *device, uint32_t block, st
         int reading = is_read(flash, block) ? read_noted(flash, block, page, &stamp) : 1;
         if (reading == 3)
             return MINTLINTEL_POWER_GONE;
-        if (reading == 0 && (stamp.kind > STAMP_TRIM || stamp.count != 1))
+        if (reading == 0 && !mtl_stamp_is_of(&stamp, flash->numbers.sectors))
             return MINTLINTEL_OTHER_DEVICE;
-        uint32_t code = mintlintel_core_note(&device->core, reading == 0, stamp.sector, stamp.number);
+        uint32_t code = mintlintel_core_note(&device->core, reading == 0, stamp.sector, stamp.count, stamp.number);
         if (code != MINTLINTEL_DONE)
             return code;
         if (reading == 0 && opening)
@@ -508,24 +538,31 @@ static uint32_t retire(struct mintlintel_durable *device, const struct mintlinte
     return code == MINTLINTEL_DONE ? flash->worn : code;
 }
 
-/* Gives a sector a new version. A block that fails on the way is given up, and the call goes on elsewhere. */
+/* The same of the sectors of an update. */
+static void note_values(struct mintlintel_flash *flash, struct update update, int has_value)
+{
+    for (uint32_t i = 0; i < update.count; i++)
+        note_value(flash, update.first + i, has_value);
+}
+
+/* Gives sectors a new version. A block that fails on the way is given up, and the call goes on elsewhere. */
 static uint32_t update(struct mintlintel_durable *device, struct update update)
 {
-    note_value(device->flash, update.sector, 0);
+    note_values(device->flash, update, 0);
     for (;;) {
         struct mintlintel_command command;
-        uint32_t code = mintlintel_core_next(&device->core, update.sector, &command);
+        uint32_t code = mintlintel_core_next(&device->core, update.first, update.count, &command);
         if (code == MINTLINTEL_DONE)
             code = perform(device->flash, &command, update);
         int has_failed = code == MINTLINTEL_FAILED;
         if (has_failed)
             code = retire(device, &command);
         else if (code == MINTLINTEL_DONE)
-            code = mintlintel_core_done(&device->core, update.sector, &command);
+            code = mintlintel_core_done(&device->core, update.first, update.count, &command);
         if (code != MINTLINTEL_DONE)
             return stops(device->flash, code);
         if (command.kind == PROGRAM && !has_failed) {
-            note_value(device->flash, update.sector, update.bytes != NULL);
+            note_values(device->flash, update, update.bytes != NULL);
             return MINTLINTEL_DONE;
         }
     }
@@ -550,8 +587,19 @@ static void mark_blocks(struct mintlintel_durable *device)
     }
 }
 
-/* Moves the next sector whose page is in a block that isn't in use, and after the last one marks the blocks that have failed. A sector whose page
- * can't be read stays where it is, and no block is marked then. */
+/* How many sectors from this one on have this page. */
+static uint32_t count_at(struct mintlintel_durable *device, uint32_t first, struct mintlintel_place place)
+{
+    struct mintlintel_place at;
+    uint32_t sector = first;
+    while (sector < device->flash->numbers.sectors && mintlintel_core_page(&device->core, sector, &at) == MINTLINTEL_WRITTEN
+           && at.block == place.block && at.page == place.page)
+        sector++;
+    return sector - first;
+}
+
+/* Moves the next sector whose page is in a block that isn't in use, with those after it that have the same page, and after the last one marks the blocks
+ * that have failed. A sector whose page can't be read stays where it is, and no block is marked then. */
 static void move_stranded(struct mintlintel_durable *device)
 {
     struct mintlintel_flash *flash = device->flash;
@@ -566,22 +614,45 @@ static void move_stranded(struct mintlintel_durable *device)
         int reading = read_page(flash, at.block, at.page, flash->moved, &stamp);
         if (reading == 3)
             stops(flash, MINTLINTEL_POWER_GONE);
-        else if (reading != 0 || stamp.sector != sector)
+        else if (reading != 0 || !covers(&stamp, sector))
             flash->is_stuck = 1;
-        else
-            update(device, (struct update){sector, stamp.kind == STAMP_VALUE ? flash->moved : NULL});
+        else {
+            uint32_t count = count_at(device, sector, at);
+            flash->stranded = sector + count;
+            update(device, (struct update){sector, count, stamp.kind == STAMP_VALUE ? flash->moved : NULL});
+        }
         return;
     }
     if (flash->has_failed && !flash->is_stuck)
         mark_blocks(device);
 }
 
-/* Gives a sector a new version for a caller, and moves a stranded one then. */
+/* Gives sectors a new version for a caller, and moves a stranded one then. */
 static uint32_t change(struct mintlintel_durable *device, struct update new)
 {
     uint32_t code = device->flash->worn ? device->flash->worn : update(device, new);
     if (code == MINTLINTEL_DONE)
         move_stranded(device);
+    return code;
+}
+
+void mtl_durable_know(struct mintlintel_durable *device, const uint8_t *pages, const uint32_t *checks, size_t count)
+{
+    if (!device->flash)
+        return;
+    device->flash->known = pages;
+    device->flash->checks = checks;
+    device->flash->known_pages = count;
+}
+
+uint32_t mtl_durable_find(struct mintlintel_durable *device, uint32_t sector, struct mintlintel_place *place)
+{
+    uint32_t code = refusal_of(device, sector, device->flash ? device->flash->numbers.page_bytes : 0);
+    if (code != MINTLINTEL_DONE)
+        return code;
+    code = mintlintel_core_page(&device->core, sector, place);
+    if (code == MINTLINTEL_WRITTEN)
+        place->block = device->flash->chip_block[place->block];
     return code;
 }
 
@@ -597,7 +668,7 @@ uint32_t mintlintel_durable_read(struct mintlintel_durable *device, uint32_t sec
     int reading = read_page(device->flash, at.block, at.page, device->flash->page, &stamp);
     if (reading == 3)
         return stops(device->flash, MINTLINTEL_POWER_GONE);
-    if (reading != 0 || stamp.sector != sector)
+    if (reading != 0 || !covers(&stamp, sector))
         return MINTLINTEL_UNREADABLE;
     if (stamp.kind == STAMP_TRIM)
         return MINTLINTEL_EMPTY;
@@ -613,7 +684,7 @@ uint32_t mintlintel_durable_write(struct mintlintel_durable *device, uint32_t se
     uint32_t had = was(device, sector);
     if (had > MINTLINTEL_WRITTEN)
         return had;
-    code = change(device, (struct update){sector, bytes});
+    code = change(device, (struct update){sector, 1, bytes});
     return code == MINTLINTEL_DONE ? had : code;
 }
 
@@ -623,7 +694,28 @@ uint32_t mintlintel_durable_write_new(struct mintlintel_durable *device, uint32_
     if (code != MINTLINTEL_DONE)
         return code;
     uint32_t had = was(device, sector);
-    return had != MINTLINTEL_EMPTY ? had : change(device, (struct update){sector, bytes});
+    return had != MINTLINTEL_EMPTY ? had : change(device, (struct update){sector, 1, bytes});
+}
+
+/* Leaves of these sectors those from the first one that is written to the last: 1, or 0 if none is, or 28, or why each call is refused. A page that
+ * several of them have is read once. */
+static uint32_t find_written(struct mintlintel_durable *device, struct update *trim)
+{
+    uint32_t end = trim->first + trim->count, from = end, to = end;
+    for (uint32_t sector = trim->first; sector < end;) {
+        struct mintlintel_place at;
+        uint32_t had = was(device, sector);
+        if (had > MINTLINTEL_WRITTEN)
+            return had;
+        if (had == MINTLINTEL_WRITTEN) {
+            from = from == end ? sector : from;
+            to = sector + 1;
+        }
+        int is_trim = had == MINTLINTEL_EMPTY && mintlintel_core_page(&device->core, sector, &at) == MINTLINTEL_WRITTEN;
+        sector += is_trim ? count_at(device, sector, at) : 1;
+    }
+    *trim = (struct update){from, to - from, NULL};
+    return from == end ? MINTLINTEL_EMPTY : MINTLINTEL_WRITTEN;
 }
 
 uint32_t mintlintel_durable_trim(struct mintlintel_durable *device, uint32_t first, uint32_t count)
@@ -634,13 +726,14 @@ uint32_t mintlintel_durable_trim(struct mintlintel_durable *device, uint32_t fir
     uint32_t sectors = device->flash->numbers.sectors;
     if (first > sectors || count > sectors - first)
         return MINTLINTEL_NO_SECTOR;
-    for (uint32_t sector = first; sector < first + count; sector++) {
-        uint32_t had = was(device, sector);
+    for (uint32_t done = 0; done < count; done += MOST_TRIMMED) {
+        struct update trim = {first + done, count - done < MOST_TRIMMED ? count - done : MOST_TRIMMED, NULL};
+        uint32_t had = find_written(device, &trim);
         if (had > MINTLINTEL_WRITTEN)
             return had;
         if (had == MINTLINTEL_EMPTY)
             continue;
-        code = change(device, (struct update){sector, NULL});
+        code = change(device, trim);
         if (code != MINTLINTEL_DONE)
             return code;
         any = MINTLINTEL_WRITTEN;
@@ -683,9 +776,14 @@ uint32_t mintlintel_durable_block(struct mintlintel_durable *device, uint32_t bl
         return MINTLINTEL_CLOSED;
     if (block >= flash->numbers.blocks)
         return MINTLINTEL_NO_SUCH_BLOCK;
+    uint8_t is_live[MOST_PAGES / 8] = {0}; /* a bit for each page: several sectors may have it */
     uint32_t live = 0;
-    for (uint32_t sector = 0; sector < flash->numbers.sectors; sector++)
-        live += mintlintel_core_page(&device->core, sector, &at) == MINTLINTEL_WRITTEN && flash->chip_block[at.block] == block;
+    for (uint32_t sector = 0; sector < flash->numbers.sectors; sector++) {
+        if (mintlintel_core_page(&device->core, sector, &at) != MINTLINTEL_WRITTEN || flash->chip_block[at.block] != block)
+            continue;
+        live += !(is_live[at.page / 8] >> at.page % 8 & 1);
+        is_live[at.page / 8] |= (uint8_t)(1u << at.page % 8);
+    }
     report->erases = flash->erases[block];
     report->live = live;
     report->retired = flash->state[block] != GOOD;

@@ -1,8 +1,9 @@
-/* What the image needs of the device beside its calls. Plain C, and not proved. */
+/* What the image needs of the device beside its calls, and a block device of an image. Plain C, and not proved. */
 #ifndef FLASH_H
 #define FLASH_H
 
 #include "mintlintel_durable.h"
+#include "mintlintel_image.h"
 
 /* Opens a device whose calls return `*reason` in place of 28, if it is not 0. With `losses` it opens one that has losses too, and tells them. */
 uint32_t mtl_durable_open(struct mintlintel_durable *device, const struct mintlintel_nand *nand, const struct mintlintel_durable_numbers *numbers,
@@ -10,5 +11,34 @@ uint32_t mtl_durable_open(struct mintlintel_durable *device, const struct mintli
 
 /* The first fault of a device's numbers, or 0. */
 uint32_t mtl_durable_fault(const struct mintlintel_durable_numbers *numbers);
+
+/* The page of the chip that has the sector's newest version, a value or a trim: 1 with its place; 0 if none has; the code that each call returns. */
+uint32_t mtl_durable_find(struct mintlintel_durable *device, uint32_t sector, struct mintlintel_place *place);
+
+/* Tells the CRC-32C of these pages, one behind another, up to another call, by which there may be none: then writes of them don't compute it. */
+void mtl_durable_know(struct mintlintel_durable *device, const uint8_t *pages, const uint32_t *checks, size_t count);
+
+/* ---- Many pages of an image at once ---- */
+
+/* From now on writes of these pages may return before they have programmed anything, until the caller lets go: so that pages that stand one behind
+ * another in a block are written together. What was returned is acknowledged only once it is committed. `checks` is the CRC-32C of each page, if the
+ * caller has computed them, or null. */
+void mtl_image_keep(struct mintlintel_image *image, const void *pages, const uint32_t *checks, size_t count);
+
+/* Ends that. What waits is done by mtl_image_commit with the ticket that this returns. It may be called beside any other call, and returns once all of
+ * this ticket and of those before it is done: 0, or 46, after which each call returns 46. */
+uint64_t mtl_image_let_go(struct mintlintel_image *image);
+uint32_t mtl_image_commit(struct mintlintel_image *image, uint64_t ticket);
+
+/* The pages of some sectors in order, which stand one behind another in a block, or sectors that no page has. */
+struct mtl_run { uint32_t sector, count; struct mintlintel_place at; uint32_t erases; uint64_t behind; };
+enum { MTL_MOST_OF_A_RUN = 64 };
+
+/* Finds the pages of a sector and of those behind it, up to `count`: 1 with their run; 0 if they are empty; the code that each call returns. */
+uint32_t mtl_image_find(struct mintlintel_image *image, uint32_t sector, uint32_t count, struct mtl_run *run);
+
+/* Reads the pages of a run, with zeros for a trimmed sector. This may be called beside any other call: it changes nothing but `out`, and 0 says that it
+ * couldn't read all pages as they were found, since one was erased meanwhile or can't be read. Then read them by mintlintel_durable_read. */
+int mtl_image_read_run(const struct mintlintel_image *image, const struct mtl_run *run, void *out);
 
 #endif

@@ -3,8 +3,8 @@
 #define _FILE_OFFSET_BITS 64
 #include "mintlintel_image.h"
 #include "crc.h"
-#include "flash.h"
-#include "image_format.h"
+#include "image_file.h"
+#include "stamp.h"
 #include <errno.h>
 #include <fcntl.h>
 #include <libgen.h>
@@ -18,20 +18,10 @@
 
 /* How many blocks a mount asks for ahead of the one that it reads. */
 enum { BLOCKS_AHEAD = 16 };
+/* No block. */
+enum { NOWHERE = -1 };
 
 static const uint8_t magic[8] = {0x89, 'M', 'N', 'T', 'L', '\r', '\n', 0x1a};
-
-struct mintlintel_image_file {
-    int fd, error;           /* the errno of the first failure, or 0 */
-    uint32_t reason;         /* MINTLINTEL_FILE_FAILED after one */
-    enum mintlintel_image_mode mode;
-    struct mintlintel_durable_numbers numbers;
-    struct image_layout layout;
-    int is_mounting, is_dirty, is_erased; /* bytes were written since the last sync; a block was erased since then */
-    uint32_t cached;         /* the block whose spare bytes are in `spares`; it isn't programmed before it is erased */
-    uint8_t *spares, *zeros, *page;
-    off_t data_from, data_to; /* while mounting: no data stands between these places */
-};
 
 /* ---- Bytes of the file ---- */
 
@@ -42,12 +32,11 @@ static void put32(uint8_t *at, uint32_t value)
 }
 
 /* Notes a failure of the file: every call returns it from now on. */
-static int failed(struct mintlintel_image_file *file, int error)
+int mtl_file_failed(struct mintlintel_image_file *file, int error)
 {
-    if (!file->reason) {
-        file->reason = MINTLINTEL_FILE_FAILED;
-        file->error = error;
-    }
+    int none = 0;
+    __atomic_compare_exchange_n(&file->error, &none, error, 0, __ATOMIC_SEQ_CST, __ATOMIC_SEQ_CST);
+    __atomic_store_n(&file->reason, MINTLINTEL_FILE_FAILED, __ATOMIC_SEQ_CST);
     return 3;
 }
 
@@ -74,35 +63,48 @@ static int write_all(int fd, const void *bytes, size_t count, off_t at)
     return 0;
 }
 
-static int get(struct mintlintel_image_file *file, void *bytes, size_t count, off_t at)
+static int write_all_parts(int fd, struct iovec *parts, uint32_t count, off_t at)
 {
-    int error = read_all(file->fd, bytes, count, at);
-    return error ? failed(file, error) : 0;
-}
-
-static int set(struct mintlintel_image_file *file, const void *bytes, size_t count, off_t at)
-{
-    int error = write_all(file->fd, bytes, count, at);
-    file->is_dirty = 1;
-    return error ? failed(file, error) : 0;
-}
-
-static int sync_file(struct mintlintel_image_file *file)
-{
-    if (file->is_dirty && fdatasync(file->fd) != 0)
-        return failed(file, errno);
-    file->is_dirty = file->is_erased = 0;
+    while (count > 0) {
+        ssize_t n = pwritev(fd, parts, (int)count, at);
+        if (n == 0 || (n < 0 && errno != EINTR))
+            return n == 0 ? ENOSPC : errno;
+        size_t done = n > 0 ? (size_t)n : 0;
+        at += (off_t)done;
+        for (; count > 0 && done >= parts->iov_len; parts++, count--)
+            done -= parts->iov_len;
+        if (done > 0)
+            *parts = (struct iovec){(char *)parts->iov_base + done, parts->iov_len - done};
+    }
     return 0;
 }
 
-static off_t spare_at(const struct mintlintel_image_file *file, uint32_t block, uint32_t page)
+int mtl_file_get(struct mintlintel_image_file *file, void *bytes, size_t count, off_t at)
 {
-    return (off_t)(HEAD_BYTES + block * file->layout.block_bytes + (uint64_t)page * SPARE_BYTES);
+    int error = read_all(file->fd, bytes, count, at);
+    return error ? mtl_file_failed(file, error) : 0;
 }
 
-static off_t page_at(const struct mintlintel_image_file *file, uint32_t block, uint32_t page)
+int mtl_file_set(struct mintlintel_image_file *file, const void *bytes, size_t count, off_t at)
 {
-    return (off_t)(HEAD_BYTES + block * file->layout.block_bytes + file->layout.spare_bytes + (uint64_t)page * file->numbers.page_bytes);
+    int error = write_all(file->fd, bytes, count, at);
+    file->is_dirty = 1;
+    return error ? mtl_file_failed(file, error) : 0;
+}
+
+int mtl_file_set_parts(struct mintlintel_image_file *file, struct iovec *parts, uint32_t count, off_t at)
+{
+    int error = write_all_parts(file->fd, parts, count, at);
+    file->is_dirty = 1;
+    return error ? mtl_file_failed(file, error) : 0;
+}
+
+int mtl_file_sync(struct mintlintel_image_file *file)
+{
+    if (file->is_dirty && fdatasync(file->fd) != 0)
+        return mtl_file_failed(file, errno);
+    file->is_dirty = file->is_erased = 0;
+    return 0;
 }
 
 static off_t length_of(const struct mintlintel_image_file *file)
@@ -154,76 +156,154 @@ static int load_spares(struct mintlintel_image_file *file, uint32_t block)
         memset(file->spares, 0, count);
     else {
         look_ahead(file, block, count);
-        if (get(file, file->spares, count, at) != 0)
+        if (mtl_file_get(file, file->spares, count, at) != 0)
             return 3;
     }
     file->cached = block;
     return 0;
 }
 
+/* ---- The commands ---- */
+
+/* Adds a command to those that wait, with a page's spare bytes. In mode `always` each is on the disk before the next one. */
+static int give(struct mintlintel_image_file *file, const struct command *command, const uint8_t *spare)
+{
+    if (mtl_queue_add(file, command, spare) != 0)
+        return 3;
+    return file->mode == MINTLINTEL_ALWAYS ? mtl_queue_drain(file) : 0;
+}
+
+/* Before anything is read of a block: what waits is done, if any of it is of this block. */
+static int do_what_waits(struct mintlintel_image_file *file, uint32_t block)
+{
+    return has_failed(file) || (mtl_queue_has(file, block) && mtl_queue_drain(file) != 0) ? 3 : 0;
+}
+
 static int image_read(void *chip, uint32_t block, uint32_t page, void *main, void *stamp)
 {
     struct mintlintel_image_file *file = chip;
     uint8_t one[SPARE_BYTES], *spare = one;
+    if (do_what_waits(file, block) != 0)
+        return 3;
     if (file->is_mounting) {
         if (load_spares(file, block) != 0)
             return 3;
         spare = file->spares + (size_t)page * SPARE_BYTES;
-    } else if (get(file, one, SPARE_BYTES, spare_at(file, block, page)) != 0)
+    } else if (mtl_file_get(file, one, SPARE_BYTES, spare_at(file, block, page)) != 0)
         return 3;
     int reading = mtl_image_reading(spare);
-    if (reading == 0 && main && get(file, main, file->numbers.page_bytes, page_at(file, block, page)) != 0)
+    if (reading == 0 && main && mtl_file_get(file, main, file->numbers.page_bytes, page_at(file, block, page)) != 0)
         return 3;
     if (reading == 0)
         memcpy(stamp, spare, MINTLINTEL_STAMP_BYTES);
     return reading;
 }
 
-/* The main bytes come first, so that a stamp never stands beside less than its page when the process is killed. */
+/* It waits if its caller has asked for that, so that others can be done with it. */
 static int image_program(void *chip, uint32_t block, uint32_t page, const void *main, const void *stamp)
 {
     struct mintlintel_image_file *file = chip;
+    const struct queue *queue = &file->queue;
+    const uint8_t *bytes = main;
     uint8_t spare[SPARE_BYTES] = {0};
-    if (file->mode == MINTLINTEL_FLUSH && file->is_erased && sync_file(file) != 0)
-        return 3;
     memcpy(spare, stamp, MINTLINTEL_STAMP_BYTES);
     put32(spare + AT_SPARE_CHECK, mtl_crc(0, spare, AT_SPARE_CHECK));
-    if (set(file, main, file->numbers.page_bytes, page_at(file, block, page)) != 0 || set(file, spare, SPARE_BYTES, spare_at(file, block, page)) != 0)
+    if (has_failed(file) || give(file, &(struct command){block, page, bytes, {0, 0}}, spare) != 0)
         return 3;
-    return file->mode == MINTLINTEL_ALWAYS ? sync_file(file) : 0;
+    int may_wait = queue->kept && bytes >= queue->kept && bytes + file->numbers.page_bytes <= queue->kept_end;
+    return may_wait ? 0 : mtl_queue_drain(file);
 }
 
-/* A block is collected page by page, so its spare bytes are read once. */
+/* A block is collected page by page, so its spare bytes are read once. A copy waits for the program behind it. */
 static int image_copyback(void *chip, uint32_t from_block, uint32_t from_page, uint32_t block, uint32_t page)
 {
     struct mintlintel_image_file *file = chip;
-    if (load_spares(file, from_block) != 0)
+    if (do_what_waits(file, from_block) != 0 || load_spares(file, from_block) != 0)
         return 3;
     const uint8_t *spare = file->spares + (size_t)from_page * SPARE_BYTES;
     if (mtl_image_reading(spare) != IS_VERSION)
-        return failed(file, EIO);
-    if (get(file, file->page, file->numbers.page_bytes, page_at(file, from_block, from_page)) != 0)
-        return 3;
-    return image_program(chip, block, page, file->page, spare);
+        return mtl_file_failed(file, EIO);
+    return give(file, &(struct command){block, page, NULL, {from_block, from_page}}, spare);
 }
 
+/* So does an erase. Who has looked for a page of the block looks again. */
 static int image_erase(void *chip, uint32_t block)
 {
     struct mintlintel_image_file *file = chip;
     if (block == file->cached)
         file->cached = UINT32_MAX;
-    if (file->mode == MINTLINTEL_FLUSH && sync_file(file) != 0)
-        return 3;
-    if (set(file, file->zeros, (size_t)file->numbers.pages * SPARE_BYTES, spare_at(file, block, 0)) != 0)
-        return 3;
-    file->is_erased = 1;
-    return file->mode == MINTLINTEL_ALWAYS ? sync_file(file) : 0;
+    __atomic_fetch_add(&file->erases[block % ERASE_COUNTERS], 1, __ATOMIC_SEQ_CST);
+    return has_failed(file) ? 3 : give(file, &(struct command){block, WHOLE_BLOCK, NULL, {0, 0}}, NULL);
 }
 
 static int image_sync(void *chip)
 {
     struct mintlintel_image_file *file = chip;
-    return file->mode == MINTLINTEL_FLUSH ? sync_file(file) : 0;
+    if (has_failed(file) || mtl_queue_drain(file) != 0)
+        return 3;
+    return file->mode == MINTLINTEL_FLUSH ? mtl_file_sync(file) : 0;
+}
+
+void mtl_image_keep(struct mintlintel_image *image, const void *pages, const uint32_t *checks, size_t count)
+{
+    struct mintlintel_image_file *file = image->file;
+    file->queue.kept = pages;
+    file->queue.kept_end = file->queue.kept + count * file->numbers.page_bytes;
+    mtl_durable_know(&image->device, pages, checks, checks ? count : 0);
+}
+
+uint64_t mtl_image_let_go(struct mintlintel_image *image)
+{
+    image->file->queue.kept = NULL;
+    mtl_durable_know(&image->device, NULL, NULL, 0);
+    return mtl_queue_let_go(&image->file->queue);
+}
+
+uint32_t mtl_image_commit(struct mintlintel_image *image, uint64_t ticket)
+{
+    return mtl_queue_commit(image->file, ticket) == 0 ? MINTLINTEL_DONE : MINTLINTEL_FILE_FAILED;
+}
+
+/* ---- Reads beside other calls ---- */
+
+uint32_t mtl_image_find(struct mintlintel_image *image, uint32_t sector, uint32_t count, struct mtl_run *run)
+{
+    struct mintlintel_place at, next;
+    uint32_t code = has_failed(image->file) ? MINTLINTEL_FILE_FAILED : mtl_durable_find(&image->device, sector, &at);
+    *run = (struct mtl_run){.sector = sector, .count = 1};
+    if (code > MINTLINTEL_WRITTEN)
+        return code;
+    if (code == MINTLINTEL_WRITTEN) {
+        run->at = at;
+        run->behind = mtl_queue_has(image->file, at.block) ? mtl_queue_let_go(&image->file->queue) : 0;
+        run->erases = __atomic_load_n(&image->file->erases[at.block % ERASE_COUNTERS], __ATOMIC_SEQ_CST);
+    }
+    for (; run->count < count && run->count < MTL_MOST_OF_A_RUN; run->count++) {
+        if (mtl_durable_find(&image->device, sector + run->count, &next) != code)
+            break;
+        if (code == MINTLINTEL_WRITTEN && (next.block != at.block || next.page != at.page + run->count))
+            break;
+    }
+    return code;
+}
+
+int mtl_image_read_run(const struct mintlintel_image *image, const struct mtl_run *run, void *out)
+{
+    struct mintlintel_image_file *file = image->file;
+    size_t bytes = file->numbers.page_bytes;
+    uint8_t spares[MTL_MOST_OF_A_RUN * SPARE_BYTES], *page = out;
+    if ((run->behind && mtl_queue_commit(file, run->behind) != 0) ||
+        read_all(file->fd, spares, (size_t)run->count * SPARE_BYTES, spare_at(file, run->at.block, run->at.page)) != 0 ||
+        read_all(file->fd, out, run->count * bytes, page_at(file, run->at.block, run->at.page)) != 0)
+        return 0;
+    for (uint32_t i = 0; i < run->count; i++) {
+        const uint8_t *spare = spares + (size_t)i * SPARE_BYTES;
+        if (mtl_image_reading(spare) != IS_VERSION || !mintlintel_stamp_fits(spare, page + i * bytes, bytes) ||
+            mtl_stamp_from(spare).sector != run->sector + i)
+            return 0;
+    }
+    __atomic_thread_fence(__ATOMIC_SEQ_CST);
+    return __atomic_load_n(&file->erases[run->at.block % ERASE_COUNTERS], __ATOMIC_SEQ_CST) == run->erases;
 }
 
 /* ---- The head ---- */
@@ -300,11 +380,11 @@ static int write_session(struct mintlintel_image_file *file, enum state state)
     put32(session + AT_MODE, file->mode);
     read_boot(session + AT_BOOT);
     put32(session + AT_SESSION_CHECK, mtl_crc(0, session, AT_SESSION_CHECK));
-    if (get(file, earlier, sizeof earlier, PART_BYTES) != 0)
+    if (mtl_file_get(file, earlier, sizeof earlier, PART_BYTES) != 0)
         return 1;
     if (file->mode == MINTLINTEL_NEVER && memcmp(earlier, session, sizeof session) == 0)
         return 0;
-    return set(file, session, sizeof session, PART_BYTES) != 0 || sync_file(file) != 0;
+    return mtl_file_set(file, session, sizeof session, PART_BYTES) != 0 || mtl_file_sync(file) != 0;
 }
 
 /* Whether every page has to be read: the last session may have lost power, or its record is damaged. `mode` is the session's. */
@@ -312,7 +392,7 @@ static int needs_checks(struct mintlintel_image_file *file, uint32_t *mode)
 {
     uint8_t session[AT_SESSION_CHECK + CHECK_BYTES], boot[BOOT_BYTES];
     *mode = MINTLINTEL_FLUSH;
-    if (get(file, session, sizeof session, PART_BYTES) != 0 || mtl_get32(session + AT_SESSION_CHECK) != mtl_crc(0, session, AT_SESSION_CHECK))
+    if (mtl_file_get(file, session, sizeof session, PART_BYTES) != 0 || mtl_get32(session + AT_SESSION_CHECK) != mtl_crc(0, session, AT_SESSION_CHECK))
         return 1;
     *mode = mtl_get32(session + AT_MODE);
     read_boot(boot);
@@ -327,7 +407,7 @@ static int is_whole(struct mintlintel_image_file *file, uint32_t block, uint32_t
     const uint8_t *spare = file->spares + (size_t)page * SPARE_BYTES;
     if (mtl_image_reading(spare) != 0)
         return 0;
-    if (get(file, file->page, file->numbers.page_bytes, page_at(file, block, page)) != 0)
+    if (mtl_file_get(file, file->page, file->numbers.page_bytes, page_at(file, block, page)) != 0)
         return 3;
     return mintlintel_stamp_fits(spare, file->page, file->numbers.page_bytes);
 }
@@ -336,7 +416,7 @@ static int is_whole(struct mintlintel_image_file *file, uint32_t block, uint32_t
 static int set_aside(struct mintlintel_image_file *file, uint32_t block, uint32_t page)
 {
     uint8_t aside[4] = {1, 0, 0, 0};
-    return set(file, aside, sizeof aside, spare_at(file, block, page) + AT_ASIDE);
+    return mtl_file_set(file, aside, sizeof aside, spare_at(file, block, page) + AT_ASIDE);
 }
 
 /* Reads each page, and sets aside those that were cut. In mode `flush` writes may have reached the disk in any order, so what stands behind such a
@@ -357,7 +437,7 @@ static int check_pages(struct mintlintel_image_file *file, uint32_t mode)
         }
     }
     file->cached = UINT32_MAX;
-    return sync_file(file);
+    return mtl_file_sync(file);
 }
 
 /* ---- Opening and closing ---- */
@@ -370,6 +450,7 @@ static void free_file(struct mintlintel_image_file *file)
         free(file->spares);
         free(file->zeros);
         free(file->page);
+        mtl_queue_end(&file->queue);
         free(file);
     }
 }
@@ -427,8 +508,8 @@ static uint32_t make_image(struct mintlintel_image_file *file, const char *path,
     if (code != MINTLINTEL_DONE)
         return code;
     head_into(part, &file->numbers);
-    if (ftruncate(file->fd, length_of(file)) != 0 || set(file, part, sizeof part, 0) != 0 || write_session(file, IN_USE) != 0 || fsync(file->fd) != 0)
-        return failed(file, errno), MINTLINTEL_FILE_FAILED;
+    if (ftruncate(file->fd, length_of(file)) != 0 || mtl_file_set(file, part, sizeof part, 0) != 0 || write_session(file, IN_USE) != 0 || fsync(file->fd) != 0)
+        return mtl_file_failed(file, errno), MINTLINTEL_FILE_FAILED;
     if (link(other, path) != 0)
         return errno == EEXIST ? MINTLINTEL_IN_USE : MINTLINTEL_NO_FILE;
     return sync_name(path) == 0 ? MINTLINTEL_DONE : MINTLINTEL_FILE_FAILED;
@@ -460,7 +541,7 @@ static uint32_t take_image(struct mintlintel_image_file *file, const struct mint
     struct stat about;
     uint32_t mode, code = read_head(file->fd, &head);
     if (code == MINTLINTEL_FILE_FAILED)
-        failed(file, errno);
+        mtl_file_failed(file, errno);
     if (code != MINTLINTEL_DONE)
         return code;
     if (!are_zero(numbers) && memcmp(numbers, &head.numbers, sizeof *numbers) != 0)
@@ -471,7 +552,8 @@ static uint32_t take_image(struct mintlintel_image_file *file, const struct mint
     file->spares = malloc((size_t)head.numbers.pages * SPARE_BYTES);
     file->zeros = calloc(head.numbers.pages, SPARE_BYTES);
     file->page = malloc(head.numbers.page_bytes);
-    if (!file->spares || !file->zeros || !file->page)
+    file->queue.copies = malloc((size_t)MOST_TOGETHER * head.numbers.page_bytes);
+    if (!file->spares || !file->zeros || !file->page || !file->queue.copies)
         return MINTLINTEL_NO_MEMORY;
     if (needs_checks(file, &mode) && check_pages(file, mode) != 0)
         return MINTLINTEL_FILE_FAILED;
@@ -496,10 +578,12 @@ static uint32_t open_device(struct mintlintel_image *image, const char *path, en
     file->fd = -1;
     file->mode = mode;
     file->is_mounting = 1;
+    mtl_queue_begin(&file->queue);
     uint32_t code = open_image(file, path, numbers);
     if (code == MINTLINTEL_DONE)
         code = mtl_durable_open(&image->device, &nand, &file->numbers, &file->reason, losses);
     file->is_mounting = 0;
+    file->cached = UINT32_MAX;
     if (code == MINTLINTEL_DONE) {
         image->file = file;
         return code;
@@ -531,7 +615,7 @@ uint32_t mintlintel_image_close(struct mintlintel_image *image)
     mintlintel_durable_close(&image->device);
     image->file = NULL;
     /* In mode `never` nothing says that the pages are on the disk, so the session stays in use until its machine ends. */
-    if (file && !file->reason && file->mode != MINTLINTEL_NEVER && (sync_file(file) != 0 || write_session(file, CLOSED) != 0)) {
+    if (file && !file->reason && file->mode != MINTLINTEL_NEVER && (mtl_file_sync(file) != 0 || write_session(file, CLOSED) != 0)) {
         code = MINTLINTEL_FILE_FAILED;
         errno = file->error;
     }

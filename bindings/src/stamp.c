@@ -26,10 +26,10 @@ static uint32_t own_check(const uint8_t *bytes)
     return mtl_crc(0, bytes, AT_OWN_CHECK) & 0xffff;
 }
 
-/* The check of the page and of what stands before this check in its stamp. */
-static uint32_t page_check(const uint8_t *bytes, const uint8_t *page, size_t page_bytes)
+/* The check of a page with this CRC-32C and of what stands before this check in its stamp. */
+static uint32_t page_check(const uint8_t *bytes, uint32_t page_crc)
 {
-    return mtl_crc(mtl_crc(0, page, page_bytes), bytes, AT_PAGE_CHECK);
+    return mtl_crc(page_crc, bytes, AT_PAGE_CHECK);
 }
 
 struct stamp mtl_stamp_from(const uint8_t *bytes)
@@ -39,7 +39,13 @@ struct stamp mtl_stamp_from(const uint8_t *bytes)
     return stamp;
 }
 
-void mtl_stamp_into(uint8_t *bytes, const struct stamp *stamp, const uint8_t *page, size_t page_bytes)
+int mtl_stamp_is_of(const struct stamp *stamp, uint32_t sectors)
+{
+    int is_known = stamp->kind == STAMP_VALUE ? stamp->count == 1 : stamp->kind == STAMP_TRIM && stamp->count > 0;
+    return is_known && stamp->sector < sectors && stamp->count <= sectors - stamp->sector;
+}
+
+void mtl_stamp_into(uint8_t *bytes, const struct stamp *stamp, uint32_t page_crc)
 {
     put(bytes + AT_KIND, stamp->kind, 1);
     put(bytes + AT_NUMBER, stamp->number, 7);
@@ -47,7 +53,7 @@ void mtl_stamp_into(uint8_t *bytes, const struct stamp *stamp, const uint8_t *pa
     put(bytes + AT_COUNT, stamp->count, 3);
     put(bytes + AT_ERASES, stamp->erases, 3);
     put(bytes + AT_OWN_CHECK, own_check(bytes), 2);
-    put(bytes + AT_PAGE_CHECK, page_check(bytes, page, page_bytes), 4);
+    put(bytes + AT_PAGE_CHECK, page_check(bytes, page_crc), 4);
 }
 
 int mintlintel_stamp_fits(const void *stamp, const void *page, size_t page_bytes)
@@ -55,5 +61,5 @@ int mintlintel_stamp_fits(const void *stamp, const void *page, size_t page_bytes
     const uint8_t *bytes = stamp;
     if (get(bytes + AT_OWN_CHECK, 2) != own_check(bytes))
         return 0;
-    return !page || get(bytes + AT_PAGE_CHECK, 4) == page_check(bytes, page, page_bytes);
+    return !page || get(bytes + AT_PAGE_CHECK, 4) == page_check(bytes, mtl_crc(0, page, page_bytes));
 }

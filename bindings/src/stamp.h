@@ -15,7 +15,10 @@ struct stamp { uint32_t kind; uint64_t number; uint32_t sector, count, erases; }
 /* The fields of a stamp's bytes. */
 struct stamp mtl_stamp_from(const uint8_t *bytes);
 
-/* The bytes of a stamp for this page. */
-void mtl_stamp_into(uint8_t *bytes, const struct stamp *stamp, const uint8_t *page, size_t page_bytes);
+/* Whether the version is one of a device with so many sectors. A value is of one of them. */
+int mtl_stamp_is_of(const struct stamp *stamp, uint32_t sectors);
+
+/* The bytes of a stamp for a page with this CRC-32C. */
+void mtl_stamp_into(uint8_t *bytes, const struct stamp *stamp, uint32_t page_crc);
 
 #endif

@@ -11,8 +11,8 @@ STRUCTS = {"Totals": "mintlintel_totals", "BlockReport": "mintlintel_block", "Nu
            "StateReport": "mintlintel_state", "CountsReport": "mintlintel_counts", "TallyReport": "mintlintel_tally", "PlaceReport": "mintlintel_place",
            "CommandReport": "mintlintel_command"}
 TYPES = {"u32": ("uint32_t", 4), "u64": ("uint64_t", 8)}
-# Other names of code 0.
-ALSO = {"EMPTY"}
+# Other names of codes 0 and 10.
+ALSO = {"EMPTY", "NO_SUCH_WORD"}
 # A limit that no call of C has.
 NOT_OF_C = {"LONE_WORKERS"}
 

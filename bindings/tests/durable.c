@@ -349,6 +349,25 @@ static long fail_each(void)
     return fails;
 }
 
+/* One page trims all sectors, and none those that are empty. */
+static void trim_at_once(void)
+{
+    struct mintlintel_totals before, after;
+    begin_sound();
+    CHECK(open_device());
+    for (int round = 0; round < 100; round++) {
+        for (uint32_t sector = round % 2; sector < sectors; sector += 2)
+            CHECK(write_one(sector, 0) <= MINTLINTEL_WRITTEN);
+        CHECK(mintlintel_durable_counts(&device, &before) == MINTLINTEL_DONE);
+        CHECK(trim_some(0, sectors) == MINTLINTEL_WRITTEN && trim_some(0, sectors) == MINTLINTEL_EMPTY);
+        CHECK(mintlintel_durable_counts(&device, &after) == MINTLINTEL_DONE && after.programs == before.programs + 1);
+        if (round % 10 == 0)
+            CHECK(open_device());
+    }
+    reports();
+    mintlintel_durable_close(&device);
+}
+
 static void run(long steps)
 {
     begin();
@@ -377,6 +396,7 @@ int main(int argc, char **argv)
     fail_often();
     add_reserve();
     lose_pages();
+    trim_at_once();
     for (long round = 0; round < rounds; round++) {
         run(1000);
         cuts += chip.cuts;

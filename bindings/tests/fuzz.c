@@ -6,7 +6,7 @@
 
 /* The calls that return a code, and how often each of them returned which. */
 enum call {
-    CALL_one_open, CALL_one_read, CALL_one_write, CALL_one_write_new, CALL_one_trim, CALL_one_counts, CALL_one_block, CALL_shared_open,
+    CALL_one_open, CALL_one_read, CALL_one_write, CALL_one_write_new, CALL_one_trim, CALL_one_counts, CALL_one_block, CALL_one_numbers, CALL_shared_open,
     CALL_seat_numbers, CALL_host_read, CALL_host_write, CALL_host_write_new, CALL_host_trim, CALL_host_look, CALL_host_hold, CALL_host_copy,
     CALL_host_word, CALL_host_held, CALL_host_release, CALL_broom_drain, CALL_broom_drain_next, CALL_broom_drain_dead, CALL_broom_erase, CALL_broom_restock,
     CALL_broom_block, CALL_broom_counts, CALL_broom_tally, CALL_collect, CALL_write_within, CALLS
@@ -15,11 +15,14 @@ enum { CODES = 128 };
 #define CALL(name, ...) counted(CALL_##name, mintlintel_##name(__VA_ARGS__))
 
 static uint64_t returned[CALLS][CODES];
+/* libFuzzer doesn't see into what is proved. It keeps an input by which a call returns another code. */
+static uint8_t is_returned[CALLS][CODES] __attribute__((section("__libfuzzer_extra_counters")));
 
 static uint32_t counted(enum call call, uint32_t code)
 {
     CHECK(code < CODES);
     returned[call][code]++;
+    is_returned[call][code] = 1;
     return code;
 }
 
@@ -83,6 +86,9 @@ static void check_one(void)
 {
     struct mintlintel_totals totals = {7, 7, 7}, kept = totals;
     struct mintlintel_block block = {7, 7, 7}, same = block;
+    struct mintlintel_numbers numbers = {7, 7, 7, 7, 7, 7, 7, 7}, wanted = {1, BLOCKS, PAGES, WORDS, SECTORS, ENDURANCE, 0, 0};
+    CHECK(CALL(one_numbers, &one, &numbers) == (one_is_open ? 0 : (uint32_t)MINTLINTEL_CLOSED));
+    CHECK(one_is_open ? memcmp(&numbers, &wanted, sizeof numbers) == 0 : numbers.luns == 7 && numbers.brooms == 7);
     if (!one_is_open) {
         CHECK(CALL(one_counts, &one, &totals) == MINTLINTEL_CLOSED && memcmp(&totals, &kept, sizeof totals) == 0);
         CHECK(CALL(one_block, &one, 0, &block) == MINTLINTEL_CLOSED && memcmp(&block, &same, sizeof block) == 0);
@@ -202,7 +208,7 @@ static void holder_call(uint32_t call, uint32_t seat, struct input *in)
         check_page(out, wanted == MINTLINTEL_WRITTEN, value);
         break;
     case 1:
-        wanted = wanted ? wanted : byte % 3 < WORDS ? 0 : MINTLINTEL_NO_SUCH_BLOCK;
+        wanted = wanted ? wanted : byte % 3 < WORDS ? 0 : MINTLINTEL_NO_SUCH_WORD;
         CHECK(CALL(host_word, &seats[seat], byte % 3, &word) == wanted && word == (wanted ? 77 : whole));
         break;
     case 2:

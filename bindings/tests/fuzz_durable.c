@@ -4,19 +4,23 @@
 
 /* The calls that return a code, and how often each of them returned which. */
 enum call {
-    CALL_open, CALL_read, CALL_write, CALL_write_new, CALL_trim, CALL_flush, CALL_counts, CALL_block, CALL_numbers,
-    CALL_core_open, CALL_core_note, CALL_core_finish, CALL_core_page, CALL_core_next, CALL_core_done, CALL_core_counts, CALLS
+    CALL_open, CALL_open_despite_losses, CALL_read, CALL_write, CALL_write_new, CALL_trim, CALL_flush, CALL_counts, CALL_losses, CALL_block,
+    CALL_numbers, CALL_core_open, CALL_core_open_over, CALL_core_note, CALL_core_finish, CALL_core_page, CALL_core_next, CALL_core_done,
+    CALL_core_counts, CALL_core_losses, CALLS
 };
 enum { CODES = 128 };
 #define DURABLE(name, ...) counted(CALL_##name, mintlintel_durable_##name(__VA_ARGS__))
 #define CORE(name, ...) counted(CALL_core_##name, mintlintel_core_##name(__VA_ARGS__))
 
 static uint64_t returned[CALLS][CODES];
+/* libFuzzer doesn't see into what is proved. It keeps an input by which a call returns another code. */
+static uint8_t is_returned[CALLS][CODES] __attribute__((section("__libfuzzer_extra_counters")));
 
 static uint32_t counted(enum call call, uint32_t code)
 {
     CHECK(code < CODES);
     returned[call][code]++;
+    is_returned[call][code] = 1;
     return code;
 }
 
@@ -85,14 +89,16 @@ static int has_version_beyond(uint32_t count, int with_bad)
         for (uint32_t page = 0; page < CHIP_PAGES && (with_bad || !chip.bad[block]); page++) {
             const struct chip_page *p = &chip.pages[block][page];
             const uint8_t *at = p->stamp + AT_SECTOR;
-            if (p->contents == VERSION && (at[0] | (uint32_t)at[1] << 8 | (uint32_t)at[2] << 16 | (uint32_t)at[3] << 24) >= count)
+            uint32_t first = at[0] | (uint32_t)at[1] << 8 | (uint32_t)at[2] << 16 | (uint32_t)at[3] << 24;
+            if (p->contents == VERSION && first + (at[4] | (uint32_t)at[5] << 8 | (uint32_t)at[6] << 16) > count)
                 return 1;
         }
     return 0;
 }
 
-/* A device of these numbers can't be on this chip: the code of the first fault, or 0. Each bit of `faults` makes one number wrong. */
-static uint32_t open_with(uint32_t faults, uint32_t count)
+/* Opens a device of these numbers, which can't be on this chip if a bit of `faults` makes one of them wrong: the code of the first fault then. No page
+ * of the chip becomes unreadable, so no cut and no failure leaves a loss. */
+static uint32_t open_with(uint32_t faults, uint32_t count, int despite_losses)
 {
     uint32_t blocks = faults & 2 ? 2 : CHIP_BLOCKS, wanted = 0;
     uint32_t luns = faults & 1 ? 9 : 1, pages = faults & 4 ? 0 : CHIP_PAGES, bytes = faults & 8 ? 65537 : CHIP_PAGE_BYTES;
@@ -102,7 +108,10 @@ static uint32_t open_with(uint32_t faults, uint32_t count)
             wanted = MINTLINTEL_BAD_LUNS + i;
     if (wanted == 0 && faults & 32)
         wanted = MINTLINTEL_TOO_FEW_BLOCKS;
-    uint32_t code = DURABLE(open, &device, &nand, luns, blocks, pages, bytes, asked);
+    uint64_t losses = 77;
+    uint32_t code = despite_losses ? DURABLE(open_despite_losses, &device, &nand, luns, blocks, pages, bytes, asked, &losses)
+                                   : DURABLE(open, &device, &nand, luns, blocks, pages, bytes, asked);
+    CHECK(losses == (despite_losses && code == MINTLINTEL_DONE ? 0 : 77));
     CHECK(!wanted || code == (state_code == MINTLINTEL_CLOSED ? wanted : (uint32_t)MINTLINTEL_ALREADY_OPEN));
     return code;
 }
@@ -120,7 +129,7 @@ static void open_call(struct input *in)
         memset(chip.failed, 0, sizeof chip.failed);
     }
     chip.is_off |= byte % 16 == 0;
-    uint32_t code = open_with(faults >> 2, count);
+    uint32_t code = open_with(faults >> 2, count, (int)(byte >> 6 & 1));
     if (faults >> 2 || state_code != MINTLINTEL_CLOSED) {
         CHECK(state_code == MINTLINTEL_CLOSED || code == MINTLINTEL_ALREADY_OPEN);
         return;
@@ -232,10 +241,12 @@ static void report_call(uint32_t block)
     struct mintlintel_durable_numbers numbers = {7, 7, 7, 7, 7}, wanted = {1, CHIP_BLOCKS, CHIP_PAGES, CHIP_PAGE_BYTES, sectors};
     struct mintlintel_totals totals = {7, 7, 7};
     struct mintlintel_block report = {77, 77, 77};
+    uint64_t losses = 77;
     CHECK(DURABLE(numbers, &device, &numbers) == (is_closed ? (uint32_t)MINTLINTEL_CLOSED : 0));
     CHECK(is_closed ? numbers.luns == 7 && numbers.sectors == 7 : memcmp(&numbers, &wanted, sizeof numbers) == 0);
     CHECK(DURABLE(counts, &device, &totals) == (is_closed ? (uint32_t)MINTLINTEL_CLOSED : 0));
     CHECK(!is_closed || (totals.programs == 7 && totals.copies == 7 && totals.erases == 7));
+    CHECK(DURABLE(losses, &device, &losses) == (is_closed ? (uint32_t)MINTLINTEL_CLOSED : 0) && losses == (is_closed ? 77 : 0));
     uint32_t code = DURABLE(block, &device, block, &report);
     CHECK(code == (is_closed ? (uint32_t)MINTLINTEL_CLOSED : block >= CHIP_BLOCKS ? (uint32_t)MINTLINTEL_NO_SUCH_BLOCK : 0));
     CHECK(code ? report.erases == 77 && report.live == 77 && report.retired == 77 : report.retired >= chip.bad[block] && report.live <= CHIP_PAGES);
@@ -286,7 +297,7 @@ static void begin_device(struct input *in)
         nand.sync = NULL;
     state_code = MINTLINTEL_CLOSED;
     is_worn = 0;
-    CHECK(open_with(0, sectors) == MINTLINTEL_DONE);
+    CHECK(open_with(0, sectors, left_out >> 2 & 1) == MINTLINTEL_DONE);
     state_code = 0;
 }
 
@@ -294,12 +305,12 @@ static void begin_device(struct input *in)
 
 enum { BLOCKS = 4, PAGES = 3, SECTORS = 5, PROGRAM = 1, COPY = 2, ERASE = 3, MOST_COMMANDS = 4 * BLOCKS * PAGES };
 
-struct version { enum contents contents; uint32_t sector; uint64_t number; };
+struct version { enum contents contents; uint32_t first, count; uint64_t number; };
 
 static struct mintlintel_core core;
 static struct version flash[BLOCKS][PAGES];
 static enum { CLOSED, MOUNTING, MOUNTED } phase;
-static uint32_t noted;
+static uint32_t noted, used; /* pages that are noted; the blocks from this one on are only read */
 static int is_true; /* each note has said what the flash has */
 static struct mintlintel_totals totals;
 
@@ -309,6 +320,17 @@ static uint32_t unfit(int wanted)
     return phase == CLOSED ? MINTLINTEL_CLOSED : (int)phase != wanted ? MINTLINTEL_WRONG_KIND : 0;
 }
 
+static int has_sector(const struct version *v, uint32_t sector)
+{
+    return v->contents == VERSION && sector >= v->first && sector - v->first < v->count;
+}
+
+/* Whether these are sectors of the device. */
+static int are_sectors(uint32_t first, uint32_t count)
+{
+    return first < SECTORS && count > 0 && count <= SECTORS - first;
+}
+
 /* One more than the number of the sector's newest version outside this block, or of any sector's; 0 if there is none. */
 static uint64_t after(uint32_t sector, uint32_t without)
 {
@@ -316,19 +338,23 @@ static uint64_t after(uint32_t sector, uint32_t without)
     for (uint32_t block = 0; block < BLOCKS; block++)
         for (uint32_t page = 0; page < PAGES && block != without; page++) {
             const struct version *v = &flash[block][page];
-            if (v->contents == VERSION && (v->sector == sector || sector == SECTORS) && v->number >= number)
+            if ((has_sector(v, sector) || (v->contents == VERSION && sector == SECTORS)) && v->number >= number)
                 number = v->number + 1;
         }
     return number;
 }
 
+/* Begins a mount of all blocks, or of all but the last one, or one with wrong numbers. */
 static void core_open(uint32_t byte)
 {
-    uint32_t count = byte % 8 == 0 ? (BLOCKS - 1) * PAGES : SECTORS;
-    uint32_t wanted = phase != CLOSED ? MINTLINTEL_ALREADY_OPEN : count != SECTORS ? MINTLINTEL_TOO_FEW_BLOCKS : 0;
-    CHECK(CORE(open, &core, BLOCKS, PAGES, count) == wanted);
+    uint32_t count = byte % 8 == 0 ? (BLOCKS - 1) * PAGES : SECTORS, is_over = byte % 4 > 1, blocks = BLOCKS - is_over;
+    uint32_t read_blocks = is_over && byte % 16 == 2 ? blocks - 1 : BLOCKS, is_wrong = count != SECTORS || read_blocks < blocks;
+    uint32_t wanted = phase != CLOSED ? MINTLINTEL_ALREADY_OPEN : is_wrong ? MINTLINTEL_TOO_FEW_BLOCKS : 0;
+    uint32_t code = is_over ? CORE(open_over, &core, read_blocks, blocks, PAGES, count) : CORE(open, &core, blocks, PAGES, count);
+    CHECK(code == wanted);
     if (wanted)
         return;
+    used = blocks;
     phase = MOUNTING;
     noted = 0;
     is_true = 1;
@@ -338,13 +364,13 @@ static void core_open(uint32_t byte)
 static void core_note(struct input *in)
 {
     uint32_t byte = next(in), wanted = unfit(MOUNTING);
-    struct version none = {TORN, 0, 0}, *at = noted < BLOCKS * PAGES ? &flash[noted / PAGES][noted % PAGES] : &none, told = *at;
+    struct version none = {TORN, 0, 0, 0}, *at = noted < BLOCKS * PAGES ? &flash[noted / PAGES][noted % PAGES] : &none, told = *at;
     if (byte % 4 == 0)
-        told = (struct version){byte & 16 ? TORN : VERSION, byte >> 5, byte & 32 ? UINT64_MAX : next(in) + 1};
-    int is_foreign = told.contents == VERSION && (told.sector >= SECTORS || told.number == UINT64_MAX);
+        told = (struct version){byte & 16 ? TORN : VERSION, byte >> 5, byte >> 2 & 3, byte & 32 ? UINT64_MAX : next(in) + 1};
+    int is_foreign = told.contents == VERSION && (!are_sectors(told.first, told.count) || told.number == UINT64_MAX);
     if (!wanted)
         wanted = noted == BLOCKS * PAGES ? MINTLINTEL_OUT_OF_ORDER : is_foreign ? MINTLINTEL_OTHER_DEVICE : 0;
-    CHECK(CORE(note, &core, told.contents == VERSION, told.sector, told.number) == wanted);
+    CHECK(CORE(note, &core, told.contents == VERSION, told.first, told.count, told.number) == wanted);
     if (wanted)
         return;
     is_true &= byte % 4 > 0;
@@ -359,7 +385,7 @@ static void core_finish(void)
     if (!wanted && noted < BLOCKS * PAGES)
         wanted = MINTLINTEL_OUT_OF_ORDER;
     uint32_t code = CORE(finish, &core);
-    CHECK(code == wanted || (!wanted && !is_true && code == MINTLINTEL_NO_BLOCK));
+    CHECK(code == wanted || (!wanted && (!is_true || used < BLOCKS) && code == MINTLINTEL_NO_BLOCK));
     if (code == MINTLINTEL_NO_BLOCK)
         phase = CLOSED;
     if (code)
@@ -383,16 +409,16 @@ static void core_page(uint32_t sector)
     CHECK(code == (number > 0));
     if (code == MINTLINTEL_WRITTEN) {
         const struct version *v = &flash[at.block][at.page];
-        CHECK(v->contents == VERSION && v->sector == sector && v->number + 1 == number);
+        CHECK(has_sector(v, sector) && v->number + 1 == number);
     } else {
         CHECK(at.block == 77 && at.page == 77);
     }
 }
 
 /* The command keeps the rules of NAND flash, and a power cut before or inside it loses no newest version. */
-static void check_command(const struct mintlintel_command *c, uint32_t sector)
+static void check_command(const struct mintlintel_command *c, uint32_t first)
 {
-    CHECK(c->kind >= PROGRAM && c->kind <= ERASE && c->block < BLOCKS);
+    CHECK(c->kind >= PROGRAM && c->kind <= ERASE && c->block < used);
     if (c->kind == ERASE) {
         for (uint32_t s = 0; s < SECTORS; s++)
             CHECK(after(s, c->block) == after(s, BLOCKS));
@@ -401,18 +427,18 @@ static void check_command(const struct mintlintel_command *c, uint32_t sector)
     for (uint32_t page = c->page; page < PAGES; page++)
         CHECK(c->page < PAGES && flash[c->block][page].contents == ERASED);
     if (c->kind == PROGRAM) {
-        CHECK(c->sector == sector && c->number == after(SECTORS, BLOCKS) && c->number < UINT64_MAX);
+        CHECK(c->sector == first && c->number == after(SECTORS, BLOCKS) && c->number < UINT64_MAX);
         return;
     }
     const struct version *from = &flash[c->from_block][c->from_page];
-    CHECK(c->from_block < BLOCKS && c->from_page < PAGES && from->contents == VERSION && from->sector == c->sector);
+    CHECK(c->from_block < BLOCKS && c->from_page < PAGES && has_sector(from, c->sector));
     CHECK(from->number + 1 == after(c->sector, BLOCKS));
 }
 
-/* What a command leaves of the flash: all of it; or if it is cut nothing, or torn pages. */
-static void perform(const struct mintlintel_command *c, int is_cut, uint32_t left)
+/* What a command for so many sectors leaves of the flash: all of it; or if it is cut nothing, or torn pages. */
+static void perform(const struct mintlintel_command *c, uint32_t count, int is_cut, uint32_t left)
 {
-    struct version whole = c->kind == PROGRAM ? (struct version){VERSION, c->sector, c->number} : (struct version){ERASED, 0, 0};
+    struct version whole = c->kind == PROGRAM ? (struct version){VERSION, c->sector, count, c->number} : (struct version){ERASED, 0, 0, 0};
     if (c->kind == COPY)
         whole = flash[c->from_block][c->from_page];
     for (uint32_t page = 0; page < PAGES; page++)
@@ -423,36 +449,36 @@ static void perform(const struct mintlintel_command *c, int is_cut, uint32_t lef
         }
 }
 
-/* Asks for the next command of a sector, and gives it, a cut one, or another one as done. Returns whether the sector's update goes on. */
-static int core_step(uint32_t sector, uint32_t byte)
+/* Asks for the next command of some sectors, and gives it, a cut one, or another one as done. Returns whether their update goes on. */
+static int core_step(uint32_t first, uint32_t count, uint32_t byte)
 {
     struct mintlintel_command command = {77, 77, 77, 77, 77, 77, 77}, kept = command, again = command, other;
     uint32_t wanted = unfit(MOUNTED);
-    if (!wanted && sector >= SECTORS)
+    if (!wanted && !are_sectors(first, count))
         wanted = MINTLINTEL_NO_SECTOR;
     int has_numbers = is_true && after(SECTORS, BLOCKS) < UINT64_MAX;
-    uint32_t code = CORE(next, &core, sector, &command);
+    uint32_t code = CORE(next, &core, first, count, &command);
     CHECK(code == wanted || (!wanted && !has_numbers && code == MINTLINTEL_NO_NUMBER));
     if (code) {
         CHECK(memcmp(&command, &kept, sizeof command) == 0);
-        CHECK(CORE(done, &core, sector, &command) == (code == MINTLINTEL_NO_NUMBER ? (uint32_t)MINTLINTEL_OUT_OF_ORDER : code));
+        CHECK(CORE(done, &core, first, count, &command) == (code == MINTLINTEL_NO_NUMBER ? (uint32_t)MINTLINTEL_OUT_OF_ORDER : code));
         return 0;
     }
-    CHECK(CORE(next, &core, sector, &again) == 0 && memcmp(&command, &again, sizeof command) == 0);
+    CHECK(CORE(next, &core, first, count, &again) == 0 && memcmp(&command, &again, sizeof command) == 0);
     if (is_true)
-        check_command(&command, sector);
+        check_command(&command, first);
     other = command;
     *(&other.kind + byte % 6) += 1 + byte / 64;
-    CHECK(CORE(done, &core, sector, &other) == MINTLINTEL_OUT_OF_ORDER);
+    CHECK(CORE(done, &core, first, count, &other) == MINTLINTEL_OUT_OF_ORDER);
     if (is_true && byte >= 224) {
-        perform(&command, 1, byte);
+        perform(&command, count, 1, byte);
         mintlintel_core_close(&core);
         phase = CLOSED;
         return 0;
     }
-    CHECK(CORE(done, &core, sector, &command) == 0);
+    CHECK(CORE(done, &core, first, count, &command) == 0);
     if (is_true)
-        perform(&command, 0, 0);
+        perform(&command, count, 0, 0);
     totals.programs += command.kind == PROGRAM;
     totals.copies += command.kind == COPY;
     totals.erases += command.kind == ERASE;
@@ -468,30 +494,42 @@ static void core_counts(void)
     CHECK(CORE(counts, &core, &found) == unfit_code && memcmp(&found, &wanted, sizeof found) == 0);
 }
 
-static void mount_core(void)
+/* No cut leaves a loss. What was noted wrong may look like one. */
+static void core_losses(void)
+{
+    uint64_t losses = 77;
+    uint32_t wanted = unfit(MOUNTED);
+    CHECK(CORE(losses, &core, &losses) == wanted);
+    CHECK(wanted ? losses == 77 : is_true ? losses == 0 : losses < BLOCKS * PAGES);
+}
+
+/* Mounts what the flash has, which succeeds unless a block is left out. */
+static void mount_core(uint32_t byte)
 {
     static const uint8_t as_it_is[1] = {1};
     mintlintel_core_close(&core);
     phase = CLOSED;
-    core_open(1);
+    core_open(byte % 4 == 3 ? 3 : 1);
     for (uint32_t page = 0; page < BLOCKS * PAGES; page++)
         core_note(&(struct input){as_it_is, 1});
     core_finish();
-    CHECK(phase == MOUNTED);
+    CHECK(phase == MOUNTED || used < BLOCKS);
 }
 
 static void core_call(struct input *in)
 {
-    uint32_t kind = next(in) % 16, sector = next(in) % (SECTORS + 1), byte = next(in), commands = 0;
+    uint32_t head = next(in), kind = head % 16, sector = next(in) % (SECTORS + 1), byte = next(in), commands = 0;
+    uint32_t count = head >> 4 & 3 ? 1 : head >> 6;
     if (kind < 7) {
-        while (commands < MOST_COMMANDS && core_step(sector, byte))
+        while (commands < MOST_COMMANDS && core_step(sector, count, byte))
             commands++;
         CHECK(!is_true || commands < MOST_COMMANDS);
     } else if (kind < 9)
         core_page(sector);
-    else if (kind == 9)
+    else if (kind == 9) {
         core_counts();
-    else if (kind == 10)
+        core_losses();
+    } else if (kind == 10)
         for (uint32_t i = 0; i <= byte % 16; i++)
             core_note(in);
     else if (kind == 11)
@@ -502,7 +540,7 @@ static void core_call(struct input *in)
         mintlintel_core_close(&core);
         phase = CLOSED;
     } else
-        mount_core();
+        mount_core(byte);
 }
 
 /* An empty flash, or one whose only version has one of the last numbers. */
@@ -511,8 +549,8 @@ static void begin_core(struct input *in)
     uint32_t byte = next(in);
     memset(flash, 0, sizeof flash);
     if (byte >= 192)
-        flash[byte % BLOCKS][0] = (struct version){VERSION, byte % SECTORS, UINT64_MAX - 1 - byte % 16};
-    mount_core();
+        flash[byte % BLOCKS][0] = (struct version){VERSION, byte % SECTORS, 1, UINT64_MAX - 1 - byte % 16};
+    mount_core(0);
 }
 
 int LLVMFuzzerTestOneInput(const uint8_t *bytes, size_t size)

@@ -65,7 +65,7 @@ static void test_wrong_kind(void)
     CHECK(mintlintel_host_trim(&hosts[0], 0) == MINTLINTEL_WRONG_KIND);
     CHECK(mintlintel_host_hold(&hosts[0], 0) == MINTLINTEL_WRONG_KIND);
     CHECK(mintlintel_host_copy(&hosts[0], page, PAGE - 1) == MINTLINTEL_NOT_A_PAGE);
-    CHECK(mintlintel_host_word(&hosts[0], WORDS, &word) == MINTLINTEL_NO_SUCH_BLOCK);
+    CHECK(mintlintel_host_word(&hosts[0], WORDS, &word) == MINTLINTEL_NO_SUCH_WORD);
     CHECK(mintlintel_host_copy(&hosts[1], page, PAGE) == MINTLINTEL_WRONG_KIND);
     CHECK(mintlintel_host_word(&hosts[1], 0, &word) == MINTLINTEL_WRONG_KIND);
     CHECK(mintlintel_host_held(&hosts[1], &place) == MINTLINTEL_WRONG_KIND);

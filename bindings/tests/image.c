@@ -1,4 +1,5 @@
 /* An image file: what survives a close and a second open, what is refused, and copies. The file is made in the folder that is named. */
+#include "../src/flash.h"
 #include "mintlintel_image.h"
 #include "testing.h"
 #include <errno.h>
@@ -235,6 +236,73 @@ static void collections(void)
     unlink(other);
 }
 
+/* A run of sectors that was found, and what they held then. */
+struct found { struct mtl_run run; uint32_t code; uint8_t held[SECTORS]; };
+
+/* Reads a run that was found: 1 if it is what its sectors held, and 0 if the call says that it can't. */
+static int is_as_found(struct mintlintel_image *image, const struct found *found)
+{
+    uint8_t pages[SECTORS][PAGE_BYTES], wanted[PAGE_BYTES];
+    if (!mtl_image_read_run(image, &found->run, pages))
+        return 0;
+    for (uint32_t i = 0; i < found->run.count; i++) {
+        fill(wanted, found->held[found->run.sector + i]);
+        CHECK(memcmp(pages[i], wanted, sizeof wanted) == 0);
+    }
+    return 1;
+}
+
+static struct found find(struct mintlintel_image *image)
+{
+    struct found found;
+    uint32_t sector = drawn(&state) % SECTORS;
+    found.code = mtl_image_find(image, sector, SECTORS - sector, &found.run);
+    memcpy(found.held, values, sizeof values);
+    CHECK(found.code <= MINTLINTEL_WRITTEN && found.run.sector == sector && found.run.count > 0);
+    for (uint32_t i = sector; found.code == MINTLINTEL_EMPTY && i < sector + found.run.count; i++)
+        CHECK(values[i] == 0);
+    return found;
+}
+
+/* Some sectors are written together, and their pages are read by runs: those found just now are as they are, and those found earlier as they were, or
+ * refused. */
+static void runs(void)
+{
+    struct mintlintel_image image = {0};
+    struct found earlier[16];
+    uint8_t pages[4][PAGE_BYTES] = {{0}};
+    long alone = 0, together = 0, kept = 0, refused = 0;
+    begin(&image, MINTLINTEL_NEVER);
+    for (int i = 0; i < 16; i++)
+        earlier[i] = find(&image);
+    for (int round = 0; round < 20000; round++) {
+        uint32_t first = drawn(&state) % (SECTORS - 3), old = drawn(&state) % 16;
+        uint32_t checks[4];
+        for (int i = 0; i < 4; i++) {
+            values[first + i] = (uint8_t)(1 + drawn(&state) % 255);
+            fill(pages[i], values[first + i]);
+            checks[i] = mintlintel_crc32c(0, pages[i], PAGE_BYTES);
+        }
+        mtl_image_keep(&image, pages, round % 2 ? checks : NULL, 4);
+        for (uint32_t i = 0; i < 4; i++)
+            CHECK(mintlintel_durable_write(&image.device, first + i, pages[i], PAGE_BYTES) <= MINTLINTEL_WRITTEN);
+        uint64_t ticket = mtl_image_let_go(&image);
+        struct found now = find(&image);
+        CHECK(round % 4 == 0 || mtl_image_commit(&image, ticket) == MINTLINTEL_DONE);
+        CHECK(now.code == MINTLINTEL_EMPTY || is_as_found(&image, &now));
+        CHECK(mtl_image_commit(&image, ticket) == MINTLINTEL_DONE);
+        alone += now.run.count == 1;
+        together += now.run.count > 1;
+        int is_there = earlier[old].code == MINTLINTEL_EMPTY || is_as_found(&image, &earlier[old]);
+        kept += is_there;
+        refused += !is_there;
+        earlier[old] = now;
+    }
+    CHECK(alone > 1000 && together > 1000 && kept > 1000 && refused > 1000);
+    CHECK(unreadable(&image) == 0);
+    mintlintel_image_close(&image);
+}
+
 /* A file that can't grow: the call says so, and nothing that was acknowledged is lost. */
 static void full_disk(void)
 {
@@ -277,6 +345,7 @@ int main(int argc, char **argv)
     swapped();
     copies();
     collections();
+    runs();
     full_disk();
     unlink(path);
     printf("image: sessions, refusals, flipped and swapped bytes, copies and a full disk agree with what was acknowledged\n");

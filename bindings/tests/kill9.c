@@ -1,7 +1,8 @@
-/* kill9 FOLDER [ROUNDS]: a process that writes to an image is killed at a random moment; then the image has what it acknowledged, and at most the call
- * that was begun besides. What the process has begun and acknowledged stands in memory that it shares with its parent. */
-#include "mintlintel_image.h"
-#include "testing.h"
+/* kill9 FOLDER [ROUNDS]: a process that writes to an image is killed at a random moment; then the image has what it acknowledged, and at most the calls
+ * that were begun besides, one of each thread. What the process has begun and acknowledged stands in memory that it shares with its parent. */
+#include "../src/flash.h"
+#include "written.h"
+#include <pthread.h>
 #include <signal.h>
 #include <stdatomic.h>
 #include <sys/mman.h>
@@ -9,56 +10,81 @@
 #include <time.h>
 #include <unistd.h>
 
-enum { LUNS = 1, BLOCKS = 48, PAGES = 16, PAGE_BYTES = 4096, SECTORS = 500 };
+enum { LUNS = 1, BLOCKS = 48, PAGES = 16, PAGE_BYTES = 4096, SECTORS = 500, THREADS = 4, SHARE = SECTORS / THREADS, MOST_TOGETHER = 4 };
 
-/* The value of each sector that was acknowledged, 0 for an empty one, and the call that was begun. */
-struct shared { _Atomic uint32_t acknowledged[SECTORS], first, count, value; _Atomic uint64_t calls; };
+/* A call that was begun: each of these sectors gets this value, 0 for a trim. */
+struct call { _Atomic uint32_t first, count, value; };
+
+/* The value of each sector that was acknowledged, 0 for an empty one, and the calls of the threads. Each has sectors of its own. */
+struct shared { _Atomic uint32_t acknowledged[SECTORS]; struct call begun[THREADS]; _Atomic uint64_t calls; };
 
 static struct shared *shared;
+static struct mintlintel_image used;
+static pthread_mutex_t lock = PTHREAD_MUTEX_INITIALIZER; /* of the calls of `used` */
 static char path[4096];
 static uint64_t state = 88172645463325252u;
 
-static void fill(uint8_t *page, uint32_t value)
+/* Writes some sectors, whose pages wait until the lock is given back, and are then done beside those of other threads. */
+static void write_some(uint32_t first, uint32_t count, uint32_t value)
 {
-    for (int i = 0; i < PAGE_BYTES; i += 4)
-        memcpy(page + i, &value, sizeof value);
+    static _Thread_local uint8_t pages[MOST_TOGETHER][PAGE_BYTES];
+    for (uint32_t i = 0; i < count; i++)
+        fill(pages[i], PAGE_BYTES, value);
+    pthread_mutex_lock(&lock);
+    mtl_image_keep(&used, pages, NULL, count);
+    for (uint32_t i = 0; i < count; i++)
+        CHECK(mintlintel_durable_write(&used.device, first + i, pages[i], PAGE_BYTES) <= MINTLINTEL_WRITTEN);
+    uint64_t ticket = mtl_image_let_go(&used);
+    pthread_mutex_unlock(&lock);
+    CHECK(mtl_image_commit(&used, ticket) == MINTLINTEL_DONE);
 }
 
-static uint32_t value_of(struct mintlintel_image *image, uint32_t sector)
+static void trim_some(uint32_t first, uint32_t count)
 {
-    uint8_t page[PAGE_BYTES], wanted[PAGE_BYTES];
-    uint32_t value, code = mintlintel_durable_read(&image->device, sector, page, sizeof page);
-    CHECK(code <= MINTLINTEL_WRITTEN);
-    if (code == MINTLINTEL_EMPTY)
-        return 0;
-    memcpy(&value, page, sizeof value);
-    fill(wanted, value);
-    CHECK(value != 0 && memcmp(page, wanted, sizeof page) == 0);
-    return value;
+    pthread_mutex_lock(&lock);
+    CHECK(mintlintel_durable_trim(&used.device, first, count) <= MINTLINTEL_WRITTEN);
+    pthread_mutex_unlock(&lock);
 }
 
 /* Calls without end. */
-static void use(enum mintlintel_image_mode mode, uint64_t seed)
+static void *use(void *argument)
 {
-    struct mintlintel_image image = {0};
-    uint8_t page[PAGE_BYTES];
-    CHECK(mintlintel_image_open(&image, path, mode, LUNS, BLOCKS, PAGES, PAGE_BYTES, SECTORS) == MINTLINTEL_DONE);
+    uint32_t thread = (uint32_t)(uintptr_t)argument;
+    uint64_t seed = state + thread * 0x9e3779b97f4a7c15u;
+    struct call *begun = &shared->begun[thread];
     for (;;) {
-        uint32_t sector = drawn(&seed) % SECTORS, value = drawn(&seed) % 8 == 0 ? 0 : 1 + drawn(&seed) % 1000000;
-        uint32_t count = value ? 1 : 1 + drawn(&seed) % 4;
-        count = sector + count > SECTORS ? SECTORS - sector : count;
-        shared->first = sector;
-        shared->value = value;
-        shared->count = count;
-        fill(page, value);
-        uint32_t code = value ? mintlintel_durable_write(&image.device, sector, page, sizeof page)
-            : mintlintel_durable_trim(&image.device, sector, count);
-        CHECK(code <= MINTLINTEL_WRITTEN);
-        for (uint32_t i = sector; i < sector + count; i++)
-            shared->acknowledged[i] = value;
-        shared->count = 0;
+        uint32_t at = drawn(&seed) % SHARE, value = drawn(&seed) % 8 == 0 ? 0 : 1 + drawn(&seed) % 1000000, count = 1 + drawn(&seed) % MOST_TOGETHER;
+        count = at + count > SHARE ? SHARE - at : count;
+        begun->first = thread * SHARE + at;
+        begun->value = value;
+        begun->count = count;
+        if (value)
+            write_some(begun->first, count, value);
+        else
+            trim_some(begun->first, count);
+        for (uint32_t i = 0; i < count; i++)
+            shared->acknowledged[begun->first + i] = value;
+        begun->count = 0;
         shared->calls++;
     }
+    return NULL;
+}
+
+/* The threads of a process that is killed. */
+static void use_by_threads(enum mintlintel_image_mode mode)
+{
+    pthread_t thread;
+    CHECK(mintlintel_image_open(&used, path, mode, LUNS, BLOCKS, PAGES, PAGE_BYTES, SECTORS) == MINTLINTEL_DONE);
+    for (uintptr_t i = 1; i < THREADS; i++)
+        CHECK(pthread_create(&thread, NULL, use, (void *)i) == 0);
+    use(NULL);
+}
+
+/* Whether a call was begun that gives the sector this value. */
+static int is_begun(uint32_t sector, uint32_t value)
+{
+    const struct call *begun = &shared->begun[sector / SHARE];
+    return begun->count > 0 && sector - begun->first < begun->count && value == begun->value;
 }
 
 static void check_image(enum mintlintel_image_mode mode)
@@ -67,12 +93,12 @@ static void check_image(enum mintlintel_image_mode mode)
     uint32_t code = mintlintel_image_open(&image, path, mode, LUNS, BLOCKS, PAGES, PAGE_BYTES, SECTORS);
     CHECK(code == MINTLINTEL_DONE);
     for (uint32_t sector = 0; sector < SECTORS; sector++) {
-        uint32_t value = value_of(&image, sector);
-        int is_begun = shared->count > 0 && sector - shared->first < shared->count;
-        CHECK(value == shared->acknowledged[sector] || (is_begun && value == shared->value));
+        uint32_t value = value_of(&image, sector, PAGE_BYTES);
+        CHECK(value == shared->acknowledged[sector] || is_begun(sector, value));
         shared->acknowledged[sector] = value;
     }
-    shared->count = 0;
+    for (int i = 0; i < THREADS; i++)
+        shared->begun[i].count = 0;
     CHECK(mintlintel_image_close(&image) == MINTLINTEL_DONE);
 }
 
@@ -89,7 +115,7 @@ int main(int argc, char **argv)
         pid_t child = fork();
         CHECK(child >= 0);
         if (child == 0)
-            use(mode, state | 1);
+            use_by_threads(mode);
         nanosleep(&pause, NULL);
         kill(child, SIGKILL);
         int status;

@@ -113,7 +113,7 @@ static void hold(struct mintlintel_seat *host, uint32_t sector)
     if (last[sector] % 8 == 0)
         nanosleep(&pause, NULL);
     CHECK(CALL(host_copy, AT(host), page, PAGE + 1) == MINTLINTEL_NOT_A_PAGE);
-    CHECK(CALL(host_word, AT(host), WORDS, &word) == MINTLINTEL_NO_SUCH_BLOCK);
+    CHECK(CALL(host_word, AT(host), WORDS, &word) == MINTLINTEL_NO_SUCH_WORD);
     CHECK(CALL(host_write, AT(host), sector, page, PAGE) == MINTLINTEL_WRONG_KIND);
     CHECK(CALL(host_held, AT(host), &later) == MINTLINTEL_DONE && memcmp(&later, &place, sizeof place) == 0);
     CHECK(CALL(host_release, AT(host)) == MINTLINTEL_DONE);

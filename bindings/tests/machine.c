@@ -1,8 +1,7 @@
 /* machine play FOLDER CALLS: plays so many calls on two images in the folder, `always` and `flush`, and is killed. It says at a port that QEMU keeps in a
  * file which calls of each have to be there after a power cut. Call number i of an image is the same in every run.
  * machine find FOLDER: prints how many calls each image has. It fails if the sectors aren't those after any number of them. */
-#include "mintlintel_image.h"
-#include "testing.h"
+#include "written.h"
 #include <libgen.h>
 #include <signal.h>
 #include <sys/io.h>
@@ -28,34 +27,12 @@ static struct call call_of(uint32_t number)
     return (struct call){sector, drawn(&state) % 8 == 0};
 }
 
-static void fill(uint8_t *page, uint32_t number)
-{
-    for (uint32_t i = 0; i < PAGE_BYTES; i += 4) {
-        uint32_t word = i == 0 ? number : number * (i + 1);
-        memcpy(page + i, &word, sizeof word);
-    }
-}
-
-/* The number of the call that wrote the sector, or 0. */
-static uint32_t written_by(struct mintlintel_image *image, uint32_t sector)
-{
-    uint8_t page[PAGE_BYTES], wanted[PAGE_BYTES];
-    uint32_t number, code = mintlintel_durable_read(&image->device, sector, page, sizeof page);
-    CHECK(code <= MINTLINTEL_WRITTEN);
-    if (code == MINTLINTEL_EMPTY)
-        return 0;
-    memcpy(&number, page, sizeof number);
-    fill(wanted, number);
-    CHECK(number != 0 && memcmp(page, wanted, sizeof page) == 0);
-    return number;
-}
-
 /* After how many calls the sectors are as they are: the most, if trims of empty sectors are among them. The newest writes may have been trimmed. */
 static uint32_t find(struct mintlintel_image *image)
 {
     uint32_t found[SECTORS], after[SECTORS] = {0}, newest = 0, calls = UINT32_MAX;
     for (uint32_t sector = 0; sector < SECTORS; sector++) {
-        found[sector] = written_by(image, sector);
+        found[sector] = value_of(image, sector, PAGE_BYTES);
         newest = found[sector] > newest ? found[sector] : newest;
     }
     for (uint32_t number = 0; number <= newest + MOST_TRIMMED; number++) {
@@ -82,7 +59,7 @@ static void play_call(struct played *played)
 {
     uint8_t page[PAGE_BYTES];
     struct call call = call_of(++played->calls);
-    fill(page, played->calls);
+    fill(page, PAGE_BYTES, played->calls);
     uint32_t code = call.is_trim ? mintlintel_durable_trim(&played->image.device, call.sector, 1)
         : mintlintel_durable_write(&played->image.device, call.sector, page, sizeof page);
     CHECK(code <= MINTLINTEL_WRITTEN);

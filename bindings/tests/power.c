@@ -1,15 +1,18 @@
 /* power FOLDER [ROUNDS]: an image whose machine loses power at random. Of what was written since the last sync each 4096 bytes are on the disk, or not, or
  * each sector of 512 bytes is for itself, up to any of the writes to it. In mode `always` the image then has each acknowledged call, and in mode `flush`
- * a beginning of the history with all that was flushed. The writes and syncs of the library are wrapped. */
+ * a beginning of the history with all that was flushed. A process that is killed between two writes leaves a beginning with all that was acknowledged.
+ * The writes and syncs of the library are wrapped. */
+#include "../src/flash.h"
 #include "mintlintel_image.h"
 #include "testing.h"
 #include <errno.h>
 #include <fcntl.h>
+#include <sys/uio.h>
 #include <unistd.h>
 
 enum { LUNS = 1, BLOCKS = 5, PAGES = 40, PAGE_BYTES = 256, SECTORS = 120, BLOCK_BYTES = 4096 + 12288, HEAD_BYTES = 8192, SPARE_BYTES = 32,
        LENGTH = HEAD_BYTES + BLOCKS * BLOCK_BYTES };
-enum { SECTOR_BYTES = 512, PART_BYTES = 4096, MOST = 4096, CALLS = 3000 };
+enum { SECTOR_BYTES = 512, PART_BYTES = 4096, MOST = 4096, CALLS = 3000, MOST_TOGETHER = 8 };
 enum { NOTHING, SOME, ALL };
 /* Where the state of the last session and its mode stand, and what the state is. */
 enum { AT_SESSION = 4096, AT_MODE = 4100, IN_USE = 1, CLOSED = 2 };
@@ -19,17 +22,18 @@ struct update { uint32_t sector, value; };
 
 static uint8_t disk[LENGTH];
 static struct write pending[MOST];
-static struct update history[4 * CALLS];
-static uint32_t begun, safe; /* updates that were begun, and those that have to be there */
+static struct update history[(2 + MOST_TOGETHER) * CALLS];
+static uint32_t begun, safe, answered; /* updates that were begun, those that have to be there, and those that were acknowledged */
 static size_t writes;
 static long left; /* writes and syncs up to the power cut */
-static int is_off;
+static int is_off, is_write; /* the power is off; it went in a write */
 static uint64_t state = 88172645463325252u;
 static char path[4096];
 static long cuts, calls, kills, syncs;
 
 ssize_t __real_pwrite64(int fd, const void *bytes, size_t count, off_t at);
 ssize_t __wrap_pwrite64(int fd, const void *bytes, size_t count, off_t at);
+ssize_t __wrap_pwritev64(int fd, const struct iovec *parts, int count, off_t at);
 int __wrap_fdatasync(int fd);
 int __wrap_fsync(int fd);
 
@@ -62,10 +66,24 @@ ssize_t __wrap_pwrite64(int fd, const void *bytes, size_t count, off_t at)
         memcpy(pending[writes++].bytes, bytes, count);
     }
     if (goes_off()) {
+        is_write = 1;
         errno = EIO;
         return -1;
     }
     return __real_pwrite64(fd, bytes, count, at);
+}
+
+/* Each part is a write. One that the power goes in is the last. */
+ssize_t __wrap_pwritev64(int fd, const struct iovec *parts, int count, off_t at)
+{
+    ssize_t all = 0;
+    for (int i = 0; i < count; i++) {
+        ssize_t n = __wrap_pwrite64(fd, parts[i].iov_base, parts[i].iov_len, at + all);
+        if (n < 0)
+            return all > 0 ? all : n;
+        all += n;
+    }
+    return all;
 }
 
 static void forget_writes(void)
@@ -158,7 +176,7 @@ static void open_image(struct mintlintel_image *image, enum mintlintel_image_mod
 {
     uint32_t values[SECTORS], code;
     for (;;) {
-        is_off = 0;
+        is_off = is_write = 0;
         left = 1 + drawn(&state) % 400;
         code = mintlintel_image_open(image, path, mode, LUNS, BLOCKS, PAGES, PAGE_BYTES, SECTORS);
         if (code == MINTLINTEL_DONE)
@@ -172,22 +190,57 @@ static void open_image(struct mintlintel_image *image, enum mintlintel_image_mod
     while (updates > safe && !agree(values, updates))
         updates--;
     CHECK(agree(values, updates));
-    begun = safe = updates;
+    begun = safe = answered = updates;
+}
+
+static uint32_t read_back(struct mintlintel_image *image, const struct update *update)
+{
+    uint8_t page[PAGE_BYTES], wanted[PAGE_BYTES];
+    uint32_t code = mintlintel_durable_read(&image->device, update->sector, page, sizeof page);
+    fill(wanted, update->value);
+    CHECK(code == MINTLINTEL_FILE_FAILED || (code == MINTLINTEL_WRITTEN && memcmp(page, wanted, sizeof page) == 0));
+    return code;
+}
+
+/* Writes some sectors, whose pages may be written together. */
+static uint32_t many_writes(struct mintlintel_image *image)
+{
+    uint8_t pages[MOST_TOGETHER][PAGE_BYTES] = {{0}};
+    uint32_t count = 1 + drawn(&state) % MOST_TOGETHER, code = MINTLINTEL_DONE;
+    mtl_image_keep(image, pages, NULL, MOST_TOGETHER);
+    for (uint32_t i = 0; code <= MINTLINTEL_WRITTEN && i < count; i++) {
+        history[begun++] = (struct update){drawn(&state) % SECTORS, 1 + drawn(&state)};
+        fill(pages[i], history[begun - 1].value);
+        code = mintlintel_durable_write(&image->device, history[begun - 1].sector, pages[i], sizeof pages[i]);
+        if (code <= MINTLINTEL_WRITTEN && drawn(&state) % 8 == 0)
+            code = read_back(image, &history[begun - 1]);
+    }
+    uint32_t done = mtl_image_commit(image, mtl_image_let_go(image));
+    CHECK(code <= MINTLINTEL_WRITTEN || done == code);
+    return done;
+}
+
+static uint32_t one_update(struct mintlintel_image *image, uint32_t value)
+{
+    uint8_t page[PAGE_BYTES];
+    uint32_t sector = drawn(&state) % SECTORS;
+    history[begun++] = (struct update){sector, value};
+    fill(page, value);
+    return value ? mintlintel_durable_write(&image->device, sector, page, sizeof page) : mintlintel_durable_trim(&image->device, sector, 1);
 }
 
 static uint32_t one_call(struct mintlintel_image *image, enum mintlintel_image_mode mode)
 {
-    uint8_t page[PAGE_BYTES];
-    uint32_t sector = drawn(&state) % SECTORS, kind = drawn(&state) % 64, value = kind < 52 ? 1 + drawn(&state) : 0, code;
+    uint32_t kind = drawn(&state) % 64, code;
     calls++;
     if (kind == 63) {
         code = mintlintel_durable_flush(&image->device);
         safe = code == MINTLINTEL_DONE ? begun : safe;
         return code;
     }
-    history[begun++] = (struct update){sector, value};
-    fill(page, value);
-    code = value ? mintlintel_durable_write(&image->device, sector, page, sizeof page) : mintlintel_durable_trim(&image->device, sector, 1);
+    code = kind < 12 ? many_writes(image) : one_update(image, kind < 52 ? 1 + drawn(&state) : 0);
+    if (code <= MINTLINTEL_WRITTEN)
+        answered = begun;
     if (code <= MINTLINTEL_WRITTEN && mode == MINTLINTEL_ALWAYS)
         safe = begun;
     return code;
@@ -212,6 +265,18 @@ static void leave_and_open(struct mintlintel_image *image, enum mintlintel_image
     CHECK(cuts > earlier || begun == all);
 }
 
+/* What would have been a power cut is the end of the process: the file has all that was written before it. */
+static void kill_and_open(struct mintlintel_image *image, enum mintlintel_image_mode mode)
+{
+    uint32_t there = answered;
+    long earlier = cuts;
+    if (is_write)
+        free(pending[--writes].bytes);
+    leave(image);
+    open_image(image, mode);
+    CHECK(cuts > earlier || begun >= there);
+}
+
 /* Closes the image, which may be cut too, and opens it. An image that was closed in order has every call. */
 static void close_and_open(struct mintlintel_image *image, enum mintlintel_image_mode mode)
 {
@@ -232,13 +297,15 @@ static void run(enum mintlintel_image_mode mode)
     memset(disk, 0, sizeof disk);
     begun = safe = 0;
     left = 1000;
-    is_off = 0;
+    is_off = is_write = 0;
     CHECK(mintlintel_image_open(&image, path, mode, LUNS, BLOCKS, PAGES, PAGE_BYTES, SECTORS) == MINTLINTEL_DONE);
     CHECK(disk[AT_SESSION] == IN_USE);
     for (int i = 0; i < CALLS; i++) {
         uint32_t code = one_call(&image, mode);
         CHECK(code <= MINTLINTEL_WRITTEN || (code == MINTLINTEL_FILE_FAILED && is_off));
-        if (is_off || drawn(&state) % 100 == 0)
+        if (is_off && drawn(&state) % 2)
+            kill_and_open(&image, mode);
+        else if (is_off || drawn(&state) % 100 == 0)
             close_and_open(&image, mode);
         if (drawn(&state) % 100 == 0)
             leave_and_open(&image, mode);

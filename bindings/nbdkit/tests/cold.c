@@ -73,7 +73,7 @@ static void look_at_all(const uint32_t *before, uint32_t moved) {
         want(place((uint32_t) sector) == before[sector] || before[sector] == before[COLD], "a page of another block was written anew");
     }
     want(others == moved, "not so many pages were written anew as are wanted");
-    want(tally_of(&device.brooms.brooms[0].copies) == moved && device.brooms.loose_count == moved, "not so many pages are counted");
+    want(brooms_copies(&device.brooms) == moved && device.brooms.loose_count == moved, "not so many pages are counted");
     want(device.brooms.is_loose[before[COLD]] == moved, "the block isn't loose, or is without a dead page");
 }
 

@@ -39,11 +39,13 @@ def grown(shop):
 
 def goes_on(shop):
     """Requests at random while commands fail, on servers that are stopped or killed: nothing fails, and all is there that was answered."""
-    image, failed = new_failing(shop), {"failed_programs": 0, "failed_erases": 0}
+    image, failed = None, {"failed_programs": 0, "failed_erases": 0}
     rounds = shop.scaled(3, 12)
     for turn in range(rounds):
-        before, old = grown(shop), stamps(image, grown(shop)) if turn else {}
-        server = Server(shop, *(SMALL if turn == 0 else ["bad=0,17-18,99"]), *FAULTS[:2], f"seed={turn}", image=image)
+        is_new = turn % 3 == 0  # after some servers more too few blocks would be good
+        image = new_failing(shop) if is_new else image
+        before, old = grown(shop), {} if is_new else stamps(image, grown(shop))
+        server = Server(shop, *(SMALL if is_new else ["bad=0,17-18,99"]), *FAULTS[:2], f"seed={turn}", image=image)
         client = history(shop, server, turn, 700, "answered")
         answered, found = has_ended(shop, client)
         want(answered == found, f"{answered - found} answered steps are lost")

@@ -6,7 +6,7 @@ import shutil
 import subprocess
 import time
 
-from running import HERE, Failure, Server, kill, want
+from running import HERE, Failure, Server, kill, sanitized_by, side_by_side, want
 
 # Parameters, and words of the error that each has to get. A block of 64 pages has 262,144 bytes.
 REFUSED = [
@@ -134,16 +134,19 @@ class Edit:
         want(self.part and self.why, f"{path.name} doesn't say which part refuses it, and why")
 
     def make(self, shop, kind):
-        """The plugin with the changes, in a folder of its own."""
+        """The plugin with the changes, in a folder of its own, with the objects of the plugin itself that are as they would be."""
         folder = shop.folder / "wrong" / self.name
         shutil.copytree(HERE, folder, ignore=shutil.ignore_patterns("out", "tests", "wrong"))
+        (folder / "out").mkdir()
+        for built in (HERE / "out" / kind).glob("*.o"):
+            shutil.copy2(built, folder / "out")
         source = folder / self.file
         text = source.read_text()
         for old, new in self.pairs:
             want(text.count(old) == 1, f"{self.name}: the old text stands {text.count(old)} times in {self.file}")
             text = text.replace(old, new)
         source.write_text(text)
-        flags = [f"CFLAGS=-O1 -g -fsanitize={kind}"] if kind else []
+        flags = [f"CFLAGS={sanitized_by(kind)}"] if kind else []
         place = [f"{name}={(HERE / value).resolve()}" for name, value in (("LIBRARY", os.environ.get("LIBRARY", "../out/libmintlintel.a")),
                                                                          ("INCLUDE", os.environ.get("INCLUDE", "../include")))]
         shop.run(["make", "-s", "-C", folder, *place, *flags, "out/nbdkit-mintlintel-plugin.so"])
@@ -165,17 +168,22 @@ def refusal(shop, edit, parts):
         shop.wrong = None
 
 
-def wrong_plugins(shop, parts):
+def is_refused(shop, edit, parts):
+    """Whether a wrong plugin is refused for the reason that it names, which is told."""
+    told = refusal(shop, edit, parts)
+    found = told and re.search(edit.why, told)
+    other = f"NOT REFUSED for {edit.why!r}, but: {told[:1000]}" if told else "NOT REFUSED"
+    print(f"nbdkit:   {edit.name}: {f'refused: {found[0][:160]}' if found else other}", flush=True)
+    return bool(found)
+
+
+def wrong_plugins(shop, parts, alone):
     """Each wrong plugin is refused by the part that it names, which the plugin itself has passed, and for the reason that it names: a
     client that is out of time, or a test that can't be built, refuses nothing unless that is the reason."""
     edits = [Edit(path) for path in sorted((HERE / "wrong").glob("*.edit"))]
-    failed, shop.options.long = [], False
-    for edit in edits:
-        told = refusal(shop, edit, parts)
-        found = told and re.search(edit.why, told)
-        if not found:
-            failed.append(edit.name)
-        other = f"NOT REFUSED for {edit.why!r}, but: {told[:1000]}" if told else "NOT REFUSED"
-        print(f"nbdkit:   {edit.name}: {f'refused: {found[0][:160]}' if found else other}", flush=True)
+    shop.options.long = False
+    beside = sorted((edit for edit in edits if edit.part not in alone), key=lambda edit: "didn't end" not in edit.why)  # a deadlock takes longest
+    failed = [edit.name for edit, is_so in zip(beside, side_by_side(shop, beside, lambda one, edit: is_refused(one, edit, parts))) if not is_so]
+    failed += [edit.name for edit in edits if edit.part in alone and not is_refused(shop, edit, parts)]
     want(not failed, f"not refused for their reasons: {', '.join(failed)}")
     return f"{len(edits)} wrong plugins refused, each for its reason"

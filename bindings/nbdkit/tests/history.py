@@ -94,6 +94,10 @@ def main(uri, path, seed, most, since=""):
     disk = nbd.NBD()
     try:
         disk.connect_uri(uri)
+    except nbd.Error:  # the server has ended meanwhile, of which the library may tell an invalid state
+        print(0, 0)
+        return
+    try:
         sectors = disk.get_size() // PAGE
         state = json.loads(path.read_text()) if path.exists() else {"number": 0, "flushed": [0] * sectors, "steps": [], "answered": 0, "least": 0}
         state["flushed"] = compare(disk, state, sectors, since)

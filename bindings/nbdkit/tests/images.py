@@ -72,8 +72,8 @@ def killed(shop):
 def by_fio(shop):
     """fio writes in order, with a pattern of each round, until the server is killed; after its start fio finds all that was answered."""
     image, found = new_image(shop), []
-    for turn in range(shop.scaled(2, 50)):
-        server = Server(shop, "size=32M", image=image)
+    for turn in range(shop.scaled(2, 100)):
+        server = Server(shop, "size=32M", f"sync={'flush' if turn % 2 else 'never'}", image=image)
         log, pattern = shop.folder / "fio.json", f"0x{0x11111111 * (turn % 15 + 1):08x}"
         job = ["--thread", "--ioengine=nbd", "--bs=4k", "--size=32m", "--verify=pattern", f"--verify_pattern={pattern}"]
         writer = shop.start(["fio", "--name=write", *job, f"--uri={server.uri}", "--rw=write", "--do_verify=0", "--time_based", "--runtime=100",
@@ -183,7 +183,50 @@ def image_file(shop):
     refused(shop, ["image=/dev/null/image"], "image=/dev/null/image: Not a directory")
     refused(shop, [f"image={image}", "sync=often"], "sync=often: it is always, flush or never")
     refused(shop, [f"image={HERE}/check"], "not an image, or its head is damaged")
+    default_blocks(shop)
     return large(shop)
+
+
+def default_blocks(shop):
+    """A large image has large blocks, and one that is there keeps its own, also if it is opened by its size."""
+    for words, pages in (([f"size={255 << 20}"], 64), (["size=256M"], 128), (["size=256M", "pages=64"], 64)):
+        image = new_image(shop)
+        for again in (words, words[:1]):
+            server = Server(shop, *again, image=image)
+            found = server.report()["pages_of_a_block"]
+            want(found == pages, f"{' '.join(words)}: a disk has blocks of {found} pages, and not of {pages}")
+            server.stop()
+
+
+# Each sector always holds its own number, over and over: URI, and how many runs of sectors it writes or reads.
+WRITER, READER = (f"""
+import random, sys, nbd
+disk, draw = nbd.NBD(), random.Random(1)
+disk.connect_uri(sys.argv[1])
+pages = [sector.to_bytes(8, "little") * 512 for sector in range(2048)]
+for turn in range(int(sys.argv[2])):
+    first, many = draw.randrange(2016), draw.randint(1, 32)
+    whole = b"".join(pages[first:first + many])
+    {line}
+""" for line in ("disk.pwrite(whole, 4096 * first)", "assert disk.pread(4096 * many, 4096 * first) == whole, 'it has read another page'"))
+
+
+def reads_beside_writes(shop):
+    """Reads find the pages of their sectors, while writes give the sectors other pages, and blocks are erased."""
+    image = new_image(shop)
+    server = Server(shop, "size=8M", "spare=12", "pages=16", "sync=never", image=image)
+    shop.run(["/usr/bin/python3", "-c", WRITER.replace("draw.randrange(2016), draw.randint(1, 32)", "32 * turn, 32"), server.uri, 64])
+    load = shop.start(["/usr/bin/python3", "-c", WRITER, server.uri, 1_000_000_000], shop.folder / "load")
+    server.wait_until(lambda: server.report()["erases"] > 100, 60, "erase 100 blocks")
+    before = server.report()
+    shop.run(["/usr/bin/python3", "-c", READER, server.uri, shop.scaled(2000, 20_000)])
+    after = server.report()
+    kill(load)
+    shop.started.remove(load)
+    server.stop()
+    reads, erases = (after[name] - before[name] for name in ("host_reads", "erases"))
+    want(reads > 10_000 and erases > 100, f"{reads} pages were read beside {erases} erases")
+    return f"{reads:,} pages read beside {erases:,} erases"
 
 
 def large(shop):
@@ -195,6 +238,7 @@ def large(shop):
     server.stop()
     server = Server(shop, image=image)
     shop.run(["qemu-io", "-f", "raw", "-r", "-c", "read -P 7 63G 1M", server.uri])
+    want(server.report()["pages_of_a_block"] == 1024, "64 GiB have smaller blocks than of 1024 pages")
     server.stop()
     used = 512 * image.stat().st_blocks
     want(used < 8 << 20, f"an image with 1 MiB in it takes {used} bytes of its file system")
@@ -212,11 +256,15 @@ def image_sanitized(shop, kind):
     """Requests of four connections at once on an image, under a sanitizer."""
     image = new_image(shop)
     faults_of_it = ["bad=5", "fail-programs=0.01%", "fail-erases=1%", "worn=eio", f"part={fast_part(shop)}"]
-    server = Server(shop, "size=8M", "spare=60", "luns=2", "sync=never", "cut=0", *faults_of_it, image=image, kind=kind)
+    server = Server(shop, "size=8M", f"spare={shop.scaled(60, 300)}", "luns=2", "sync=never", "cut=0", *faults_of_it, image=image, kind=kind)
     fio(shop, server, "load", rw="randwrite", bsrange="512-16k", bs_unaligned=1, blockalign=512, size="2m", offset_increment="2m", numjobs=4, iodepth=16,
         io_size=f"{shop.scaled(4, 40)}m", norandommap=1, serialize_overlap=1, verify="crc32c")
     shop.run(["qemu-io", "-f", "raw", "-c", "discard 10000 3M", "-c", "write -z 100 9999", "-c", "write -z -u 5000 1M", "-c", "map", "-c", "flush", server.uri])
     report = server.report()
     want(report["failed_erases"] > 0 and not report["is_readonly"], f"no erase has failed, or the disk is worn out: {report}")
+    server.stop()
+    server = Server(shop, "size=8M", "spare=20", "sync=never", image=new_image(shop), kind=kind)  # whose reads don't wait for each other
+    fio(shop, server, "beside", rw="randwrite", bsrange="4k-64k", size="2m", offset_increment="2m", numjobs=4, iodepth=16, io_size=f"{shop.scaled(8, 80)}m",
+        norandommap=1, serialize_overlap=1, verify="crc32c", verify_backlog=64)
     server.stop()
     return f"{report['failed_programs']} programs and {report['failed_erases']} erases failed"

@@ -10,10 +10,11 @@ import failures
 import faults
 import files
 import filters
+import guests
 import images
 import reports
 import times
-from running import HERE, Failure, Server, copying, failing, fio, kibibytes, loaded, slowness, want
+from running import HERE, Failure, Server, copying, failing, fio, kibibytes, loaded, sanitized_by, side_by_side, slowness, want
 
 ZIPF = {"norandommap": 1, "random_distribution": "zipf:0.9"}
 UNALIGNED = {"bsrange": "512-20k", "bs_unaligned": 1, "blockalign": 512, "serialize_overlap": 1}
@@ -23,8 +24,7 @@ def build(shop):
     """The plugin, also under the sanitizers, its page, and the clients."""
     shop.run(["make", "-s", "-C", HERE], 120)
     for kind in ("address", "thread"):
-        flags = f"CFLAGS=-O1 -g -fno-omit-frame-pointer -fsanitize={kind}"
-        shop.run(["make", "-s", "-C", HERE, f"OUT=out/{kind}", flags, f"out/{kind}/nbdkit-mintlintel-plugin.so"], 120)
+        shop.run(["make", "-s", "-C", HERE, f"OUT=out/{kind}", f"CFLAGS={sanitized_by(kind)}", f"out/{kind}/nbdkit-mintlintel-plugin.so"], 120)
     clients = HERE / "out/clients"
     clients.mkdir(parents=True, exist_ok=True)
     strict = ["gcc", "-std=gnu11", "-O2", "-Wall", "-Wextra", "-Werror"]
@@ -435,9 +435,30 @@ def sanitized(shop, kind):
 REFUSING = {part.__name__: part for part in (
     overlaps, handles, resting_brooms, worn_out, by_qemu_io, a_map_of_holes, mixed_sizes, there_and_back, stock_by_itself, refusals_at_the_end, cold_data,
     trims_inwards, worn_choices, marks_out_of_reach, faults.refused_resources, reports.statistics, reports.aged_at_start, images.image_file, images.killed,
-    images.power_cuts, failures.failing_image, times.of_commands, times.under_collection)}
+    images.reads_beside_writes, images.power_cuts, guests.files_and_a_database, failures.failing_image, times.of_commands, times.under_collection)}
 REFUSING |= {f"{kind}_sanitizer": functools.partial(sanitized, kind=kind) for kind in ("address", "thread")}
 REFUSING["image_thread_sanitizer"] = functools.partial(images.image_sanitized, kind="thread")
+
+
+# The parts that look at times, or at what brooms do in a time, so that nothing else of the check runs beside them; and the wrong plugins do so themselves.
+TIMED = (resting_brooms, marks_out_of_reach, worn_out, times.of_commands, times.under_collection)
+ALONE = {"brooms that rest", "marks out of reach", "a device that wears out", "a part's times", "a part's times under a collection", "wrong plugins"}
+
+
+# Those that take longest, so that they begin first.
+LONG = ("a guest's files and database", "an image, and power cuts", "an image, and kill -9")
+
+
+def failed(shop, named):
+    """Runs parts by their names: the names of those that fail. The parts with one aged device come one after the other, and others beside them."""
+    rows = {}
+    for name, part in named:
+        row = name.rpartition(", ")[2] if name.endswith(("broom", "brooms")) else name
+        rows.setdefault(row, []).append((name, part))
+    beside = sorted((row for row in rows.values() if row[0][0] not in ALONE), key=lambda row: (not row[0][0].startswith(LONG), -len(row)))
+    alone = [pair for pair in named if pair[0] in ALONE]
+    found = side_by_side(shop, beside, lambda one, row: [name for name, part in row if not one.passes(name, part)])
+    return sum(found, []) + [name for name, part in alone if not shop.passes(name, part)]
 
 
 def chosen(options):
@@ -475,6 +496,7 @@ def chosen(options):
         "statistics": reports.statistics,
         "use before the first client": reports.aged_at_start,
         "an image": images.image_file,
+        "an image, and reads beside writes": images.reads_beside_writes,
         "an image, and kill -9": images.killed,
         "an image, and power cuts": images.power_cuts,
         "an image whose commands fail": failures.failing_image,
@@ -484,9 +506,11 @@ def chosen(options):
         "a part's times under a collection": times.under_collection,
         "a device that wears out": worn_out,
     }
+    parts |= {f"a guest's files and database, guest {guest}": functools.partial(guests.files_and_a_database, seed=guest)
+              for guest in range(1, 4 if options.long else 2)}
     parts |= {f"{name}, {count} broom{'s' * (count > 1)}": functools.partial(part, brooms=count) for count in brooms for name, part in on_device.items()}
     parts |= {f"{sanitizer}Sanitizer": functools.partial(sanitized, kind=sanitizer.lower()) for sanitizer in ("Address", "Thread")}
     parts |= {f"an image, {sanitizer}Sanitizer": functools.partial(images.image_sanitized, kind=sanitizer.lower()) for sanitizer in ("Address", "Thread")}
     if options.long:
-        parts["wrong plugins"] = functools.partial(faults.wrong_plugins, parts=REFUSING)
+        parts["wrong plugins"] = functools.partial(faults.wrong_plugins, parts=REFUSING, alone=[part.__name__ for part in TIMED])
     return [(name, part) for name, part in parts.items() if not options.only or any(word in name for word in options.only)]

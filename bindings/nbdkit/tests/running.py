@@ -1,5 +1,6 @@
 """Servers and clients of the checks: each has a time by which it has to end, and all of them are ended with the check."""
 
+import concurrent.futures
 import contextlib
 import json
 import os
@@ -23,6 +24,11 @@ def is_clean(status, told):
     if REPORTS.search(told) or any("nbdkit-mintlintel-plugin" in stack or "unknown module" in stack for stack in leaks):
         return False
     return status == 0 or bool(leaks)
+
+
+def sanitized_by(kind):
+    """The compiler's flags for a plugin under a sanitizer."""
+    return f"-O1 -g -fno-omit-frame-pointer -fsanitize={kind}"
 
 
 def slowness():
@@ -52,6 +58,7 @@ class Shop:
         self.started, self.mounted, self.kept = [], [], []
         self.aged = self.wrong = None
         self.copies = 0
+        self.is_over = False
         self.slow = slowness()
 
     def scaled(self, short, long):
@@ -75,6 +82,7 @@ class Shop:
 
     def start(self, words, log, **more):
         """Starts a program in a session of its own, with its output in a log."""
+        want(not self.is_over, "the check was ended")
         with open(log, "wb") as sink:
             process = subprocess.Popen([str(word) for word in words], stdin=subprocess.DEVNULL, stdout=sink, stderr=sink,
                                        start_new_session=True, cwd=self.folder, **more)
@@ -83,6 +91,7 @@ class Shop:
 
     def run(self, words, seconds=60, given=None, status=0):
         """Runs a program to its end, and gives what it printed. On a busy machine it has more time."""
+        want(not self.is_over, "the check was ended")
         seconds *= self.slow
         words = [str(word) for word in words]
         process = subprocess.Popen(words, stdin=subprocess.PIPE, stdout=subprocess.PIPE, stderr=subprocess.STDOUT,
@@ -98,7 +107,7 @@ class Shop:
         return printed
 
     def passes(self, name, part):
-        began, self.copies = time.monotonic(), 0
+        began, self.copies, self.slow = time.monotonic(), 0, max(self.slow, slowness())
         try:
             told = part(self)
         except Failure as failure:
@@ -119,6 +128,12 @@ class Shop:
             kill(process)
         self.started.clear()
 
+    def close(self):
+        """Ends all, and lets nothing begin any more."""
+        self.is_over = True
+        self.end_all()
+        self.end_kept()
+
     def keep(self, server):
         """A server that outlives its part."""
         self.started.remove(server.process)
@@ -129,6 +144,18 @@ class Shop:
         for process in self.kept:
             kill(process)
         self.kept.clear()
+
+
+def side_by_side(shop, jobs, work):
+    """What `work` gives for each job, with a shop of its own: one for each processor at a time."""
+    shops = [Shop(pathlib.Path(tempfile.mkdtemp(dir=shop.folder)), shop.options) for _ in jobs]
+    pool = concurrent.futures.ThreadPoolExecutor(os.cpu_count())
+    try:
+        return list(pool.map(work, shops, jobs))
+    finally:
+        for one in shops:
+            one.close()
+        pool.shutdown(cancel_futures=True)
 
 
 def kill(process):
@@ -259,7 +286,7 @@ class Server:
             self.process.wait(timeout=30)
         want(self.process.poll() is not None, f"the server didn't end:\n{self.log.read_text()[-3000:]}")
         told = self.log.read_text()
-        want(is_clean(self.process.returncode, told), f"the server ended with status {self.process.returncode}:\n{told[-6000:]}")
+        want(is_clean(self.process.returncode, told), f"the server ended with status {self.process.returncode}:\n{told[-20000:]}")
         return None if self.image else self.take(Counts(self.stats))
 
     def report(self):

@@ -1,6 +1,7 @@
 // to_the_end [DEVICES [SEED]]: small devices of random numbers, whose clients write and trim at random until each was refused some times. The last
 // refusal may not be early: when a write is refused, no block is free, and no broom could win one back. Who reads the blocks and the map afterwards
-// sees it: no block is free, none is drained, and none that has an erase left is closed with a dead page. No time decides: a write that waits for
+// sees it: no block is free, none is drained, and none that has an erase left is closed with a dead page. And the programs and erases that are
+// counted are those of the blocks; with long pages, some copies are of sectors that are written meanwhile. No time decides: a write that waits for
 // what can't come ends the test.
 #define NBDKIT_API_VERSION 2
 #include <nbdkit-plugin.h>
@@ -12,7 +13,7 @@
 
 #include "../device.h"
 
-enum { PAGE = 8, MOST_BLOCKS = 30, MOST_PAGES = 8, MOST_CLIENTS = 4, MOST_OF_A_REQUEST = 4, MOST_REFUSALS = 12, PATIENCE_S = 240, DEVICES = 200 };
+enum { LONG_PAGE = 4096, MOST_BLOCKS = 30, MOST_PAGES = 8, MOST_CLIENTS = 4, MOST_OF_A_REQUEST = 4, MOST_REFUSALS = 12, PATIENCE_S = 240, DEVICES = 200 };
 
 static struct device device;
 static unsigned tried;
@@ -68,7 +69,7 @@ static uint32_t draw(uint32_t *random, uint32_t count) {
 
 static void choose(uint32_t *random) {
     struct options *o = &device.options;
-    *o = (struct options){.page = PAGE, .luns = 1, .wait = 10000 * PATIENCE_S};
+    *o = (struct options){.page = draw(random, 2) ? 8 : LONG_PAGE, .luns = 1, .wait = 10000 * PATIENCE_S};
     o->hosts = 1 + draw(random, MOST_CLIENTS);
     o->brooms = draw(random, 8) ? 1 + draw(random, 3) : 0;
     o->pages = 1 + draw(random, MOST_PAGES);
@@ -84,28 +85,28 @@ static void choose(uint32_t *random) {
 // ---- Clients.
 
 static void *read_at_random(void *unused) {
-    uint8_t page[PAGE];
-    uint32_t random = tried;
+    uint8_t page[LONG_PAGE];
+    uint32_t random = tried, bytes = device.options.page;
     (void) unused;
     while (!atomic_load(&has_ended))
-        device_read(&device, page, PAGE, draw(&random, device.options.sectors) * (uint64_t) PAGE);
+        device_read(&device, page, bytes, draw(&random, device.options.sectors) * (uint64_t) bytes);
     return NULL;
 }
 
 // A skewed draw, so that some blocks stay live and others die.
 static void *write_until_refused(void *number) {
-    static const uint8_t zeros[MOST_OF_A_REQUEST * PAGE];
-    uint32_t random = tried * 31 + *(uint32_t *) number, refusals = 1 + draw(&random, MOST_REFUSALS), skew = draw(&random, 3);
+    static const uint8_t zeros[MOST_OF_A_REQUEST * LONG_PAGE];
+    uint32_t bytes = device.options.page, random = tried * 31 + *(uint32_t *) number, refusals = 1 + draw(&random, MOST_REFUSALS), skew = draw(&random, 3);
     while (refusals > 0) {
         uint32_t sector = draw(&random, device.options.sectors), left;
         for (uint32_t i = 0; i < skew; i++)
             sector = draw(&random, sector + 1);
         left = device.options.sectors - sector;
-        uint32_t count = (1 + draw(&random, left < MOST_OF_A_REQUEST ? left : MOST_OF_A_REQUEST)) * PAGE;
+        uint32_t count = (1 + draw(&random, left < MOST_OF_A_REQUEST ? left : MOST_OF_A_REQUEST)) * bytes;
         if (draw(&random, 8) == 0)
-            device_trim(&device, count, sector * (uint64_t) PAGE);
+            device_trim(&device, count, sector * (uint64_t) bytes);
         else
-            refusals -= device_write(&device, zeros, count, sector * (uint64_t) PAGE) == -1;
+            refusals -= device_write(&device, zeros, count, sector * (uint64_t) bytes) == -1;
     }
     return NULL;
 }
@@ -167,6 +168,30 @@ static void look_for_more(void) {
     }
 }
 
+// What is counted is what the blocks have: each programmed page is a client's or a copy, also one whose sector was written meanwhile, and each erase
+// is one that the library has counted. The pages of a retired block were written before its last erase.
+static void look_at_counts(void) {
+    const struct options *o = &device.options;
+    uint64_t programmed = 0, counted = brooms_copies(&device.brooms), erases = 0;
+    for (uint32_t i = 0; i < o->hosts; i++)
+        counted += tally_of(&device.stock.hosts[i].writes);
+    for (uint32_t i = 0; i < o->brooms; i++) {
+        struct mintlintel_tally tally;
+        mintlintel_broom_tally(&device.broom_seats[i], &tally);
+        erases += tally.erases;
+    }
+    for (uint32_t block = 0; block < o->blocks && o->brooms > 0; block++) {
+        struct mintlintel_state state;
+        mintlintel_broom_block(&device.broom_seats[0], block, &state);
+        programmed += state.erases * (uint64_t) o->pages + (state.phase == MINTLINTEL_PHASE_RETIRED ? 0 : state.written);
+        erases -= state.phase == MINTLINTEL_PHASE_RETIRED;
+    }
+    if (o->brooms > 0 && programmed != counted)
+        fail("%llu pages were programmed, and %llu are counted", (unsigned long long) programmed, (unsigned long long) counted);
+    if (erases != device.brooms.all_erases)
+        fail("%llu erases were done, and %llu are counted", (unsigned long long) erases, (unsigned long long) device.brooms.all_erases);
+}
+
 static void try_one(uint32_t *random) {
     choose(random);
     if (device_open(&device) == -1 || device_start(&device) == -1)
@@ -174,6 +199,7 @@ static void try_one(uint32_t *random) {
     run_clients(1 + draw(random, MOST_CLIENTS));
     device_stop(&device);
     look_for_more();
+    look_at_counts();
     device_close(&device);
 }
 

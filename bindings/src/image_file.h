@@ -1,0 +1,94 @@
+/* An open image, and the commands of its chip that wait. Plain C, and not proved. */
+#ifndef IMAGE_FILE_H
+#define IMAGE_FILE_H
+
+#include "flash.h"
+#include "image_format.h"
+#include <pthread.h>
+#include <sys/types.h>
+#include <sys/uio.h>
+
+/* How many commands wait at most, of how many pages one call of the system writes the main bytes or the spare bytes, how many conditions the threads
+ * share that wait for a command, and how many counters of erases the blocks share. */
+enum { MOST_WAITING = 1024, MOST_TOGETHER = MTL_MOST_OF_A_RUN, TURNS = 64, ERASE_COUNTERS = 256 };
+/* The page of an erase. */
+#define WHOLE_BLOCK UINT32_MAX
+
+/* A program of these main bytes, a copy of a page if they are null, or an erase. */
+struct command { uint32_t block, page; const uint8_t *main; struct mintlintel_place from; };
+
+/* The commands that the layer has given and that aren't done. Each has a number: those below `done` are done, and those from there to `told` wait. From
+ * `let_go` on they belong to the thread that makes the layer's calls. Those before it are done in their order, by one thread at a time, the leader: so a
+ * process that is killed leaves a first part of them done, as if it had been killed between two commands. Pages that stand one behind another in a block
+ * are written together: one call of the system writes all main bytes, and one all spare bytes. Nothing is read of a block of which a command waits. */
+struct queue {
+    struct command commands[MOST_WAITING]; /* under the layer's lock, as `told` and what is kept */
+    uint8_t spares[MOST_WAITING][SPARE_BYTES];
+    uint64_t told, let_go; /* `let_go` is atomic */
+    const uint8_t *kept, *kept_end; /* a page with these main bytes may wait after its call has returned */
+    uint8_t *copies; /* the leader's room for the main bytes of copies */
+    pthread_mutex_t mutex; /* of what follows; `done` and `is_led` are atomic too */
+    uint64_t done;
+    pthread_cond_t turns[TURNS];
+    uint32_t sleepers[TURNS]; /* how many threads wait for a command with a number of this rest */
+    int is_led;
+};
+
+struct mintlintel_image_file {
+    int fd, error;           /* the errno of the first failure, or 0 */
+    uint32_t reason;         /* MINTLINTEL_FILE_FAILED after one. Atomic */
+    enum mintlintel_image_mode mode;
+    struct mintlintel_durable_numbers numbers;
+    struct image_layout layout;
+    int is_mounting, is_dirty, is_erased; /* stamps or such were written since the last sync; a block was erased since then */
+    uint32_t cached;         /* the block whose spare bytes are in `spares`; it isn't programmed before it is erased */
+    uint8_t *spares, *zeros, *page;
+    off_t data_from, data_to; /* while mounting: no data stands between these places */
+    struct queue queue;
+    uint32_t erases[ERASE_COUNTERS]; /* how many erases of their blocks were given. Atomic */
+};
+
+/* ---- Bytes of the file: 0, or 3 after a failure, which every call returns from then on ---- */
+
+int mtl_file_failed(struct mintlintel_image_file *file, int error);
+int mtl_file_get(struct mintlintel_image_file *file, void *bytes, size_t count, off_t at);
+int mtl_file_set(struct mintlintel_image_file *file, const void *bytes, size_t count, off_t at);
+int mtl_file_set_parts(struct mintlintel_image_file *file, struct iovec *parts, uint32_t count, off_t at);
+int mtl_file_sync(struct mintlintel_image_file *file);
+
+static inline int has_failed(const struct mintlintel_image_file *file)
+{
+    return __atomic_load_n(&file->reason, __ATOMIC_ACQUIRE) != 0;
+}
+
+/* Where the spare bytes of a page stand, and its main bytes. */
+static inline off_t spare_at(const struct mintlintel_image_file *file, uint32_t block, uint32_t page)
+{
+    return (off_t)(HEAD_BYTES + block * file->layout.block_bytes + (uint64_t)page * SPARE_BYTES);
+}
+
+static inline off_t page_at(const struct mintlintel_image_file *file, uint32_t block, uint32_t page)
+{
+    return (off_t)(HEAD_BYTES + block * file->layout.block_bytes + file->layout.spare_bytes + (uint64_t)page * file->numbers.page_bytes);
+}
+
+/* ---- The commands that wait: 0 or 3 ---- */
+
+void mtl_queue_begin(struct queue *queue);
+void mtl_queue_end(struct queue *queue);
+
+/* Adds a command, with the spare bytes of a page. */
+int mtl_queue_add(struct mintlintel_image_file *file, const struct command *command, const uint8_t *spare);
+
+/* Whether a command of this block waits. */
+int mtl_queue_has(const struct mintlintel_image_file *file, uint32_t block);
+
+/* Lets all commands go: the number behind the last of them. Then they are done with mtl_queue_commit, which needs no lock and returns once all before
+ * this number are done. */
+uint64_t mtl_queue_let_go(struct queue *queue);
+int mtl_queue_commit(struct mintlintel_image_file *file, uint64_t end);
+
+/* Does all that waits. */
+int mtl_queue_drain(struct mintlintel_image_file *file);
+
+#endif

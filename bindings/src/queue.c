@@ -1,0 +1,245 @@
+/* The commands of an image's chip that wait: they are done together, by several threads. This file is plain C, and not proved. */
+#define _GNU_SOURCE
+#define _FILE_OFFSET_BITS 64
+#include "image_file.h"
+#include <fcntl.h>
+#include <stdlib.h>
+#include <string.h>
+
+/* How often a thread looks whether its commands are done before it sleeps. */
+enum { LOOKS = 100 };
+/* Of how many main bytes the system is asked to begin writing at once. */
+enum { STRETCH_BYTES = 1 << 19 };
+
+static const struct command *command_at(const struct queue *queue, uint64_t number)
+{
+    return &queue->commands[number % MOST_WAITING];
+}
+
+static uint64_t done_of(const struct queue *queue)
+{
+    return __atomic_load_n(&queue->done, __ATOMIC_ACQUIRE);
+}
+
+/* ---- Beginning and end ---- */
+
+void mtl_queue_begin(struct queue *queue)
+{
+    pthread_mutex_init(&queue->mutex, NULL);
+    for (int i = 0; i < TURNS; i++)
+        pthread_cond_init(&queue->turns[i], NULL);
+}
+
+void mtl_queue_end(struct queue *queue)
+{
+    pthread_mutex_destroy(&queue->mutex);
+    for (int i = 0; i < TURNS; i++)
+        pthread_cond_destroy(&queue->turns[i]);
+    free(queue->copies);
+}
+
+/* ---- Doing them ---- */
+
+/* How many of these commands are programs and copies of pages that stand one behind another. */
+static uint32_t run_from(const struct queue *queue, uint64_t first, uint64_t end)
+{
+    const struct command *from = command_at(queue, first);
+    uint32_t run = 1;
+    while (run < MOST_TOGETHER && first + run < end && command_at(queue, first + run)->block == from->block
+           && command_at(queue, first + run)->page == from->page + run)
+        run++;
+    return run;
+}
+
+/* Reads the main bytes of the copies among these commands, those that stand one behind another together. */
+static int read_copies(struct mintlintel_image_file *file, uint64_t first, uint32_t count)
+{
+    const struct queue *queue = &file->queue;
+    size_t bytes = file->numbers.page_bytes;
+    for (uint32_t i = 0, run; i < count; i += run) {
+        const struct command *copy = command_at(queue, first + i);
+        run = 1;
+        if (copy->main)
+            continue;
+        for (const struct command *next; i + run < count; run++) {
+            next = command_at(queue, first + i + run);
+            if (next->main || next->from.block != copy->from.block || next->from.page != copy->from.page + run)
+                break;
+        }
+        if (mtl_file_get(file, queue->copies + i * bytes, run * bytes, page_at(file, copy->from.block, copy->from.page)) != 0)
+            return 3;
+    }
+    return 0;
+}
+
+/* In mode `flush` lets the disk begin with a stretch of main bytes that is whole, since each block is synced before the next one is opened. */
+static void write_ahead(const struct mintlintel_image_file *file, const struct command *first, uint32_t count)
+{
+#ifdef SYNC_FILE_RANGE_WRITE
+    off_t block = page_at(file, first->block, 0), from = page_at(file, first->block, first->page) - block;
+    off_t begin = from / STRETCH_BYTES * STRETCH_BYTES, end = (from + (off_t)count * file->numbers.page_bytes) / STRETCH_BYTES * STRETCH_BYTES;
+    if (file->mode == MINTLINTEL_FLUSH && end > begin)
+        (void)sync_file_range(file->fd, block + begin, end - begin, SYNC_FILE_RANGE_WRITE);
+#else
+    (void)file, (void)first, (void)count;
+#endif
+}
+
+/* Programs pages that stand one behind another. The main bytes come first, so that a stamp never stands beside less than its page when the process is
+ * killed. */
+static int program(struct mintlintel_image_file *file, uint64_t first, uint32_t count)
+{
+    struct queue *queue = &file->queue;
+    struct iovec main[MOST_TOGETHER], spares[MOST_TOGETHER];
+    const struct command *command = command_at(queue, first);
+    size_t bytes = file->numbers.page_bytes;
+    for (uint32_t i = 0; i < count; i++) {
+        const uint8_t *from = command_at(queue, first + i)->main;
+        main[i] = (struct iovec){from ? (void *)from : queue->copies + i * bytes, bytes};
+        spares[i] = (struct iovec){queue->spares[(first + i) % MOST_WAITING], SPARE_BYTES};
+    }
+    if (file->mode == MINTLINTEL_FLUSH && file->is_erased && mtl_file_sync(file) != 0)
+        return 3;
+    if (read_copies(file, first, count) != 0 || mtl_file_set_parts(file, main, count, page_at(file, command->block, command->page)) != 0 ||
+        mtl_file_set_parts(file, spares, count, spare_at(file, command->block, command->page)) != 0)
+        return 3;
+    write_ahead(file, command, count);
+    return file->mode == MINTLINTEL_ALWAYS ? mtl_file_sync(file) : 0;
+}
+
+static int erase(struct mintlintel_image_file *file, uint32_t block)
+{
+    if (file->mode == MINTLINTEL_FLUSH && mtl_file_sync(file) != 0)
+        return 3;
+    if (mtl_file_set(file, file->zeros, (size_t)file->numbers.pages * SPARE_BYTES, spare_at(file, block, 0)) != 0)
+        return 3;
+    file->is_erased = 1;
+    return file->mode == MINTLINTEL_ALWAYS ? mtl_file_sync(file) : 0;
+}
+
+/* Does these commands. */
+static int perform(struct mintlintel_image_file *file, uint64_t first, uint64_t end)
+{
+    const struct queue *queue = &file->queue;
+    int result = 0;
+    for (uint32_t run; result == 0 && first < end; first += run) {
+        const struct command *command = command_at(queue, first);
+        run = command->page == WHOLE_BLOCK ? 1 : run_from(queue, first, end);
+        result = command->page == WHOLE_BLOCK ? erase(file, command->block) : program(file, first, run);
+    }
+    return result;
+}
+
+/* ---- Threads ---- */
+
+static void wake(struct queue *queue, uint64_t first, uint64_t end)
+{
+    for (uint64_t number = end - first > TURNS ? end - TURNS : first; number < end; number++)
+        if (queue->sleepers[number % TURNS] > 0)
+            pthread_cond_broadcast(&queue->turns[number % TURNS]);
+}
+
+/* Sleeps until the last command before this number is done, or something has failed. */
+static void sleep_until(struct queue *queue, uint64_t end)
+{
+    uint64_t turn = (end - 1) % TURNS;
+    queue->sleepers[turn]++;
+    pthread_cond_wait(&queue->turns[turn], &queue->mutex);
+    queue->sleepers[turn]--;
+}
+
+static uint64_t let_go_of(const struct queue *queue)
+{
+    return __atomic_load_n(&queue->let_go, __ATOMIC_ACQUIRE);
+}
+
+/* Nobody leads: wakes a thread whose commands wait. If none of them sleeps, or one that was woken already, it comes by itself, and does the same when it
+ * goes. */
+static void wake_one(struct queue *queue)
+{
+    uint64_t number = queue->done, end = let_go_of(queue);
+    while (number < end && queue->sleepers[number % TURNS] == 0)
+        number++;
+    if (number < end)
+        pthread_cond_broadcast(&queue->turns[number % TURNS]);
+}
+
+/* Does the commands that were let go. The mutex is given back meanwhile. */
+static void lead(struct mintlintel_image_file *file)
+{
+    struct queue *queue = &file->queue;
+    uint64_t first = queue->done, end = let_go_of(queue);
+    __atomic_store_n(&queue->is_led, 1, __ATOMIC_RELAXED);
+    pthread_mutex_unlock(&queue->mutex);
+    int result = perform(file, first, end);
+    pthread_mutex_lock(&queue->mutex);
+    __atomic_store_n(&queue->is_led, 0, __ATOMIC_RELAXED);
+    if (result != 0)
+        return;
+    __atomic_store_n(&queue->done, end, __ATOMIC_RELEASE);
+    wake(queue, first, end);
+}
+
+/* Looks for a moment whether all before this number is done, or nobody leads. */
+static void look(const struct queue *queue, uint64_t end)
+{
+    for (int i = 0; i < LOOKS && done_of(queue) < end && __atomic_load_n(&queue->is_led, __ATOMIC_RELAXED); i++) {
+#if defined __x86_64__ && defined __GNUC__
+        __builtin_ia32_pause();
+#endif
+    }
+}
+
+int mtl_queue_commit(struct mintlintel_image_file *file, uint64_t end)
+{
+    struct queue *queue = &file->queue;
+    look(queue, end);
+    pthread_mutex_lock(&queue->mutex);
+    while (queue->done < end && !has_failed(file)) {
+        if (!queue->is_led)
+            lead(file);
+        else
+            sleep_until(queue, end);
+    }
+    int is_done = queue->done >= end;
+    if (has_failed(file))
+        wake(queue, 0, TURNS);
+    else if (!queue->is_led)
+        wake_one(queue);
+    pthread_mutex_unlock(&queue->mutex);
+    return is_done ? 0 : 3;
+}
+
+/* ---- Under the layer's lock ---- */
+
+uint64_t mtl_queue_let_go(struct queue *queue)
+{
+    __atomic_store_n(&queue->let_go, queue->told, __ATOMIC_RELEASE);
+    return queue->told;
+}
+
+int mtl_queue_drain(struct mintlintel_image_file *file)
+{
+    return mtl_queue_commit(file, mtl_queue_let_go(&file->queue));
+}
+
+int mtl_queue_has(const struct mintlintel_image_file *file, uint32_t block)
+{
+    const struct queue *queue = &file->queue;
+    for (uint64_t number = done_of(queue); number < queue->told; number++)
+        if (command_at(queue, number)->block == block)
+            return 1;
+    return 0;
+}
+
+int mtl_queue_add(struct mintlintel_image_file *file, const struct command *command, const uint8_t *spare)
+{
+    struct queue *queue = &file->queue;
+    if (queue->told - done_of(queue) == MOST_WAITING && mtl_queue_drain(file) != 0)
+        return 3;
+    queue->commands[queue->told % MOST_WAITING] = *command;
+    if (spare)
+        memcpy(queue->spares[queue->told % MOST_WAITING], spare, SPARE_BYTES);
+    queue->told++;
+    return 0;
+}
