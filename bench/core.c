@@ -36,8 +36,8 @@ static uint64_t write_sector(struct mintlintel_core *core, uint32_t sector)
     struct mintlintel_command command;
     uint64_t commands = 0;
     do {
-        need(mintlintel_core_next(core, sector, &command));
-        need(mintlintel_core_done(core, sector, &command));
+        need(mintlintel_core_next(core, sector, 1, &command));
+        need(mintlintel_core_done(core, sector, 1, &command));
         commands++;
     } while (command.kind != PROGRAM);
     return commands;
@@ -53,7 +53,7 @@ int main(int argc, char **argv)
     uint32_t sectors = (uint32_t)((uint64_t)all * (uint32_t)atoi(argv[3]) / 100);
     need(mintlintel_core_open(&core, blocks, pages, sectors));
     for (uint32_t page = 0; page < all; page++)
-        need(mintlintel_core_note(&core, 0, 0, 0));
+        need(mintlintel_core_note(&core, 0, 0, 0, 0));
     need(mintlintel_core_finish(&core));
     for (uint32_t sector = 0; sector < sectors; sector++)
         write_sector(&core, sector);

@@ -21,11 +21,7 @@ fn main() -> ExitCode {
         eprintln!("options: --luns --blocks --pages --words --sectors --endurance");
         return ExitCode::from(2);
     };
-    if let Some(fault) = geometry.fault() {
-        eprintln!("geometry: {fault}");
-        return ExitCode::from(2);
-    }
-    let mut text = match session::read_trace() {
+    let mut text = match session::read_trace(geometry.fault()) {
         Ok(text) => text,
         Err(status) => return status,
     };

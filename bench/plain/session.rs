@@ -23,8 +23,12 @@ pub fn set(geometry: &mut Geometry, option: &str, number: u32) -> bool {
     true
 }
 
-/// The bytes of the trace, or the status with which the player ends.
-pub fn read_trace() -> Result<Vec<u8>, ExitCode> {
+/// The bytes of the trace for a device with this fault, if it has one; or the status with which the player ends.
+pub fn read_trace(fault: Option<&str>) -> Result<Vec<u8>, ExitCode> {
+    if let Some(fault) = fault {
+        eprintln!("geometry: {fault}");
+        return Err(ExitCode::from(2));
+    }
     let mut text = Vec::new();
     if io::stdin().take(MAX_TRACE_BYTES as u64 + 1).read_to_end(&mut text).is_err() {
         eprintln!("line 0: Read");

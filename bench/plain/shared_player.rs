@@ -35,11 +35,7 @@ fn main() -> ExitCode {
         eprintln!("options: --luns --blocks --pages --words --sectors --endurance --workers --brooms --patience --drains");
         return ExitCode::from(2);
     };
-    if let Some(fault) = options.fault() {
-        eprintln!("geometry: {fault}");
-        return ExitCode::from(2);
-    }
-    let mut text = match session::read_trace() {
+    let mut text = match session::read_trace(options.fault()) {
         Ok(text) => text,
         Err(status) => return status,
     };

@@ -3,8 +3,8 @@
 use crate::flash::{Block, Cell, Device, Page, Place, Size, Version, BLOCKS};
 use crate::layer::{Command, Freed, Rule, Wrong};
 
-/// Wrong rules that runs without failures, ranges and flushes tell apart.
-pub const TOLD_APART: [Wrong; 11] = [
+/// Wrong rules that runs without failures and flushes tell apart.
+pub const TOLD_APART: [Wrong; 15] = [
     Wrong::FirstFound,
     Wrong::LastFound,
     Wrong::NumbersStartAgain,
@@ -16,6 +16,10 @@ pub const TOLD_APART: [Wrong; 11] = [
     Wrong::ErasesEarly,
     Wrong::NoReserve,
     Wrong::CopyRenumbered,
+    Wrong::PagesCounted,
+    Wrong::RangeFirstSector,
+    Wrong::RangeOneMore,
+    Wrong::WriteEndsTombstone,
 ];
 
 /// How much was compared.
@@ -85,13 +89,13 @@ impl Follower {
     }
 
     fn begin(&mut self, call: &[usize]) -> Result<(), String> {
-        let [sector, value] = call else {
-            return Err("a call has a sector and a value".to_string());
+        let [first, count, value] = call else {
+            return Err("a call has a first sector, a count and a value".to_string());
         };
         if self.device.call.is_some() {
             return Err("the call before has not come to its end".to_string());
         }
-        self.device.call = Some(Version { first: *sector as u8, count: 1, number: 0, value: *value as u8 });
+        self.device.call = Some(Version { first: *first as u8, count: *count as u8, number: 0, value: *value as u8 });
         self.compared.calls += 1;
         Ok(())
     }
@@ -101,7 +105,10 @@ impl Follower {
         let call = self.device.call.ok_or("there is no call")?;
         let (command, number, to) = match (name, numbers) {
             ("program", [block, page, number]) => (Command::Program { block: *block }, Some(*number), Some((*block, *page))),
-            ("copy", [block, page, to, to_page]) => (Command::Copy { from: (*block, *page), block: *to }, None, Some((*to, *to_page))),
+            ("copy", [sector, block, page, to, to_page]) => {
+                let copy = Command::Copy { from: (*block, *page), sector: *sector as u8, block: *to };
+                (copy, None, Some((*to, *to_page)))
+            }
             ("erase", [block]) => (Command::Erase { block: *block }, None, None),
             _ => return Err("it is no command".to_string()),
         };
@@ -122,8 +129,8 @@ impl Follower {
     /// The rule names one kept page of a victim, and any other will do.
     fn is_same(&self, command: Command, rules: Command) -> bool {
         match (command, rules) {
-            (Command::Copy { from, block }, Command::Copy { from: first, block: other }) => {
-                block == other && from.0 == first.0 && self.device.cell(from).kept != 0
+            (Command::Copy { from, sector, block }, Command::Copy { from: first, block: other, .. }) => {
+                block == other && from.0 == first.0 && self.device.cell(from).kept >> sector & 1 == 1
             }
             _ => command == rules,
         }

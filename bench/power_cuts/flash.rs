@@ -96,6 +96,11 @@ pub struct Block {
 impl Block {
     pub const BLANK: Block = Block { cells: [Cell::BLANK; PAGES], open: None, bad: false, is_reserve: false };
 
+    /// How many sectors are kept here. A tombstone counts once for each.
+    pub fn kept_sectors(&self) -> usize {
+        self.cells.iter().map(|cell| cell.kept.count_ones() as usize).sum()
+    }
+
     pub fn kept_pages(&self) -> usize {
         self.cells.iter().filter(|cell| cell.kept != 0).count()
     }

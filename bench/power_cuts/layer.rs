@@ -70,8 +70,8 @@ wrong_rules! {
     CopyNarrowed,
     /// A copy of a tombstone has the first sector that is kept there.
     CopySplit,
-    /// A copy moves one sector of a tombstone.
-    CopyMovesOneSector,
+    /// A block's kept pages are counted, and not the sectors that are kept there.
+    PagesCounted,
     /// A tombstone has the first sector of its range alone.
     RangeFirstSector,
     /// A tombstone has a sector more.
@@ -114,8 +114,10 @@ pub enum Command {
     Program {
         block: usize,
     },
+    /// Moves one sector. Others that are kept at its page stay there.
     Copy {
         from: Place,
+        sector: u8,
         block: usize,
     },
     Erase {
@@ -130,7 +132,7 @@ impl fmt::Display for Command {
     fn fmt(&self, f: &mut fmt::Formatter) -> fmt::Result {
         match self {
             Command::Program { block } => write!(f, "program in block {block}"),
-            Command::Copy { from, block } => write!(f, "copy of page {} of block {} to block {block}", from.1, from.0),
+            Command::Copy { from, sector, block } => write!(f, "copy of sector {sector} from page {} of block {} to block {block}", from.1, from.0),
             Command::Erase { block } => write!(f, "erase of block {block}"),
             Command::Nothing => write!(f, "nothing to trim"),
             Command::Refused(why) => write!(f, "refused: {why}"),
@@ -455,7 +457,7 @@ impl Rule {
         }
         let victims: Vec<(usize, usize)> = blocks()
             .filter(|(number, block)| *number != open && self.is_used(block) && block.kept_pages() > 0)
-            .map(|(number, block)| (block.kept_pages(), number))
+            .map(|(number, block)| (self.count(block), number))
             .collect();
         match victims.iter().map(|(count, _)| *count).min() {
             None if free.is_empty() => vec![Command::Refused("no block to collect")],
@@ -466,18 +468,30 @@ impl Rule {
             Some(fewest) => victims
                 .into_iter()
                 .filter(|(count, _)| *count == fewest)
-                .map(|(_, victim)| Command::Copy { from: self.first_kept(device, victim), block: open })
+                .flat_map(|(_, victim)| self.copies(device, victim, open))
                 .collect(),
         }
     }
 
-    fn first_kept(&self, device: &Device, block: usize) -> Place {
-        let page = device.blocks[block].cells.iter().position(|cell| cell.kept != 0);
-        (block, page.expect("a victim keeps a page"))
+    /// How much of a block is kept: what makes it a victim or not.
+    fn count(&self, block: &Block) -> usize {
+        if self.is(Wrong::PagesCounted) {
+            block.kept_pages()
+        } else {
+            block.kept_sectors()
+        }
+    }
+
+    /// The copies of the victim's first page: any of the sectors that are kept there may go first.
+    fn copies(&self, device: &Device, victim: usize, block: usize) -> Vec<Command> {
+        let page = device.blocks[victim].cells.iter().position(|cell| cell.kept != 0).expect("a victim keeps a page");
+        let from = (victim, page);
+        let kept = device.cell(from).kept;
+        self.size.sectors().filter(|sector| kept >> sector & 1 == 1).map(|sector| Command::Copy { from, sector, block }).collect()
     }
 
     /// The version that a copy programs: the same one, with its number.
-    fn copied(&self, device: &Device, from: Place) -> Page {
+    fn copied(&self, device: &Device, from: Place, sector: u8) -> Page {
         let cell = device.cell(from);
         let mut version = match cell.now {
             Page::Holds(version) => version,
@@ -492,7 +506,7 @@ impl Rule {
                 version.count = 8 - cell.kept.leading_zeros() as u8 - version.first;
             }
             Some(Wrong::CopySplit) if range => {
-                version.first = cell.kept.trailing_zeros() as u8;
+                version.first = sector;
                 version.count = 1;
             }
             _ => {}
@@ -510,7 +524,7 @@ impl Rule {
         match command {
             Command::Program { block } => vec![(open(block), Page::Holds(Version { number: device.next_number, ..call }))],
             Command::Copy { from, .. } if self.forgets(device, from) => vec![],
-            Command::Copy { from, block } => vec![(open(block), self.copied(device, from))],
+            Command::Copy { from, sector, block } => vec![(open(block), self.copied(device, from, sector))],
             Command::Erase { block } => (0..self.size.pages).map(|page| ((block, page), Page::Erased)).collect(),
             Command::Nothing | Command::Refused(_) => vec![],
         }
@@ -533,16 +547,11 @@ impl Rule {
                 device.next_number += 1;
                 device.call = None;
             }
-            Command::Copy { from, .. } if self.forgets(device, from) => device.cell_mut(from).kept = 0,
-            Command::Copy { from, block } => {
+            Command::Copy { from, sector, .. } if self.forgets(device, from) => device.cell_mut(from).kept &= !(1 << sector),
+            Command::Copy { from, sector, block } => {
                 let place = self.use_page(device, block);
-                let mut moved = device.cell(from).kept;
-                let range = device.cell(from).now.version().map_or(false, |version| !version.has_bytes());
-                if self.is(Wrong::CopyMovesOneSector) || (self.is(Wrong::CopySplit) && range) {
-                    moved = 1 << moved.trailing_zeros();
-                }
-                device.cell_mut(from).kept &= !moved;
-                device.cell_mut(place).kept = moved;
+                device.cell_mut(from).kept &= !(1 << sector);
+                device.cell_mut(place).kept = 1 << sector;
                 if device.cell(place).now.version().map(|version| version.number) == Some(device.next_number) {
                     device.next_number += 1;
                 }

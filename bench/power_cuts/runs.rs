@@ -152,7 +152,7 @@ fn on_its_device(wrong: Wrong) -> Run {
         | Wrong::CopyNarrowed
         | Wrong::CopyRenumbered
         | Wrong::DropsByFirstSector => run(3, 2, 3).ranges(3).wrong(wrong),
-        Wrong::CopyMovesOneSector => run(4, 2, 5).ranges(3).one_value().starts(Start::Tombstone).wrong(wrong),
+        Wrong::PagesCounted => run(4, 2, 5).ranges(3).one_value().starts(Start::Tombstone).wrong(wrong),
         Wrong::LossTakenForTorn => run(3, 2, 2).one_value().core().decays().wrong(wrong),
         Wrong::TornTakenForLoss | Wrong::KeepsBehindGap => run(3, 2, 2).one_value().core().wrong(wrong),
         Wrong::FreesByTwinsBehindGap => run(4, 2, 3).reserve(1).one_value().wrong(wrong),
@@ -180,6 +180,9 @@ pub fn all() -> Vec<Run> {
         run(3, 3, 1).one_value().core().decays().long(),
         run(3, 2, 2).ranges(2).long(),
         run(3, 2, 2).ranges(2).keeps_tombstones().long(),
+        run(3, 2, 2).ranges(2).one_value().core(),
+        run(3, 2, 3).ranges(3).one_value().core().long(),
+        run(4, 2, 5).ranges(3).one_value().starts(Start::Tombstone).core().up_to(2_000_000).long(),
         run(4, 2, 1).failures(1).long(),
         weaker(run(3, 2, 1)),
         strong(run(3, 2, 1)),

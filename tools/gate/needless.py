@@ -60,13 +60,18 @@ def of_edits(name):
             yield from ((place and place.name, goal) for goal in re.findall(r"`([\w-]+)`", goals.get((name, gallery.in_words(path)), ""))[:1])
 
 
+def is_needed(function, goal, needed):
+    """Whether a goal stays open without its answer. Of the clauses of an invariant the check may name the invariant alone."""
+    return bool({(function, goal), (function, goal.split("-clause-")[0])} & needed)
+
+
 def cut(name, needed):
     """Removes the answers of a crate that it doesn't need. Returns how many."""
     gone, kept = 0, set(of_edits(name))
     for function, path in files(tree.folder(name)).items():
         text = path.read_text()
         goals = set(ANSWER.findall(text))
-        stay = {goal for goal in goals if (function, goal) in needed or {(function.split("/")[-1], goal), (None, goal)} & kept}
+        stay = {goal for goal in goals if is_needed(function, goal, needed) or {(function.split("/")[-1], goal), (None, goal)} & kept}
         gone += len(goals - stay)
         if stay and stay != goals:
             path.write_text(part_of(text, stay))

@@ -16,6 +16,9 @@ PARTS = re.compile(
     r'|(?P<indent> *)(?P<public>pub )?(?:pub\(\w+\) )?(?:const |unsafe |extern "C" )*fn (?P<name>\w+))',
     re.M,
 )
+# An import, and how one of its items names the module that it is of.
+IMPORT = re.compile(r"^((?:pub |ghost )?use )([^\s{}]+)\.\{([^{}]*)\}(;?)$", re.M)
+WITHIN = re.compile(r"((?:\w+\.)*)(\S.*)")
 # How a file imports definitions: several of a module, one of it, or the module under another name.
 USE = re.compile(r"^\s*(?:ghost |pub )?use Rattle\.(\w+)\.specs\.(\w+)(?:\.\{([^}]*)\}|\.(\S+?))?(?: as (\w+))?;?\s*$", re.M)
 WORD = re.compile(r"[^\s(){}\[\],;.]+(?:\.[^\s(){}\[\],;.]+)*")
@@ -104,11 +107,22 @@ def inside(text, at):
     return text[at:end]
 
 
+def by_module(text):
+    """A text in which each import names one module: `use A.B.{c}` in place of `use A.{B.c}`."""
+    def each(it):
+        head, path, items, end = it.groups()
+        modules = {}
+        for within, name in (WITHIN.fullmatch(item).groups() for item in items.split(", ")):
+            modules.setdefault(f"{path}.{within}", []).append(name)
+        return "\n".join(f"{head}{module}{{{', '.join(names)}}}{end}" for module, names in modules.items())
+    return IMPORT.sub(each, text)
+
+
 def imports(text):
     """The definitions that a file imports, each as its crate, module and name by the name that it has in the file; and the
     modules that it names by another name."""
     local, alias = {}, {}
-    for crate, module, group, one, other in USE.findall(text):
+    for crate, module, group, one, other in USE.findall(by_module(text)):
         if group or one:
             for it in filter(None, (word.strip() for word in (group or one).split(","))):
                 name, _, here = it.partition(" as ")
@@ -157,12 +171,12 @@ def edited(crate, texts, path):
 
 
 def copy_to(room, names, used):
-    """Copies these crates and those below them, with the edits of these crates alone."""
+    """Copies these crates and those below them, with the edits of these crates alone, and with what earlier checks have proved."""
     needed = set(names).union(*(below(it, used) for it in names))
     shutil.copy(TOP / "HANDLES", room)
     (room / "crates.txt").write_text("".join(f"{line}\n" for name, line in crate_lines().items() if name in needed))
     for name in needed:
-        left_out = shutil.ignore_patterns("out", *([] if name in names else ["must-fail"]))
+        left_out = shutil.ignore_patterns(*([] if name in names else ["must-fail"]))
         shutil.copytree(folder(name), room / "crates" / name, ignore=left_out)
 
 

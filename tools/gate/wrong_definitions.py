@@ -18,9 +18,6 @@ from gate import laws, record, tree
 
 # How a text names a file of specs/ or proofs/: by its crate, its folder and its name.
 NAMED = re.compile(r"\bRattle\.(\w+)\.(specs|proofs)\.(\w+)")
-# An import, and how one of its items names the module that it is of.
-IMPORT = re.compile(r"^((?:pub |ghost )?use )([^\s{}]+)\.\{([^{}]*)\}(;?)$", re.M)
-WITHIN = re.compile(r"((?:\w+\.)*)(\S.*)")
 # The words of a text, and the names that a paragraph defines: of a definition or a lemma, and of the constructors of a type.
 WORD = re.compile(r"[^\s(){}\[\],;.]+")
 DEFINED = re.compile(r"^(?:(?:abbrev |unfoldable )?(?:pub )?(?:record |data )?|  )([^\s:(){}]+)(?= [:({])", re.M)
@@ -41,21 +38,10 @@ def edits(name):
     return [edit_of(path) for path in tree.edits(name, "wrong-definitions")]
 
 
-def by_module(text):
-    """A text in which each import names one module: `use A.B.{c}` in place of `use A.{B.c}`."""
-    def each(it):
-        head, path, items, end = it.groups()
-        modules = {}
-        for within, name in (WITHIN.fullmatch(item).groups() for item in items.split(", ")):
-            modules.setdefault(f"{path}.{within}", []).append(name)
-        return "\n".join(f"{head}{module}{{{', '.join(names)}}}{end}" for module, names in modules.items())
-    return IMPORT.sub(each, text)
-
-
 def sources(used):
     """The files of specs/ and proofs/ that a text may name, each by its crate, its folder and its name, with its text."""
     folders = [(name, folder) for name in used for folder in ("specs", "proofs")]
-    return {(*it, path.stem): by_module(path.read_text()) for it in folders for path in tree.TOP.joinpath("crates", *it).glob("*.antt")}
+    return {(*it, path.stem): tree.by_module(path.read_text()) for it in folders for path in tree.TOP.joinpath("crates", *it).glob("*.antt")}
 
 
 def place_of(edit, texts):
@@ -76,7 +62,7 @@ def law_of(edit):
     if law is None or f"    ensures {edit.clause} {{" not in law[0]:
         return None
     answers = tree.TOP.joinpath("crates", edit.home, "proofs", *edit.modules, edit.function, "Answers.antt")
-    return "".join(re.findall(r"^ghost use .*\n", by_module(text), re.M)), law[0], by_module(answers.read_text()) if answers.exists() else ""
+    return "".join(re.findall(r"^ghost use .*\n", tree.by_module(text), re.M)), law[0], tree.by_module(answers.read_text()) if answers.exists() else ""
 
 
 def misfits(all_edits, texts):

@@ -92,7 +92,7 @@ class Browser(InFolder):
         file = self.file("look.html", page.encode())
         words = ["--headless", "--no-sandbox", "--disable-gpu", "--disable-dev-shm-usage", "--no-first-run", f"--user-data-dir={self.folder}/chromium", *words]
         words += ["--enable-logging=stderr", "--virtual-time-budget=20000", "--host-resolver-rules=MAP * ~NOTFOUND", f"file://{file}"]
-        done = subprocess.run(["chromium", *words], capture_output=True, text=True, timeout=120)
+        done = subprocess.run(["chromium", *words], capture_output=True, text=True, timeout=300)
         logged = [line for line in done.stderr.splitlines() if "CONSOLE" in line]
         self.assertEqual(logged, [])
         return done

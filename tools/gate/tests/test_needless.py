@@ -34,6 +34,13 @@ class Needless(Small):
         self.stand_in(STAND_IN.replace(" : goal.", " :'\necho '        goal."))
         self.assertIn("needless low: 2 answers go", self.run_main(needless, "low"))
 
+    def test_an_invariant_that_is_named_alone_keeps_the_answers_to_its_clauses(self):
+        self.stand_in(STAND_IN.replace("returns-clause-hard", "invariant_of-self"))
+        clause = HEAD + HARD.replace("returns-clause-hard", "invariant_of-self-clause-hard")
+        self.write("crates/low/proofs/lib/first/Answers.antt", clause)
+        self.assertIn("needless low: 1 answers go", self.run_main(needless, "low"))
+        self.assertEqual((self.top / "crates/low/proofs/lib/first/Answers.antt").read_text(), clause)
+
     def test_an_answer_stays_at_the_goal_that_refuses_a_wrong_body(self):
         self.write("crates/low/src/lib.rt", "pub fn first() -> u8 {\n    1\n}\n")
         self.edit("low", "must-fail/is_two.edit", ("    1", "    2"))
