@@ -23,7 +23,8 @@ pub fn send<W: Write>(writer: &mut Watched<W>, bytes: &[u8]) -> Result<(), Outpu
 /// Writes these bytes until all are written or a call fails, and returns how many were written.
 pub(crate) fn send_some<W: Write>(writer: &mut Watched<W>, bytes: &[u8]) -> usize
     ensures within { result ≤ length bytes.now }
-    ensures moved { IsUnderWay (W.contents (inner_of writer.old)) (W.contents (inner_of writer.new)) (drop result bytes.now) bytes.now }
+    ensures moved { IsUnderWay (W.contents (inner_of writer.old))
+        (W.contents (inner_of writer.new)) (drop result bytes.now) bytes.now }
     ensures unfailed { result ≡ length bytes.now → failures_of writer.new ≡ failures_of writer.old }
     ensures failed { result ≢ length bytes.now → failures_of writer.new ≢ failures_of writer.old }
 {

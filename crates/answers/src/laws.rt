@@ -7,8 +7,10 @@ pub fn texts_of_a_buffer()
     ensures short { short_of (record { bytes = codes "met\n,,"; len = 4 }) ≡ codes "met\n" }
     ensures whole { short_of (record { bytes = codes "met\n"; len = 4 }) ≡ codes "met\n" }
     ensures none { short_of (record { bytes = codes "met\n"; len = 0 }) ≡ [] }
-    ensures waiting { (l : Lines) (rest : List ℕ) → l.buffer.items ≡ 7 ∷ 8 ∷ rest → l.used ≡ 2 → waiting_of l ≡ 7 ∷ 8 ∷ [] }
-    ensures one_waiting { (l : Lines) (rest : List ℕ) → l.buffer.items ≡ 7 ∷ 8 ∷ rest → l.used ≡ 1 → waiting_of l ≡ 7 ∷ [] }
+    ensures waiting { (l : Lines) (rest : List ℕ) → l.buffer.items ≡ 7 ∷ 8 ∷ rest
+        → l.used ≡ 2 → waiting_of l ≡ 7 ∷ 8 ∷ [] }
+    ensures one_waiting { (l : Lines) (rest : List ℕ)
+        → l.buffer.items ≡ 7 ∷ 8 ∷ rest → l.used ≡ 1 → waiting_of l ≡ 7 ∷ [] }
     ensures none_waiting { (l : Lines) → l.used ≡ 0 → waiting_of l ≡ [] }
     ensures digits { (l : Lines) → l.digits ≡ 16 → l.used ≡ 4 → page_digits_of l ≡ 16 }
 {}

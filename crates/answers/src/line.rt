@@ -31,8 +31,10 @@ pub fn put_line(
     page: &[u8],
 ) -> usize
     requires room { at + LINE_BYTES ≤ length buffer.old }
-    requires page { reply ≡ replies.Page → at + LINE_BYTES + 2 * length page.now ≤ length buffer.old }
-    ensures { Placed buffer.old buffer.new at (line_text line op sector (reply_text reply (encode_lower page.now))) result }
+    requires page { reply ≡ replies.Page
+        → at + LINE_BYTES + 2 * length page.now ≤ length buffer.old }
+    ensures { Placed buffer.old buffer.new at
+        (line_text line op sector (reply_text reply (encode_lower page.now))) result }
 {
     let name = numbering.put(buffer, at, line);
     let place = put_short(buffer, name, op_word(op));
@@ -44,8 +46,10 @@ pub fn put_line(
 #[inline(always)]
 fn put_reply(buffer: &mut [u8], at: usize, reply: Reply, page: &[u8]) -> usize
     requires room { at + SHORT_BYTES ≤ length buffer.old }
-    requires page { reply ≡ replies.Page → at + SHORT_BYTES + 2 * length page.now ≤ length buffer.old }
-    ensures { Placed buffer.old buffer.new at (reply_text reply (encode_lower page.now) ++ codes "\n") result }
+    requires page { reply ≡ replies.Page
+        → at + SHORT_BYTES + 2 * length page.now ≤ length buffer.old }
+    ensures { Placed buffer.old buffer.new at
+        (reply_text reply (encode_lower page.now) ++ codes "\n") result }
 {
     let end = if let Reply::Page = reply {
         put_page(buffer, at, page)
@@ -120,7 +124,8 @@ pub fn put_collection(
     retired: bool,
 ) -> usize
     requires { at + LINE_BYTES ≤ length buffer.old }
-    ensures { Placed buffer.old buffer.new at (collection_line line victim copied copybacks erases retired) result }
+    ensures { Placed buffer.old buffer.new at
+        (collection_line line victim copied copybacks erases retired) result }
 {
     let first = put_number(buffer, at, line, b',');
     let second = put_number(buffer, first, u64::from(victim), b',');

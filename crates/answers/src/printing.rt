@@ -24,7 +24,8 @@ use trace::{Op, Watched};
 impl Lines {
     /// An empty buffer for the lines of a device of this geometry.
     pub fn new(alloc: Global, geometry: &Geometry) -> Result<Lines, AllocError>
-        ensures page { IfOk result (λ lines. page_digits_of lines ≡ 2 * page_bytes_of geometry.now) }
+        ensures page { IfOk result
+            (λ lines. page_digits_of lines ≡ 2 * page_bytes_of geometry.now) }
         ensures waiting { IfOk result (λ lines. waiting_of lines ≡ []) }
     {
         let digits = 2 * geometry.page_bytes();
@@ -41,7 +42,9 @@ impl Lines {
     pub fn answer(&mut self, line: u64, op: Op, sector: u32, reply: Reply, page: &[u8])
         requires page { reply ≡ replies.Page → page_digits_of self.old ≡ 2 * length page.now }
         requires room { length (waiting_of self.old) ≤ PIECE_BYTES }
-        ensures waiting { waiting_of self.new ≡ waiting_of self.old ++ line_text line op sector (reply_text reply (encode_lower page.now)) }
+        ensures waiting { waiting_of self.new
+            ≡ waiting_of self.old ++ line_text line op sector
+            (reply_text reply (encode_lower page.now)) }
         ensures page { page_digits_of self.new ≡ page_digits_of self.old }
     {
         self.used = put_line(
@@ -68,7 +71,8 @@ impl Lines {
     /// Adds the last line of a run by one thread, with its totals.
     pub fn totals(&mut self, programs: u64, copies: u64, erases: u64)
         requires room { length (waiting_of self.old) ≤ PIECE_BYTES }
-        ensures waiting { waiting_of self.new ≡ waiting_of self.old ++ totals_text programs copies erases }
+        ensures waiting { waiting_of self.new
+            ≡ waiting_of self.old ++ totals_text programs copies erases }
         ensures page { page_digits_of self.new ≡ page_digits_of self.old }
     {
         self.used = put_totals(&mut self.buffer, self.used, programs, copies, erases);
@@ -86,7 +90,8 @@ impl Lines {
     /// Adds a block's line of the wear: its erases, its live pages, and whether it is retired.
     pub fn wear(&mut self, block: u32, erases: u32, live: u32, retired: bool)
         requires room { length (waiting_of self.old) ≤ PIECE_BYTES }
-        ensures waiting { waiting_of self.new ≡ waiting_of self.old ++ wear_line block erases live retired }
+        ensures waiting { waiting_of self.new
+            ≡ waiting_of self.old ++ wear_line block erases live retired }
         ensures page { page_digits_of self.new ≡ page_digits_of self.old }
     {
         self.used = put_wear(&mut self.buffer, self.used, block, erases, live, retired);
@@ -113,7 +118,8 @@ impl Lines {
         retired: bool,
     )
         requires room { length (waiting_of self.old) ≤ PIECE_BYTES }
-        ensures waiting { waiting_of self.new ≡ waiting_of self.old ++ collection_line line victim copied copybacks erases retired }
+        ensures waiting { waiting_of self.new
+            ≡ waiting_of self.old ++ collection_line line victim copied copybacks erases retired }
         ensures page { page_digits_of self.new ≡ page_digits_of self.old }
     {
         self.used = put_collection(
@@ -148,11 +154,13 @@ impl Lines {
 
     /// Writes the lines that wait. After a failure those bytes wait that the writer has not taken, so another call can continue.
     pub fn hand_on<W: Write>(&mut self, writer: &mut Watched<W>) -> Result<(), OutputFailed>
-        ensures sent { WritesOut (waiting_of self.old) (over W.contents writer.old writer.new) result }
+        ensures sent { WritesOut (waiting_of self.old)
+            (over W.contents writer.old writer.new) result }
         ensures empty { OnOk result (waiting_of self.new ≡ []) }
         ensures page { page_digits_of self.new ≡ page_digits_of self.old }
         ensures kept { OnErr result
-            (IsUnderWay (W.contents (inner_of writer.old)) (W.contents (inner_of writer.new)) (waiting_of self.new) (waiting_of self.old)) }
+            (IsUnderWay (W.contents (inner_of writer.old))
+            (W.contents (inner_of writer.new)) (waiting_of self.new) (waiting_of self.old)) }
     {
         let sent = send_some(writer, &self.buffer[..self.used]);
         self.remove_front(sent);
@@ -177,14 +185,18 @@ impl Lines {
     /// Writes the lines that wait if there are many, so that there is room for another line.
     pub fn make_room<W: Write>(&mut self, writer: &mut Watched<W>) -> Result<(), OutputFailed>
         ensures moved { OnOk result
-            (IsUnderWay (W.contents (inner_of writer.old)) (W.contents (inner_of writer.new)) (waiting_of self.new) (waiting_of self.old)) }
+            (IsUnderWay (W.contents (inner_of writer.old))
+            (W.contents (inner_of writer.new)) (waiting_of self.new) (waiting_of self.old)) }
         ensures room { OnOk result (length (waiting_of self.new) ≤ PIECE_BYTES) }
         ensures page { page_digits_of self.new ≡ page_digits_of self.old }
         ensures unfailed { OnOk result (failures_of writer.new ≡ failures_of writer.old) }
-        ensures part { OnErr result (AppendsBeginning (W.contents (inner_of writer.old)) (W.contents (inner_of writer.new)) (waiting_of self.old)) }
+        ensures part { OnErr result
+            (AppendsBeginning (W.contents (inner_of writer.old))
+            (W.contents (inner_of writer.new)) (waiting_of self.old)) }
         ensures failed { OnErr result (failures_of writer.new ≢ failures_of writer.old) }
         ensures kept { OnErr result
-            (IsUnderWay (W.contents (inner_of writer.old)) (W.contents (inner_of writer.new)) (waiting_of self.new) (waiting_of self.old)) }
+            (IsUnderWay (W.contents (inner_of writer.old))
+            (W.contents (inner_of writer.new)) (waiting_of self.new) (waiting_of self.old)) }
     {
         if self.used < PIECE_BYTES {
             return Ok(());

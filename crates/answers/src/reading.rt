@@ -15,9 +15,12 @@ pub fn read_commands<R: Read>(
 ) -> Result<Commands, TraceFault>
     ensures end { OnOk result (IsAtEnd (R.remaining (inner_of reader.new))) }
     ensures unfailed { OnOk result (failures_of reader.new ≡ failures_of reader.old) }
-    ensures commands { IfOk result (λ commands. IfSome (R.remaining (inner_of reader.old)) (λ bytes. commands_of bytes geometry.now ≡ Ok commands)) }
+    ensures commands { IfOk result
+        (λ commands. IfSome (R.remaining (inner_of reader.old))
+        (λ bytes. commands_of bytes geometry.now ≡ Ok commands)) }
     ensures playable { IfOk result (λ commands. All (IsPlayable geometry.now) commands) }
-    ensures why { IfErr result (λ fault. ExplainsTrace fault geometry.now (over R.remaining reader.old reader.new)) }
+    ensures why { IfErr result
+        (λ fault. ExplainsTrace fault geometry.now (over R.remaining reader.old reader.new)) }
 {
     let text = load(alloc, reader)?;
     parse_owned(alloc, text, geometry)

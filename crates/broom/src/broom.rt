@@ -52,7 +52,8 @@ impl Broom {
     ) -> Result<Broom, (BroomSeat, QueuePass)>
         ensures view { IfOk result (λ b. view_of_broom b ≡ broom_view seat) }
         ensures blocks { IfOk result (λ b. blocks_of_broom b ≡ own_blocks seat) }
-        ensures ready { IfOk result (λ b. (f : Flash) → geometry_of f ≡ geometry.now → IsRested f seat → IsReady f b) }
+        ensures ready { IfOk result
+            (λ b. (f : Flash) → geometry_of f ≡ geometry.now → IsRested f seat → IsReady f b) }
         ensures queue { IfOk result (λ b. (place_of b ≡ place) × (aside_of b ≡ None)) }
         ensures unmarked { IfOk result HasNoMarks }
         ensures refused { IfErr result (λ back. IsSameSeat seat back.0) }

@@ -51,7 +51,8 @@ pub fn wipe_all(flash: &Flash, seat: &mut BroomSeat)
     requires seat { IsBroomOf flash.now seat.old }
     requires erasing { (o : ReclaimedBlock) × IsErasing flash.now seat.old o }
     requires none { (broom_view seat.old).wiped ≡ 0 }
-    ensures wiped { broom_view seat.new ≡ record (broom_view seat.old) { wiped = words_in_block (device flash.now) } }
+    ensures wiped { broom_view seat.new
+        ≡ record (broom_view seat.old) { wiped = words_in_block (device flash.now) } }
     ensures seat { IsBroomOf flash.now seat.new }
     ensures blocks { own_blocks seat.new ≡ own_blocks seat.old }
 {
@@ -75,8 +76,11 @@ fn renew(flash: &Flash, seat: &mut BroomSeat) -> bool
     requires seat { IsBroomOf flash.now seat.old }
     requires wiped { (o : ReclaimedBlock) × CanLiveOn flash.now seat.old o }
     ensures renewed { (o : ReclaimedBlock) → (own_blocks seat.old).reclaiming ≡ reclaiming.Erasing o
-        → MatchBool result (Kept (broom_view seat.old) (own_blocks seat.old) o (broom_view seat.new) (own_blocks seat.new))
-        (Freed (broom_view seat.old) (own_blocks seat.old) o (broom_view seat.new) (own_blocks seat.new)) }
+        → MatchBool result
+        (Kept (broom_view seat.old) (own_blocks seat.old) o
+        (broom_view seat.new) (own_blocks seat.new))
+        (Freed (broom_view seat.old) (own_blocks seat.old) o
+        (broom_view seat.new) (own_blocks seat.new)) }
     ensures seat { IsBroomOf flash.now seat.new }
 {
     let kept = seat.blocks().spare.is_none();

@@ -85,8 +85,10 @@ pub fn fold_seat(flash: &Flash, seat: BroomSeat) -> RetiredBroom
 fn close_if_open(flash: &Flash, seat: &mut BroomSeat)
     requires seat { IsBroomOf flash.now seat.old }
     requires filed { IsFiled (broom_view seat.old) (own_blocks seat.old) }
-    requires block { (o : OpenBlock) → (own_blocks seat.old).destination ≡ Some o → o.block < blocks_of (geometry_of flash.now) }
-    ensures closed { HasClosed (broom_view seat.old) (own_blocks seat.old).destination (broom_view seat.new) }
+    requires block { (o : OpenBlock) → (own_blocks seat.old).destination ≡ Some o
+        → o.block < blocks_of (geometry_of flash.now) }
+    ensures closed { HasClosed (broom_view seat.old)
+        (own_blocks seat.old).destination (broom_view seat.new) }
     ensures blocks { own_blocks seat.new ≡ record (own_blocks seat.old) { destination = None } }
     ensures seat { IsBroomOf flash.now seat.new }
 {

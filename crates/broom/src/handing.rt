@@ -28,8 +28,10 @@ pub(crate) fn pass_on(queue: &EraseQueue, rt: &impl Wait, broom: &mut Broom, ans
     requires queued { IsQueued queue.now broom.old }
     requires aside { aside_of broom.old ≡ None }
     requires block { IsBelow (limit_of queue.now) answer }
-    ensures drained { (block copied : ℕ) → answer ≡ drain.Drained block copied → HandedOn (limit_of queue.now) broom.old block broom.new }
-    ensures none { ((block copied : ℕ) → answer ≢ drain.Drained block copied) → broom.new ≡ broom.old }
+    ensures drained { (block copied : ℕ) → answer ≡ drain.Drained block copied
+        → HandedOn (limit_of queue.now) broom.old block broom.new }
+    ensures none { ((block copied : ℕ) → answer ≢ drain.Drained block copied)
+        → broom.new ≡ broom.old }
     ensures rest { IsElse broom.old broom.new }
     ensures queued { IsQueued queue.now broom.new }
 {
@@ -41,7 +43,8 @@ pub(crate) fn pass_on(queue: &EraseQueue, rt: &impl Wait, broom: &mut Broom, ans
 // Puts what is set aside into the queue. Returns false if the queue is full.
 pub(crate) fn relieve(queue: &EraseQueue, rt: &impl Wait, broom: &mut Broom) -> bool
     requires { IsQueued queue.now broom.old }
-    ensures relieved { MatchBool result (Relieved broom.old broom.new) (Stuck (limit_of queue.now) broom.old broom.new) }
+    ensures relieved { MatchBool result (Relieved broom.old broom.new)
+        (Stuck (limit_of queue.now) broom.old broom.new) }
     ensures rest { IsElse broom.old broom.new }
     ensures queued { IsQueued queue.now broom.new }
 {
@@ -59,7 +62,8 @@ pub(crate) fn relieve(queue: &EraseQueue, rt: &impl Wait, broom: &mut Broom) -> 
 pub(crate) fn fetch(queue: &EraseQueue, rt: &impl Wait, broom: &mut Broom) -> Option<u32>
     requires queued { IsQueued queue.now broom.old }
     requires limit { limit_of queue.now ≤ 2 ^ 32 }
-    ensures fetched { MatchOption result (FoundNone broom.old broom.new) (λ block. Fetched broom.old block broom.new) }
+    ensures fetched { MatchOption result (FoundNone broom.old broom.new)
+        (λ block. Fetched broom.old block broom.new) }
     ensures block { IfSome result (λ block. block < limit_of queue.now) }
     ensures rest { IsElse broom.old broom.new }
     ensures queued { IsQueued queue.now broom.new }

@@ -15,7 +15,8 @@ use geometry::{MapWord, PageAddr};
 pub fn meet_brooms(flash: &Flash, first: &mut Broom, second: &mut Broom)
     requires first { IsReady flash.now first.old }
     requires second { IsReady flash.now second.old }
-    ensures met_brooms { BroomsMet (view_of_broom first.old) (view_of_broom second.old) (view_of_broom first.new) (view_of_broom second.new) }
+    ensures met_brooms { BroomsMet (view_of_broom first.old) (view_of_broom second.old)
+        (view_of_broom first.new) (view_of_broom second.new) }
     ensures first { IsReady flash.now first.new }
     ensures second { IsReady flash.now second.new }
     ensures first_blocks { blocks_of_broom first.new ≡ blocks_of_broom first.old }
@@ -38,7 +39,8 @@ pub fn meet_brooms(flash: &Flash, first: &mut Broom, second: &mut Broom)
 pub fn stand(flash: &Flash, pass: &mut Pass, page: PageAddr, generation: u32, broom: &mut Broom)
     requires pass { (value : List ℕ) × IsPinned flash.now pass.old (page_in page generation) value }
     requires broom { IsReady flash.now broom.old }
-    ensures stood { StoodTold (view_of pass.old) (view_of_broom broom.old) (page_in page generation) (view_of pass.new) (view_of_broom broom.new) }
+    ensures stood { StoodTold (view_of pass.old) (view_of_broom broom.old)
+        (page_in page generation) (view_of pass.new) (view_of_broom broom.new) }
     ensures pass { IsPassOf flash.now pass.new }
     ensures opened { opened_of pass.new ≡ opened_of pass.old }
     ensures broom { IsReady flash.now broom.new }

@@ -28,7 +28,8 @@ fn key(count: u32, block: usize) -> u64
 impl Ranking {
     // The room for a ranking of this many blocks, which isn't made yet.
     pub(crate) fn new(alloc: Global, blocks: usize) -> Result<Ranking, AllocError>
-        ensures { IfOk result (λ ranking. (blocks ≤ vec_capacity ranking.keys) × (ranking.made ≡ false)) }
+        ensures { IfOk result
+            (λ ranking. (blocks ≤ vec_capacity ranking.keys) × (ranking.made ≡ false)) }
     {
         let keys = Vec::with_capacity(alloc, blocks)?;
         Ok(Ranking {

@@ -21,10 +21,12 @@ fn found(named: Option<MapWord>, page: MapWord) -> bool
 
 // The sector whose page the victim's next page is, or none for a dead page.
 fn live_sector(flash: &Flash, seat: &mut BroomSeat, page: MapWord) -> Option<u32>
-    requires next { (x : ReclaimedBlock) × Sweeps flash.now seat.old x × ((page ≡ victim_page x page.page) × (page.page < x.written)) }
+    requires next { (x : ReclaimedBlock) × Sweeps flash.now seat.old x
+        × ((page ≡ victim_page x page.page) × (page.page < x.written)) }
     requires cleared { page.page ≡ (broom_view seat.old).cleared }
     ensures found { FoundTold (broom_view seat.old) page result (broom_view seat.new) }
-    ensures sweeps { (x : ReclaimedBlock) → Sweeps flash.now seat.old x → Sweeps flash.now seat.new x }
+    ensures sweeps { (x : ReclaimedBlock)
+        → Sweeps flash.now seat.old x → Sweeps flash.now seat.new x }
     ensures blocks { own_blocks seat.new ≡ own_blocks seat.old }
 {
     let stamp = flash.get_stamp(seat, page.page);
@@ -52,12 +54,17 @@ fn open_destination(seat: &mut BroomSeat)
 
 // Copies the source to the next page of the destination, and counts the copy.
 fn copy_page(flash: &Flash, seat: &mut BroomSeat, page: MapWord, sector: u32) -> MapWord
-    requires sweeps { (x : ReclaimedBlock) × Sweeps flash.now seat.old x × ((page ≡ victim_page x page.page) × (page.page < x.written)) }
+    requires sweeps { (x : ReclaimedBlock) × Sweeps flash.now seat.old x
+        × ((page ≡ victim_page x page.page) × (page.page < x.written)) }
     requires destination { (o : OpenBlock) × ((own_blocks seat.old).destination ≡ Some o) }
-    requires source { (value : List ℕ) × ((broom_view seat.old).source ≡ Some (record { page = page; stamp = sector; value = Some value })) }
-    ensures copied { CopyTold (broom_view seat.old) (own_blocks seat.old).destination page sector result (broom_view seat.new) }
+    requires source { (value : List ℕ)
+        × ((broom_view seat.old).source
+        ≡ Some (record { page = page; stamp = sector; value = Some value })) }
+    ensures copied { CopyTold (broom_view seat.old)
+        (own_blocks seat.old).destination page sector result (broom_view seat.new) }
     ensures blocks { HasOneMore (own_blocks seat.old) (own_blocks seat.new) }
-    ensures sweeps { (x : ReclaimedBlock) → Sweeps flash.now seat.old x → IsSweeping flash.now (pages_of (geometry_of flash.now) + 1) seat.new x }
+    ensures sweeps { (x : ReclaimedBlock) → Sweeps flash.now seat.old x
+        → IsSweeping flash.now (pages_of (geometry_of flash.now) + 1) seat.new x }
 {
     let Some(destination) = seat.blocks().destination else {
         unreachable!()
@@ -81,10 +88,14 @@ fn copy_page(flash: &Flash, seat: &mut BroomSeat, page: MapWord, sector: u32) ->
 
 // Closes the destination if no page is left in it.
 fn close_if_full(flash: &Flash, seat: &mut BroomSeat)
-    requires sweeps { (x : ReclaimedBlock) × IsSweeping flash.now (pages_of (geometry_of flash.now) + 1) seat.old x }
+    requires sweeps { (x : ReclaimedBlock)
+        × IsSweeping flash.now (pages_of (geometry_of flash.now) + 1) seat.old x }
     requires destination { (o : OpenBlock) × ((own_blocks seat.old).destination ≡ Some o) }
-    ensures tidied { Tidied (pages_of (geometry_of flash.now)) (broom_view seat.old) (own_blocks seat.old) (broom_view seat.new) (own_blocks seat.new) }
-    ensures sweeps { (x : ReclaimedBlock) → IsSweeping flash.now (pages_of (geometry_of flash.now) + 1) seat.old x → Sweeps flash.now seat.new x }
+    ensures tidied { Tidied (pages_of (geometry_of flash.now)) (broom_view seat.old)
+        (own_blocks seat.old) (broom_view seat.new) (own_blocks seat.new) }
+    ensures sweeps { (x : ReclaimedBlock)
+        → IsSweeping flash.now (pages_of (geometry_of flash.now) + 1) seat.old x
+        → Sweeps flash.now seat.new x }
 {
     let Some(destination) = seat.blocks().destination else {
         unreachable!()
@@ -96,11 +107,14 @@ fn close_if_full(flash: &Flash, seat: &mut BroomSeat)
 
 // Clears the victim's next page, and says whether it was moved.
 fn clear_page<G: Gate>(flash: &Flash, seat: &mut BroomSeat, page: MapWord, gate: &mut G) -> bool
-    requires next { (x : ReclaimedBlock) × Sweeps flash.now seat.old x × ((page ≡ victim_page x page.page) × (page.page < x.written)) }
+    requires next { (x : ReclaimedBlock) × Sweeps flash.now seat.old x
+        × ((page ≡ victim_page x page.page) × (page.page < x.written)) }
     requires cleared { page.page ≡ (broom_view seat.old).cleared }
     requires room { 0 < room_left (pages_of (geometry_of flash.now)) (own_blocks seat.old) }
-    ensures page { ClearTold (pages_of (geometry_of flash.now)) seat.old page (count_if result) seat.new }
-    ensures sweeps { (x : ReclaimedBlock) → Sweeps flash.now seat.old x → Sweeps flash.now seat.new x }
+    ensures page { ClearTold (pages_of (geometry_of flash.now)) seat.old page
+        (count_if result) seat.new }
+    ensures sweeps { (x : ReclaimedBlock)
+        → Sweeps flash.now seat.old x → Sweeps flash.now seat.new x }
 {
     let Some(sector) = live_sector(flash, seat, page) else {
         return false;
@@ -115,14 +129,18 @@ fn clear_page<G: Gate>(flash: &Flash, seat: &mut BroomSeat, page: MapWord, gate:
 
 // Clears all pages of the victim, in order, and says how many were moved.
 pub(crate) fn relocate<G: Gate>(flash: &Flash, seat: &mut BroomSeat, gate: &mut G) -> u32
-    requires sweeps { (x : ReclaimedBlock) × Sweeps flash.now seat.old x × (x.written ≤ room_left (pages_of (geometry_of flash.now)) (own_blocks seat.old)) }
+    requires sweeps { (x : ReclaimedBlock) × Sweeps flash.now seat.old x
+        × (x.written ≤ room_left (pages_of (geometry_of flash.now)) (own_blocks seat.old)) }
     requires cleared { (broom_view seat.old).cleared ≡ 0 }
     requires source { (broom_view seat.old).source ≡ None }
     ensures relocated { Relocated (broom_view seat.old) result (broom_view seat.new) }
-    ensures emptied { (x : ReclaimedBlock) → Sweeps flash.now seat.old x → HasEmptied (pages_of (geometry_of flash.now)) x seat.old result seat.new }
-    ensures cleared { (x : ReclaimedBlock) → Sweeps flash.now seat.old x → (broom_view seat.new).cleared ≡ x.written }
+    ensures emptied { (x : ReclaimedBlock) → Sweeps flash.now seat.old x
+        → HasEmptied (pages_of (geometry_of flash.now)) x seat.old result seat.new }
+    ensures cleared { (x : ReclaimedBlock) → Sweeps flash.now seat.old x
+        → (broom_view seat.new).cleared ≡ x.written }
     ensures source { (broom_view seat.new).source ≡ None }
-    ensures sweeps { (x : ReclaimedBlock) → Sweeps flash.now seat.old x → Sweeps flash.now seat.new x }
+    ensures sweeps { (x : ReclaimedBlock)
+        → Sweeps flash.now seat.old x → Sweeps flash.now seat.new x }
 {
     let Reclaiming::Draining(victim) = seat.blocks().reclaiming else {
         unreachable!()

@@ -27,7 +27,8 @@ pub fn restock(flash: &Flash, broom: &mut Broom) -> bool
 fn take_lowest(flash: &Flash, seat: &mut BroomSeat) -> bool
     requires seat { IsBroomOf flash.now seat.old }
     requires none { (own_blocks seat.old).spare ≡ None }
-    ensures searched { SearchTold (broom_view seat.old) (own_blocks seat.old) result (broom_view seat.new) (own_blocks seat.new) }
+    ensures searched { SearchTold (broom_view seat.old)
+        (own_blocks seat.old) result (broom_view seat.new) (own_blocks seat.new) }
     ensures seat { IsBroomOf flash.now seat.new }
 {
     for block in 0..flash.geometry().blocks() {

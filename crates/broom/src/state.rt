@@ -32,7 +32,8 @@ pub fn load_state(flash: &Flash, broom: &mut Broom, block: u32) -> PinWord
 /// Loads the state of each block, in order, and counts the blocks by their phases. The broom keeps its last survey, as by a single load.
 pub fn count_blocks(flash: &Flash, broom: &mut Broom) -> BlockCounts
     requires { IsReady flash.now broom.old }
-    ensures all_loaded { (states : List PinWord) × AllLoaded (device flash.now) broom.old states broom.new × (result ≡ counts_in states) }
+    ensures all_loaded { (states : List PinWord)
+        × AllLoaded (device flash.now) broom.old states broom.new × (result ≡ counts_in states) }
     ensures ready { IsReady flash.now broom.new }
     ensures queue { HandsNothing broom.old broom.new }
 {

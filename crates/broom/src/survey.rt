@@ -34,7 +34,8 @@ fn load_states(flash: &Flash, seat: &mut BroomSeat, states: &mut [PinWord], clos
     requires seat { IsBroomOf flash.now seat.old }
     requires states { length states.old ≡ blocks_of (geometry_of flash.now) }
     requires closed { length closed.old ≡ blocks_of (geometry_of flash.now) }
-    ensures loaded { StatesLoaded (device flash.now) (broom_view seat.old) states.new closed.new (broom_view seat.new) }
+    ensures loaded { StatesLoaded (device flash.now)
+        (broom_view seat.old) states.new closed.new (broom_view seat.new) }
     ensures seat { IsBroomOf flash.now seat.new }
     ensures blocks { own_blocks seat.new ≡ own_blocks seat.old }
 {
@@ -52,7 +53,8 @@ fn count_pages(flash: &Flash, seat: &mut BroomSeat, states: &[PinWord], counts: 
     requires callers { AreOfHosts (broom_view seat.old).numbers (broom_view seat.old).seen }
     requires states { length states.now ≡ blocks_of (geometry_of flash.now) }
     requires counts { length counts.old ≡ blocks_of (geometry_of flash.now) }
-    ensures counted { PagesCounted (broom_view seat.old) states.now counts.new (broom_view seat.new) }
+    ensures counted { PagesCounted
+        (broom_view seat.old) states.now counts.new (broom_view seat.new) }
     ensures seat { IsBroomOf flash.now seat.new }
     ensures blocks { own_blocks seat.new ≡ own_blocks seat.old }
 {

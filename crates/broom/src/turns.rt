@@ -59,7 +59,8 @@ pub fn drain_chosen<G: Gate>(
     requires limit { limit_of queue.now ≡ blocks_of (geometry_of flash.now) }
     requires ready { IsReady flash.now broom.old }
     requires queued { IsQueued queue.now broom.old }
-    ensures drained_one { TurnTold (DrainedBy choice) (limit_of queue.now) broom.old result broom.new }
+    ensures drained_one { TurnTold (DrainedBy choice)
+        (limit_of queue.now) broom.old result broom.new }
     ensures ready { IsReady flash.now broom.new }
     ensures queued { IsQueued queue.now broom.new }
 {

@@ -13,7 +13,8 @@ pub fn crc32c(bytes: &[u8]) -> u32
 /// The CRC-32C after more bytes: of the bytes whose CRC-32C is given, and then these.
 pub fn extend(crc: u32, bytes: &[u8]) -> u32
     ensures value { result ≡ extended crc bytes.now }
-    ensures appends { (before : List ℕ) → crc ≡ crc32c_of before → result ≡ crc32c_of (before ++ bytes.now) }
+    ensures appends { (before : List ℕ) → crc ≡ crc32c_of before
+        → result ≡ crc32c_of (before ++ bytes.now) }
 {
     let mut remainder = crc ^ u32::MAX;
     for byte in bytes {

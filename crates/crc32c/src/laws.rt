@@ -5,7 +5,8 @@ ghost use Rattle.crc32c.specs.Crc.{generator, times_x, times_x8, with_byte, crc3
 /// The generator, and products with x.
 #[tactic(auto, unfolding(crate::specs::Crc::times_x, crate::specs::Crc::times_x8, crate::specs::Crc::with_byte))]
 pub fn polynomials()
-    ensures generator { generator ≡ 2 ^ 3 + 2 ^ 4 + 2 ^ 5 + 2 ^ 6 + 2 ^ 8 + 2 ^ 9 + 2 ^ 11 + 2 ^ 12 + 2 ^ 13
+    ensures generator { generator
+        ≡ 2 ^ 3 + 2 ^ 4 + 2 ^ 5 + 2 ^ 6 + 2 ^ 8 + 2 ^ 9 + 2 ^ 11 + 2 ^ 12 + 2 ^ 13
         + 2 ^ 17 + 2 ^ 18 + 2 ^ 20 + 2 ^ 21 + 2 ^ 22 + 2 ^ 23 + 2 ^ 25 + 2 ^ 31 }
     ensures low { times_x 6 ≡ 3 }
     ensures high { times_x 1 ≡ generator }

@@ -66,7 +66,8 @@ impl Die {
         requires block { at.block < blocks_of (geometry_of self.now) }
         requires page { at.page < pages_of (geometry_of self.now) }
         ensures value { result ≡ at.block * pages_of (geometry_of self.now) + at.page }
-        ensures within { result < blocks_of (geometry_of self.now) * pages_of (geometry_of self.now) }
+        ensures within { result
+            < blocks_of (geometry_of self.now) * pages_of (geometry_of self.now) }
     {
         at.block as usize * self.geometry.pages() as usize + at.page as usize
     }
@@ -75,8 +76,12 @@ impl Die {
     pub fn read(&self, at: PageAddr, out: &mut [u8]) -> u64
         requires usable { IsUsable self.now at.block }
         requires room { length out.old ≡ page_bytes_of (geometry_of self.now) }
-        ensures value { out.new ≡ (page_at (page_bytes_of (geometry_of self.now)) (block_of self.now at.block) at.page).value }
-        ensures stamp { result ≡ (page_at (page_bytes_of (geometry_of self.now)) (block_of self.now at.block) at.page).stamp }
+        ensures value { out.new
+            ≡ (page_at (page_bytes_of (geometry_of self.now))
+            (block_of self.now at.block) at.page).value }
+        ensures stamp { result
+            ≡ (page_at (page_bytes_of (geometry_of self.now))
+            (block_of self.now at.block) at.page).stamp }
     {
         if at.page >= self.states[at.block as usize].next {
             out.fill(ERASED_BYTE);
@@ -90,7 +95,9 @@ impl Die {
     /// The main bytes of a programmed page, without a copy.
     pub fn page(&self, at: PageAddr) -> &[u8]
         requires { IsProgrammed self.now at }
-        ensures value { result.now ≡ (page_at (page_bytes_of (geometry_of self.now)) (block_of self.now at.block) at.page).value }
+        ensures value { result.now
+            ≡ (page_at (page_bytes_of (geometry_of self.now))
+            (block_of self.now at.block) at.page).value }
         ensures size { length result.now ≡ page_bytes_of (geometry_of self.now) }
     {
         lend_page(&self.bytes, self.geometry.page_bytes(), self.place_of(at))
@@ -99,7 +106,9 @@ impl Die {
     /// ONFI 4.0, Read with a column address in the spare bytes: only the stamp of a programmed page.
     pub fn stamp(&self, at: PageAddr) -> u64
         requires { IsProgrammed self.now at }
-        ensures { result ≡ (page_at (page_bytes_of (geometry_of self.now)) (block_of self.now at.block) at.page).stamp }
+        ensures { result
+            ≡ (page_at (page_bytes_of (geometry_of self.now))
+            (block_of self.now at.block) at.page).stamp }
     {
         u64::from(self.stamps[self.place_of(at)])
     }
@@ -125,11 +134,13 @@ impl Die {
     pub fn copyback(&mut self, from: PageAddr, to: PageAddr) -> u8
         requires source { IsProgrammed self.old from }
         requires next { IsNext self.old to }
-        requires same_lun { lun_of (geometry_of self.old) from.block ≡ lun_of (geometry_of self.old) to.block }
+        requires same_lun { lun_of (geometry_of self.old) from.block
+            ≡ lun_of (geometry_of self.old) to.block }
         ensures status { result ≡ 0 }
         ensures changes { ChangesBlock self.old self.new to.block
             (programmed (block_of self.old to.block)
-            (page_at (page_bytes_of (geometry_of self.old)) (block_of self.old from.block) from.page)) }
+            (page_at (page_bytes_of (geometry_of self.old))
+            (block_of self.old from.block) from.page)) }
         ensures copybacks { copybacks_of self.new ≡ one_more (copybacks_of self.old) }
     {
         let source = self.place_of(from);
@@ -146,7 +157,9 @@ impl Die {
     /// endurance, which retires it.
     pub fn erase(&mut self, block: u32) -> u8
         requires { IsUsable self.old block }
-        ensures status { result ≡ (if (block_of self.old block).erases + 1 == endurance_of (geometry_of self.old) then 1 else 0) }
+        ensures status { result
+            ≡ (if (block_of self.old block).erases + 1 == endurance_of
+            (geometry_of self.old) then 1 else 0) }
         ensures changes { ChangesBlock self.old self.new block
             (erased (endurance_of (geometry_of self.old)) (block_of self.old block)) }
         ensures copybacks { copybacks_of self.new ≡ copybacks_of self.old }

@@ -22,7 +22,8 @@ fn twin_beside(gaps: &[u32], twin: Option<PageAddr>, at: PageAddr) -> PageAddr
 // A page with the same number in another block is a twin. It takes the place of a page whose block has a gap.
 fn beside(gaps: &[u32], old: Candidate, at: PageAddr) -> Candidate
     ensures twin { result ≡ with_twin gaps.now old at }
-    ensures packable { IsPackableVersion (Some old) → IsPackable (Some at) → IsPackableVersion (Some result) }
+    ensures packable { IsPackableVersion (Some old)
+        → IsPackable (Some at) → IsPackableVersion (Some result) }
 {
     if at.block == old.at.block {
         return old;
@@ -64,8 +65,11 @@ fn newer(gaps: &[u32], found: Option<Candidate>, at: PageAddr, number: u64) -> O
 pub fn freeable(alloc: Global, found: &Found, gaps: &[u32], blocks: u32) -> Result<u32, AllocError>
     ensures most { IfOk result (λ block. block ≤ blocks) }
     ensures found { IfOk result (λ block. block < blocks → IsFreeable [] found.now.items block) }
-    ensures none { IfOk result (λ block. block ≡ blocks → (b : ℕ) → b < blocks → IsFreeable [] found.now.items b → ⊥) }
-    ensures first { IfOk result (λ block. (b : ℕ) → b < blocks → IsFreeable gaps.now found.now.items b → IsFreeable gaps.now found.now.items block) }
+    ensures none { IfOk result
+        (λ block. block ≡ blocks → (b : ℕ) → b < blocks → IsFreeable [] found.now.items b → ⊥) }
+    ensures first { IfOk result
+        (λ block. (b : ℕ) → b < blocks → IsFreeable gaps.now found.now.items b
+        → IsFreeable gaps.now found.now.items block) }
 {
     let block = first_freeable(alloc, found, gaps, blocks)?;
     if block < blocks {
@@ -81,8 +85,11 @@ fn first_freeable(
     blocks: u32,
 ) -> Result<u32, AllocError>
     ensures most { IfOk result (λ block. block ≤ blocks) }
-    ensures found { IfOk result (λ block. block < blocks → IsFreeable gaps.now found.now.items block) }
-    ensures none { IfOk result (λ block. block ≡ blocks → (b : ℕ) → b < blocks → IsFreeable gaps.now found.now.items b → ⊥) }
+    ensures found { IfOk result
+        (λ block. block < blocks → IsFreeable gaps.now found.now.items block) }
+    ensures none { IfOk result
+        (λ block. block ≡ blocks → (b : ℕ) → b < blocks
+        → IsFreeable gaps.now found.now.items b → ⊥) }
 {
     let needed = needed_blocks(alloc, found, gaps, blocks)?;
     for block in 0..blocks {
@@ -101,8 +108,12 @@ fn needed_blocks(
     blocks: u32,
 ) -> Result<Vec<bool>, AllocError>
     ensures size { IfOk result (λ needed. length needed.items ≡ blocks) }
-    ensures needed { IfOk result (λ needed. (b : ℕ) → b < blocks → slice_index_or needed.items b false ≡ true → IsFreeable gaps.now found.now.items b → ⊥) }
-    ensures free { IfOk result (λ needed. (b : ℕ) → b < blocks → slice_index_or needed.items b false ≡ false → IsFreeable gaps.now found.now.items b) }
+    ensures needed { IfOk result
+        (λ needed. (b : ℕ) → b < blocks → slice_index_or needed.items b false ≡ true
+        → IsFreeable gaps.now found.now.items b → ⊥) }
+    ensures free { IfOk result
+        (λ needed. (b : ℕ) → b < blocks → slice_index_or needed.items b false ≡ false
+        → IsFreeable gaps.now found.now.items b) }
 {
     let mut needed = vec![in alloc; false; blocks as usize]?;
     for s in 0..found.len() {
@@ -128,8 +139,10 @@ fn has_twin(gaps: &[u32], x: Candidate) -> bool
 
 /// Whether the stamp may be one of a device with so many sectors.
 pub fn is_of_device(stamp: Option<Stamp>, sectors: usize) -> bool
-    ensures yes { result ≡ true → IfSome stamp (λ s. LiesWithin sectors s.extent × (s.number + 1 < 2 ^ 64)) }
-    ensures accepts { IfSome stamp (λ s. LiesWithin sectors s.extent × (s.number + 1 < 2 ^ 64)) → result ≡ true }
+    ensures yes { result ≡ true
+        → IfSome stamp (λ s. LiesWithin sectors s.extent × (s.number + 1 < 2 ^ 64)) }
+    ensures accepts { IfSome stamp (λ s. LiesWithin sectors s.extent × (s.number + 1 < 2 ^ 64))
+        → result ≡ true }
 {
     match stamp {
         Some(stamp) => stamp.extent.lies_within(sectors) && stamp.number < u64::MAX,
@@ -145,7 +158,8 @@ pub fn take(
     at: PageAddr,
     stamp: Option<Stamp>,
 )
-    requires stamp { IfSome stamp (λ s. LiesWithin (length found.old.items) s.extent × (s.number + 1 < 2 ^ 64)) }
+    requires stamp { IfSome stamp
+        (λ s. LiesWithin (length found.old.items) s.extent × (s.number + 1 < 2 ^ 64)) }
     requires packable { IsPackable (Some at) }
     ensures found { IsFoundWith gaps.now found.old.items found.new.items at stamp }
     ensures number { next_number.new ≡ number_above next_number.old stamp }

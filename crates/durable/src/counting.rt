@@ -11,9 +11,11 @@ use std::alloc::{AllocError, Global};
 
 // Counts a sector that is mapped to a block, if the map has an entry for it.
 fn count(counts: &mut Counts, entry: Option<PageAddr>)
-    requires { (b : ℕ) → b < length counts.old → slice_index_or counts.old b 0 + weight b entry < 2 ^ 32 }
+    requires { (b : ℕ) → b < length counts.old
+        → slice_index_or counts.old b 0 + weight b entry < 2 ^ 32 }
     ensures size { length counts.new ≡ length counts.old }
-    ensures counts { (b : ℕ) → b < length counts.old → slice_index_or counts.new b 0 ≡ slice_index_or counts.old b 0 + weight b entry }
+    ensures counts { (b : ℕ) → b < length counts.old
+        → slice_index_or counts.new b 0 ≡ slice_index_or counts.old b 0 + weight b entry }
 {
     if let Some(at) = entry {
         if (at.block as usize) < counts.len() {
@@ -26,7 +28,8 @@ fn count(counts: &mut Counts, entry: Option<PageAddr>)
 fn discount(counts: &mut Counts, entry: Option<PageAddr>)
     requires { (b : ℕ) → b < length counts.old → weight b entry ≤ slice_index_or counts.old b 0 }
     ensures size { length counts.new ≡ length counts.old }
-    ensures counts { (b : ℕ) → b < length counts.old → slice_index_or counts.new b 0 + weight b entry ≡ slice_index_or counts.old b 0 }
+    ensures counts { (b : ℕ) → b < length counts.old
+        → slice_index_or counts.new b 0 + weight b entry ≡ slice_index_or counts.old b 0 }
 {
     if let Some(at) = entry {
         if (at.block as usize) < counts.len() {

@@ -98,9 +98,11 @@ impl Found {
     /// The map of the sectors, with as little as can be in a block. It takes the place of the pages that were found.
     pub fn into_map(self, avoided: u32) -> PackedMap
         ensures size { length result.items ≡ length self.items }
-        ensures entries { (s : ℕ) → s < length self.items → IsEntryOf (slice_index_or self.items s None) (slice_index_or result.items s None) }
+        ensures entries { (s : ℕ) → s < length self.items
+            → IsEntryOf (slice_index_or self.items s None) (slice_index_or result.items s None) }
         ensures free { IsFreeable [] self.items avoided → IsFree result.items avoided }
-        ensures stays { (s : ℕ) (x : Seen) (at : Addr) → s < length self.items → slice_index_or self.items s None ≡ Some x
+        ensures stays { (s : ℕ) (x : Seen) (at : Addr) → s < length self.items
+            → slice_index_or self.items s None ≡ Some x
             → slice_index_or result.items s None ≡ Some at → at ≢ x.at → x.at.block ≡ avoided }
     {
         let mut map = self.pages;
@@ -114,7 +116,9 @@ fn move_out(map: &mut PackedMap, twins: &PackedMap, avoided: u32)
     requires { length twins.now.items ≡ length map.old.items }
     ensures size { length map.new.items ≡ length map.old.items }
     ensures entries { (s : ℕ) → s < length map.old.items
-        → slice_index_or map.new.items s None ≡ outside_of avoided (slice_index_or map.old.items s None) (slice_index_or twins.now.items s None) }
+        → slice_index_or map.new.items s None
+        ≡ outside_of avoided (slice_index_or map.old.items s None)
+        (slice_index_or twins.now.items s None) }
 {
     for s in 0..map.len() {
         if let Some(at) = map.get(s) {

@@ -34,39 +34,58 @@ pub fn extents()
     ensures after { ¬ Covers (record { first = 7; count = 2 }) 9 }
     ensures none { (k : ℕ) → ¬ Covers (record { first = 7; count = 0 }) k }
     ensures one { (k : ℕ) → Covers (sole 7) k → k ≡ 7 }
-    ensures tells { (is_covered (record { first = 7; count = 2 }) 8 ≡ true) × (is_covered (record { first = 7; count = 2 }) 9 ≡ false) }
+    ensures tells { (is_covered (record { first = 7; count = 2 }) 8 ≡ true)
+        × (is_covered (record { first = 7; count = 2 }) 9 ≡ false) }
     ensures within { LiesWithin 9 (record { first = 7; count = 2 }) }
     ensures beyond { ¬ LiesWithin 8 (record { first = 7; count = 2 }) }
     ensures empty { ¬ LiesWithin 9 (record { first = 7; count = 0 }) }
-    ensures changed_first { (array : ℕ → Sector) (v : Sector) → changed array (record { first = 7; count = 2 }) v 7 ≡ v }
-    ensures changed_last { (array : ℕ → Sector) (v : Sector) → changed array (record { first = 7; count = 2 }) v 8 ≡ v }
-    ensures kept_before { (array : ℕ → Sector) (v : Sector) → changed array (record { first = 7; count = 2 }) v 6 ≡ array 6 }
-    ensures kept_after { (array : ℕ → Sector) (v : Sector) → changed array (record { first = 7; count = 2 }) v 9 ≡ array 9 }
-    ensures version { (f : Flash) (v : Sector) → f 1 2 ≡ Version (record { first = 7; count = 2 }) 5 v → HasVersion f 1 2 8 5 v }
-    ensures other { (f : Flash) (v : Sector) → f 1 2 ≡ Version (record { first = 7; count = 2 }) 5 v → ¬ HasVersion f 1 2 9 5 v }
-    ensures number { (f : Flash) (v : Sector) → f 1 2 ≡ Version (record { first = 7; count = 2 }) 5 v → ¬ HasVersion f 1 2 8 6 v }
-    ensures value { (f : Flash) (v w : Sector) → v ≢ w → f 1 2 ≡ Version (record { first = 7; count = 2 }) 5 v → ¬ HasVersion f 1 2 8 5 w }
-    ensures mapped { (old new : List (Option Addr)) (at : Addr) → MapsAll old new (record { first = 0; count = 2 }) at → slice_index_or new 1 None ≡ Some at }
-    ensures others { (old new : List (Option Addr)) (at : Addr) → MapsAll old new (record { first = 0; count = 2 }) at
+    ensures changed_first { (array : ℕ → Sector) (v : Sector)
+        → changed array (record { first = 7; count = 2 }) v 7 ≡ v }
+    ensures changed_last { (array : ℕ → Sector) (v : Sector)
+        → changed array (record { first = 7; count = 2 }) v 8 ≡ v }
+    ensures kept_before { (array : ℕ → Sector) (v : Sector)
+        → changed array (record { first = 7; count = 2 }) v 6 ≡ array 6 }
+    ensures kept_after { (array : ℕ → Sector) (v : Sector)
+        → changed array (record { first = 7; count = 2 }) v 9 ≡ array 9 }
+    ensures version { (f : Flash) (v : Sector)
+        → f 1 2 ≡ Version (record { first = 7; count = 2 }) 5 v → HasVersion f 1 2 8 5 v }
+    ensures other { (f : Flash) (v : Sector)
+        → f 1 2 ≡ Version (record { first = 7; count = 2 }) 5 v → ¬ HasVersion f 1 2 9 5 v }
+    ensures number { (f : Flash) (v : Sector)
+        → f 1 2 ≡ Version (record { first = 7; count = 2 }) 5 v → ¬ HasVersion f 1 2 8 6 v }
+    ensures value { (f : Flash) (v w : Sector) → v ≢ w
+        → f 1 2 ≡ Version (record { first = 7; count = 2 }) 5 v → ¬ HasVersion f 1 2 8 5 w }
+    ensures mapped { (old new : List (Option Addr)) (at : Addr)
+        → MapsAll old new (record { first = 0; count = 2 }) at
+        → slice_index_or new 1 None ≡ Some at }
+    ensures others { (old new : List (Option Addr)) (at : Addr)
+        → MapsAll old new (record { first = 0; count = 2 }) at
         → slice_index_or new 2 None ≡ slice_index_or old 2 None }
-    ensures size { (old new : List (Option Addr)) (at : Addr) → MapsAll old new (record { first = 0; count = 2 }) at → length new ≡ length old }
+    ensures size { (old new : List (Option Addr)) (at : Addr)
+        → MapsAll old new (record { first = 0; count = 2 }) at → length new ≡ length old }
 {}
 
 /// What the array holds after updates, the newest first.
 pub fn arrays()
     ensures new { array_after [] 0 ≡ None }
-    ensures newest { (v w : Sector) → array_after (record { extent = sole 0; value = v } ∷ record { extent = sole 0; value = w } ∷ []) 0 ≡ v }
-    ensures other { (v w : Sector) → array_after (record { extent = sole 1; value = v } ∷ record { extent = sole 0; value = w } ∷ []) 0 ≡ w }
+    ensures newest { (v w : Sector)
+        → array_after
+        (record { extent = sole 0; value = v } ∷ record { extent = sole 0; value = w } ∷ []) 0 ≡ v }
+    ensures other { (v w : Sector)
+        → array_after
+        (record { extent = sole 1; value = v } ∷ record { extent = sole 0; value = w } ∷ []) 0 ≡ w }
     ensures all { (u v : Update) → IsSubsequence (u ∷ v ∷ []) (u ∷ v ∷ []) }
     ensures some { (u v : Update) → IsSubsequence (v ∷ []) (u ∷ v ∷ []) }
     ensures more { (u : Update) → ¬ IsSubsequence (u ∷ []) [] }
     ensures order { (u v : Update) → u ≢ v → ¬ IsSubsequence (u ∷ v ∷ []) (v ∷ u ∷ []) }
-    ensures done { (u : Update) (before after : List Update) → Makes true u before after → after ≡ u ∷ before }
+    ensures done { (u : Update) (before after : List Update)
+        → Makes true u before after → after ≡ u ∷ before }
     ensures before { (u : Update) → Makes false u [] [] }
     ensures after { (u : Update) → Makes false u [] (u ∷ []) }
     ensures no_other { (u v : Update) → u ≢ v → ¬ Makes false u [] (v ∷ []) }
     ensures no_call { (updates : List Update) → AreMade [] updates → updates ≡ [] }
-    ensures in_order { (u v : Update) (updates : List Update) → AreMade ((u, true) ∷ (v, true) ∷ []) updates → updates ≡ u ∷ v ∷ [] }
+    ensures in_order { (u v : Update) (updates : List Update)
+        → AreMade ((u, true) ∷ (v, true) ∷ []) updates → updates ≡ u ∷ v ∷ [] }
     ensures cut_short { (u v : Update) → AreMade ((u, false) ∷ (v, true) ∷ []) (v ∷ []) }
     ensures cut_late { (u v : Update) → AreMade ((u, false) ∷ (v, true) ∷ []) (u ∷ v ∷ []) }
     ensures kept { (u v : Update) → u ≢ v → ¬ AreMade ((u, true) ∷ (v, false) ∷ []) (v ∷ []) }
@@ -74,44 +93,66 @@ pub fn arrays()
 
 /// What is read of a sector with two versions, and of one with none.
 pub fn versions_of_a_sector()
-    ensures newest { (f : Flash) (v w : Sector) → f 0 0 ≡ Version (sole 7) 1 v → f 1 1 ≡ Version (sole 7) 2 w → ¬ HoldsNewest f 7 v 0 0 }
-    ensures other { (f : Flash) (v w : Sector) → f 0 0 ≡ Version (sole 7) 1 v → ¬ HoldsNewest f 8 v 0 0 }
-    ensures value { (f : Flash) (v w : Sector) → v ≢ w → f 0 0 ≡ Version (sole 7) 1 v → ¬ HoldsNewest f 7 w 0 0 }
+    ensures newest { (f : Flash) (v w : Sector) → f 0 0 ≡ Version (sole 7) 1 v
+        → f 1 1 ≡ Version (sole 7) 2 w → ¬ HoldsNewest f 7 v 0 0 }
+    ensures other { (f : Flash) (v w : Sector)
+        → f 0 0 ≡ Version (sole 7) 1 v → ¬ HoldsNewest f 8 v 0 0 }
+    ensures value { (f : Flash) (v w : Sector) → v ≢ w
+        → f 0 0 ≡ Version (sole 7) 1 v → ¬ HoldsNewest f 7 w 0 0 }
     ensures torn { (f : Flash) (v : Sector) → f 0 0 ≡ Torn → ¬ HoldsNewest f 7 v 0 0 }
     ensures erased { (f : Flash) → IsErased f → RecoversSector f 7 None }
     ensures none { (f : Flash) (bytes : List ℕ) → IsErased f → ¬ RecoversSector f 7 (Some bytes) }
-    ensures lost { (f : Flash) (bytes : List ℕ) → HoldsNewest f 7 (Some bytes) 0 0 → ¬ RecoversSector f 7 None }
+    ensures lost { (f : Flash) (bytes : List ℕ)
+        → HoldsNewest f 7 (Some bytes) 0 0 → ¬ RecoversSector f 7 None }
 {}
 
 /// What commands leave, and a power cut inside them.
 pub fn commands()
-    ensures programs { (f t : Flash) (v : Sector) → Completes (command.Program (record { block = 1; page = 2 }) 5) (sole 7) v f t
+    ensures programs { (f t : Flash) (v : Sector)
+        → Completes (command.Program (record { block = 1; page = 2 }) 5) (sole 7) v f t
         → t 1 2 ≡ Version (sole 7) 5 v }
-    ensures other_page { (f t : Flash) (v : Sector) → Completes (command.Program (record { block = 1; page = 2 }) 5) (sole 7) v f t → t 1 3 ≡ f 1 3 }
+    ensures other_page { (f t : Flash) (v : Sector)
+        → Completes (command.Program (record { block = 1; page = 2 }) 5) (sole 7) v f t
+        → t 1 3 ≡ f 1 3 }
     ensures copies { (f t : Flash) (v : Sector)
         → Completes (command.Copy 7 (record { block = 0; page = 4 }) (record { block = 1; page = 2 })) (sole 7) v f t → t 1 2 ≡ f 0 4 }
-    ensures erases { (f t : Flash) (v : Sector) → Completes (command.Erase 1) (sole 7) v f t → t 1 3 ≡ Erased }
-    ensures other_block { (f t : Flash) (v : Sector) → Completes (command.Erase 1) (sole 7) v f t → t 0 3 ≡ f 0 3 }
-    ensures torn { (f t : Flash) (v : Sector) → SetsPage f t 1 2 Torn → CutLeaves (command.Program (record { block = 1; page = 2 }) 5) (sole 7) v f t }
+    ensures erases { (f t : Flash) (v : Sector)
+        → Completes (command.Erase 1) (sole 7) v f t → t 1 3 ≡ Erased }
+    ensures other_block { (f t : Flash) (v : Sector)
+        → Completes (command.Erase 1) (sole 7) v f t → t 0 3 ≡ f 0 3 }
+    ensures torn { (f t : Flash) (v : Sector) → SetsPage f t 1 2 Torn
+        → CutLeaves (command.Program (record { block = 1; page = 2 }) 5) (sole 7) v f t }
     ensures whole { (f t : Flash) (v : Sector) → SetsPage f t 1 2 (Version (sole 7) 5 v)
         → CutLeaves (command.Program (record { block = 1; page = 2 }) 5) (sole 7) v f t }
     ensures torn_copy { (f t : Flash) (v : Sector) → SetsPage f t 1 2 Torn
         → CutLeaves (command.Copy 7 (record { block = 0; page = 4 }) (record { block = 1; page = 2 })) (sole 7) v f t }
     ensures whole_copy { (f t : Flash) (v : Sector) → SetsPage f t 1 2 (f 0 4)
         → CutLeaves (command.Copy 7 (record { block = 0; page = 4 }) (record { block = 1; page = 2 })) (sole 7) v f t }
-    ensures part { (f t : Flash) (v : Sector) → SetsPage f t 1 3 Torn → CutLeaves (command.Erase 1) (sole 7) v f t }
-    ensures erased_part { (f t : Flash) (v : Sector) → SetsPage f t 1 3 Erased → CutLeaves (command.Erase 1) (sole 7) v f t }
-    ensures nothing { (f : Flash) (v : Sector) → CutLeaves (command.Program (record { block = 1; page = 2 }) 5) (sole 7) v f f }
-    ensures no_other { (f t : Flash) (v : Sector) → f 1 3 ≢ t 1 3 → ¬ CutLeaves (command.Program (record { block = 1; page = 2 }) 5) (sole 7) v f t }
-    ensures no_value { (f t : Flash) (v w : Sector) → v ≢ w → f 1 2 ≡ Erased → t 1 2 ≡ Version (sole 7) 5 w
+    ensures part { (f t : Flash) (v : Sector) → SetsPage f t 1 3 Torn
+        → CutLeaves (command.Erase 1) (sole 7) v f t }
+    ensures erased_part { (f t : Flash) (v : Sector) → SetsPage f t 1 3 Erased
+        → CutLeaves (command.Erase 1) (sole 7) v f t }
+    ensures nothing { (f : Flash) (v : Sector)
+        → CutLeaves (command.Program (record { block = 1; page = 2 }) 5) (sole 7) v f f }
+    ensures no_other { (f t : Flash) (v : Sector) → f 1 3 ≢ t 1 3
         → ¬ CutLeaves (command.Program (record { block = 1; page = 2 }) 5) (sole 7) v f t }
-    ensures no_new { (f t : Flash) (v : Sector) → f 1 3 ≡ Torn → t 1 3 ≡ Version (sole 7) 5 v → ¬ CutLeaves (command.Erase 1) (sole 7) v f t }
-    ensures no_beside { (f t : Flash) (v : Sector) → f 0 3 ≡ Version (sole 7) 5 v → t 0 3 ≡ Torn → ¬ CutLeaves (command.Erase 1) (sole 7) v f t }
+    ensures no_value { (f t : Flash) (v w : Sector) → v ≢ w
+        → f 1 2 ≡ Erased → t 1 2 ≡ Version (sole 7) 5 w
+        → ¬ CutLeaves (command.Program (record { block = 1; page = 2 }) 5) (sole 7) v f t }
+    ensures no_new { (f t : Flash) (v : Sector) → f 1 3 ≡ Torn
+        → t 1 3 ≡ Version (sole 7) 5 v → ¬ CutLeaves (command.Erase 1) (sole 7) v f t }
+    ensures no_beside { (f t : Flash) (v : Sector) → f 0 3 ≡ Version (sole 7) 5 v
+        → t 0 3 ≡ Torn → ¬ CutLeaves (command.Erase 1) (sole 7) v f t }
     ensures last { is_program (command.Program (record { block = 1; page = 2 }) 5) ≡ true }
     ensures not_last { is_program (command.Erase 1) ≡ false }
-    ensures added { (u : Update) → updates_with (command.Program (record { block = 1; page = 2 }) 5) u [] ≡ u ∷ [] }
-    ensures not_added { (u : Update) → updates_with (command.Copy 7 (record { block = 0; page = 4 }) (record { block = 1; page = 2 })) u [] ≡ [] }
-    ensures over { (f : Flash) → f 1 2 ≡ Torn → ¬ IsAllowed f (command.Program (record { block = 1; page = 2 }) 5) }
+    ensures added { (u : Update)
+        → updates_with (command.Program (record { block = 1; page = 2 }) 5) u [] ≡ u ∷ [] }
+    ensures not_added { (u : Update)
+        → updates_with
+        (command.Copy 7 (record { block = 0; page = 4 }) (record { block = 1; page = 2 })) u []
+        ≡ [] }
+    ensures over { (f : Flash) → f 1 2 ≡ Torn
+        → ¬ IsAllowed f (command.Program (record { block = 1; page = 2 }) 5) }
     ensures copied_over { (f : Flash) → f 1 2 ≡ Torn
         → ¬ IsAllowed f (command.Copy 7 (record { block = 0; page = 4 }) (record { block = 1; page = 2 })) }
 {}
@@ -122,27 +163,37 @@ pub fn devices()
     ensures full { ¬ HasCapacity 8 3 4 }
     ensures no_blocks { ¬ HasCapacity 0 0 4 }
     ensures no_pages { ¬ HasCapacity 0 3 0 }
-    ensures block { (f : Flash) (v : Sector) → f 3 0 ≡ Version (sole 7) 1 v → ¬ IsWrittenOn (record { blocks = 3; read_blocks = 3; pages = 4; sectors = 8 }) f }
-    ensures page { (f : Flash) (v : Sector) → f 2 4 ≡ Version (sole 7) 1 v → ¬ IsWrittenOn (record { blocks = 3; read_blocks = 3; pages = 4; sectors = 8 }) f }
+    ensures block { (f : Flash) (v : Sector) → f 3 0 ≡ Version (sole 7) 1 v
+        → ¬ IsWrittenOn (record { blocks = 3; read_blocks = 3; pages = 4; sectors = 8 }) f }
+    ensures page { (f : Flash) (v : Sector) → f 2 4 ≡ Version (sole 7) 1 v
+        → ¬ IsWrittenOn (record { blocks = 3; read_blocks = 3; pages = 4; sectors = 8 }) f }
     ensures sector { (f : Flash) (v : Sector) → f 2 3 ≡ Version (sole 8) 1 v
         → ¬ IsWrittenOn (record { blocks = 3; read_blocks = 3; pages = 4; sectors = 8 }) f }
     ensures number { (f : Flash) (v : Sector) → f 2 3 ≡ Version (sole 7) (2 ^ 64 - 1) v
         → ¬ IsWrittenOn (record { blocks = 3; read_blocks = 3; pages = 4; sectors = 8 }) f }
-    ensures erased { (f : Flash) → IsErased f → IsWrittenOn (record { blocks = 3; read_blocks = 3; pages = 4; sectors = 8 }) f }
-    ensures program { ¬ NamesOn (record { blocks = 3; read_blocks = 3; pages = 4; sectors = 8 }) (command.Program (record { block = 3; page = 0 }) 1) }
-    ensures last_page { ¬ NamesOn (record { blocks = 3; read_blocks = 3; pages = 4; sectors = 8 }) (command.Program (record { block = 0; page = 4 }) 1) }
-    ensures erase { ¬ NamesOn (record { blocks = 3; read_blocks = 3; pages = 4; sectors = 8 }) (command.Erase 3) }
+    ensures erased { (f : Flash) → IsErased f
+        → IsWrittenOn (record { blocks = 3; read_blocks = 3; pages = 4; sectors = 8 }) f }
+    ensures program { ¬ NamesOn (record { blocks = 3; read_blocks = 3; pages = 4; sectors = 8 })
+        (command.Program (record { block = 3; page = 0 }) 1) }
+    ensures last_page { ¬ NamesOn (record { blocks = 3; read_blocks = 3; pages = 4; sectors = 8 })
+        (command.Program (record { block = 0; page = 4 }) 1) }
+    ensures erase { ¬ NamesOn
+        (record { blocks = 3; read_blocks = 3; pages = 4; sectors = 8 }) (command.Erase 3) }
     ensures source { ¬ NamesOn (record { blocks = 3; read_blocks = 3; pages = 4; sectors = 8 })
         (command.Copy 7 (record { block = 3; page = 0 }) (record { block = 0; page = 0 })) }
     ensures target { ¬ NamesOn (record { blocks = 3; read_blocks = 3; pages = 4; sectors = 8 })
         (command.Copy 7 (record { block = 0; page = 0 }) (record { block = 0; page = 4 })) }
-    ensures spare { ¬ NamesOn (record { blocks = 3; read_blocks = 5; pages = 4; sectors = 8 }) (command.Program (record { block = 3; page = 0 }) 1) }
-    ensures spare_erased { ¬ NamesOn (record { blocks = 3; read_blocks = 5; pages = 4; sectors = 8 }) (command.Erase 4) }
-    ensures spare_target { ¬ NamesOn (record { blocks = 3; read_blocks = 5; pages = 4; sectors = 8 })
+    ensures spare { ¬ NamesOn (record { blocks = 3; read_blocks = 5; pages = 4; sectors = 8 })
+        (command.Program (record { block = 3; page = 0 }) 1) }
+    ensures spare_erased { ¬ NamesOn
+        (record { blocks = 3; read_blocks = 5; pages = 4; sectors = 8 }) (command.Erase 4) }
+    ensures spare_target { ¬ NamesOn
+        (record { blocks = 3; read_blocks = 5; pages = 4; sectors = 8 })
         (command.Copy 7 (record { block = 0; page = 0 }) (record { block = 3; page = 0 })) }
     ensures bad_source { NamesOn (record { blocks = 3; read_blocks = 5; pages = 4; sectors = 8 })
         (command.Copy 7 (record { block = 4; page = 0 }) (record { block = 2; page = 0 })) }
-    ensures bad_read { IsReadOn (record { blocks = 3; read_blocks = 5; pages = 4; sectors = 8 }) (record { block = 4; page = 3 }) }
+    ensures bad_read { IsReadOn (record { blocks = 3; read_blocks = 5; pages = 4; sectors = 8 })
+        (record { block = 4; page = 3 }) }
     ensures open { IsPageOn 3 4 (Some (record { block = 2; page = 3 })) }
     ensures closed { IsPageOn 3 4 None }
     ensures beyond { ¬ IsPageOn 3 4 (Some (record { block = 3; page = 3 })) }
@@ -151,44 +202,65 @@ pub fn devices()
 
 /// Live pages, and room to collect on 3 blocks of 4 pages.
 pub fn rooms()
-    ensures counted { live_in 2 (Some (record { block = 2; page = 0 }) ∷ None ∷ Some (record { block = 1; page = 0 })
+    ensures counted { live_in 2
+        (Some (record { block = 2; page = 0 }) ∷ None ∷ Some (record { block = 1; page = 0 })
         ∷ Some (record { block = 2; page = 3 }) ∷ []) ≡ 2 }
-    ensures counts { AreLiveCounts (0 ∷ 1 ∷ []) (Some (record { block = 1; page = 0 }) ∷ None ∷ []) }
-    ensures other_count { ¬ AreLiveCounts (0 ∷ 2 ∷ []) (Some (record { block = 1; page = 0 }) ∷ None ∷ []) }
+    ensures counts { AreLiveCounts (0 ∷ 1 ∷ [])
+        (Some (record { block = 1; page = 0 }) ∷ None ∷ []) }
+    ensures other_count { ¬ AreLiveCounts (0 ∷ 2 ∷ [])
+        (Some (record { block = 1; page = 0 }) ∷ None ∷ []) }
     ensures free { IsFree (Some (record { block = 2; page = 0 }) ∷ None ∷ []) 1 }
     ensures used { ¬ IsFree (None ∷ Some (record { block = 2; page = 0 }) ∷ []) 2 }
     ensures spare { CanCollect (Some (record { block = 2; page = 0 }) ∷ []) 3 4 None }
     ensures no_block { ¬ CanCollect [] 0 4 None }
     ensures all_live { ¬ CanCollect (Some (record { block = 0; page = 0 }) ∷ []) 1 4 None }
     ensures alone { ¬ CanCollect [] 1 4 (Some (record { block = 0; page = 0 })) }
-    ensures at_end { ¬ CanCollect (Some (record { block = 1; page = 0 }) ∷ []) 2 4 (Some (record { block = 0; page = 3 })) }
-    ensures before_end { CanCollect (Some (record { block = 1; page = 0 }) ∷ []) 2 4 (Some (record { block = 0; page = 2 })) }
+    ensures at_end { ¬ CanCollect (Some (record { block = 1; page = 0 }) ∷ []) 2 4
+        (Some (record { block = 0; page = 3 })) }
+    ensures before_end { CanCollect (Some (record { block = 1; page = 0 }) ∷ []) 2 4
+        (Some (record { block = 0; page = 2 })) }
 {}
 
 /// Which command comes next, and what it takes of a call.
 pub fn next_commands()
-    ensures number { (core : Layer) (at : Addr) → IsNext core (command.Program at 5) → next_number_of core ≡ 5 }
-    ensures page { (core : Layer) (at : Addr) → IsNext core (command.Program at 5) → next_page_of core ≡ Some at }
-    ensures last_number { (core : Layer) (at : Addr) → ¬ IsNext core (command.Program at (2 ^ 64 - 1)) }
-    ensures spare { (core : Layer) → core.blocks ≡ 1 → ¬ IsNext core (command.Program (record { block = 0; page = 1 }) 5) }
-    ensures open { (core : Layer) (at : Addr) → next_page_of core ≡ Some at → ¬ IsNext core (command.Erase 0) }
+    ensures number { (core : Layer) (at : Addr)
+        → IsNext core (command.Program at 5) → next_number_of core ≡ 5 }
+    ensures page { (core : Layer) (at : Addr)
+        → IsNext core (command.Program at 5) → next_page_of core ≡ Some at }
+    ensures last_number { (core : Layer) (at : Addr)
+        → ¬ IsNext core (command.Program at (2 ^ 64 - 1)) }
+    ensures spare { (core : Layer) → core.blocks ≡ 1
+        → ¬ IsNext core (command.Program (record { block = 0; page = 1 }) 5) }
+    ensures open { (core : Layer) (at : Addr)
+        → next_page_of core ≡ Some at → ¬ IsNext core (command.Erase 0) }
     ensures erase { (core : Layer) → IsNext core (command.Erase 2) → IsFree core.map.items 2 }
-    ensures source { (core : Layer) (from to : Addr) → IsNext core (command.Copy 7 from to) → map_entry core 7 ≡ Some from }
-    ensures target { (core : Layer) (from to : Addr) → IsNext core (command.Copy 7 from to) → next_page_of core ≡ Some to }
-    ensures fewest { (core : Layer) (from to : Addr) → IsNext core (command.Copy 7 from to) → to.block ≡ 0 → 1 < core.blocks
+    ensures source { (core : Layer) (from to : Addr)
+        → IsNext core (command.Copy 7 from to) → map_entry core 7 ≡ Some from }
+    ensures target { (core : Layer) (from to : Addr)
+        → IsNext core (command.Copy 7 from to) → next_page_of core ≡ Some to }
+    ensures fewest { (core : Layer) (from to : Addr)
+        → IsNext core (command.Copy 7 from to) → to.block ≡ 0 → 1 < core.blocks
         → live_in 1 core.map.items + 1 ≡ live_in from.block core.map.items → ⊥ }
     ensures opened { (core : Layer) → next_page_of core ≡ None → left core ≡ core.pages + 1 }
-    ensures part { (core : Layer) → core.pages ≡ 4 → next_page_of core ≡ Some (record { block = 1; page = 3 }) → left core ≡ 1 }
+    ensures part { (core : Layer) → core.pages ≡ 4
+        → next_page_of core ≡ Some (record { block = 1; page = 3 }) → left core ≡ 1 }
     ensures first { Spends (command.Erase 0) 4 5 4 }
     ensures twice { ¬ Spends (command.Erase 0) 4 4 4 }
-    ensures copy { ¬ Spends (command.Copy 7 (record { block = 1; page = 0 }) (record { block = 0; page = 0 })) 4 4 4 }
-    ensures copy_first { ¬ Spends (command.Copy 7 (record { block = 1; page = 0 }) (record { block = 0; page = 0 })) 4 5 4 }
+    ensures copy { ¬ Spends
+        (command.Copy 7 (record { block = 1; page = 0 }) (record { block = 0; page = 0 })) 4 4 4 }
+    ensures copy_first { ¬ Spends
+        (command.Copy 7 (record { block = 1; page = 0 }) (record { block = 0; page = 0 })) 4 5 4 }
     ensures program { ¬ Spends (command.Program (record { block = 1; page = 0 }) 5) 4 0 0 }
     ensures refused { ¬ Spends command.Refused 4 5 4 }
     ensures counted { number_after (command.Program (record { block = 1; page = 0 }) 5) 3 ≡ 6 }
     ensures same { number_after (command.Erase 1) 3 ≡ 3 }
-    ensures goes_on { (at : Addr) → StaysOpen (command.Program (record { block = 1; page = 0 }) 5) 4 (Some at) → at ≡ record { block = 1; page = 1 } }
-    ensures copied { (at : Addr) → StaysOpen (command.Copy 7 (record { block = 1; page = 0 }) (record { block = 2; page = 0 })) 4 (Some at)
+    ensures goes_on { (at : Addr)
+        → StaysOpen (command.Program (record { block = 1; page = 0 }) 5) 4 (Some at)
+        → at ≡ record { block = 1; page = 1 } }
+    ensures copied { (at : Addr)
+        → StaysOpen
+        (command.Copy 7 (record { block = 1; page = 0 }) (record { block = 2; page = 0 })) 4
+        (Some at)
         → at ≡ record { block = 2; page = 1 } }
     ensures begins { ¬ StaysOpen (command.Erase 1) 4 None }
     ensures ends { StaysOpen (command.Program (record { block = 1; page = 3 }) 5) 4 None }
@@ -198,18 +270,28 @@ pub fn next_commands()
 pub fn stamps()
     ensures erased { (f : Flash) → f 1 2 ≡ Erased → IsStampOf f 1 2 None }
     ensures torn { (f : Flash) → f 1 2 ≡ Torn → IsStampOf f 1 2 None }
-    ensures version { (f : Flash) (v : Sector) → f 1 2 ≡ Version (sole 7) 5 v → ¬ IsStampOf f 1 2 None }
-    ensures stamp { (f : Flash) (v : Sector) → f 1 2 ≡ Version (sole 7) 5 v → IsStampOf f 1 2 (Some (record { extent = sole 7; number = 5 })) }
-    ensures other { (f : Flash) (v : Sector) → f 1 2 ≡ Version (sole 7) 5 v → ¬ IsStampOf f 1 2 (Some (record { extent = sole 8; number = 5 })) }
-    ensures number { (f : Flash) (v : Sector) → f 1 2 ≡ Version (sole 7) 5 v → ¬ IsStampOf f 1 2 (Some (record { extent = sole 7; number = 6 })) }
-    ensures not_torn { (f : Flash) → f 1 2 ≡ Torn → ¬ IsStampOf f 1 2 (Some (record { extent = sole 7; number = 5 })) }
-    ensures here { (mount : Reading) → mount.read_blocks ≡ 3 → mount.block ≡ 2 → mount.page ≡ 1 → next_in mount ≡ Some (record { block = 2; page = 1 }) }
-    ensures end { (mount : Reading) → mount.read_blocks ≡ 3 → mount.block ≡ 3 → next_in mount ≡ None }
-    ensures after { (mount : Reading) → mount.read_blocks ≡ 3 → mount.pages ≡ 4 → mount.block ≡ 2 → mount.page ≡ 1
+    ensures version { (f : Flash) (v : Sector)
+        → f 1 2 ≡ Version (sole 7) 5 v → ¬ IsStampOf f 1 2 None }
+    ensures stamp { (f : Flash) (v : Sector) → f 1 2 ≡ Version (sole 7) 5 v
+        → IsStampOf f 1 2 (Some (record { extent = sole 7; number = 5 })) }
+    ensures other { (f : Flash) (v : Sector) → f 1 2 ≡ Version (sole 7) 5 v
+        → ¬ IsStampOf f 1 2 (Some (record { extent = sole 8; number = 5 })) }
+    ensures number { (f : Flash) (v : Sector) → f 1 2 ≡ Version (sole 7) 5 v
+        → ¬ IsStampOf f 1 2 (Some (record { extent = sole 7; number = 6 })) }
+    ensures not_torn { (f : Flash) → f 1 2 ≡ Torn
+        → ¬ IsStampOf f 1 2 (Some (record { extent = sole 7; number = 5 })) }
+    ensures here { (mount : Reading) → mount.read_blocks ≡ 3 → mount.block ≡ 2
+        → mount.page ≡ 1 → next_in mount ≡ Some (record { block = 2; page = 1 }) }
+    ensures end { (mount : Reading) → mount.read_blocks ≡ 3
+        → mount.block ≡ 3 → next_in mount ≡ None }
+    ensures after { (mount : Reading) → mount.read_blocks ≡ 3
+        → mount.pages ≡ 4 → mount.block ≡ 2 → mount.page ≡ 1
         → after_in mount ≡ Some (record { block = 2; page = 2 }) }
-    ensures block { (mount : Reading) → mount.read_blocks ≡ 3 → mount.pages ≡ 4 → mount.block ≡ 1 → mount.page ≡ 3
+    ensures block { (mount : Reading) → mount.read_blocks ≡ 3
+        → mount.pages ≡ 4 → mount.block ≡ 1 → mount.page ≡ 3
         → after_in mount ≡ Some (record { block = 2; page = 0 }) }
-    ensures last { (mount : Reading) → mount.read_blocks ≡ 3 → mount.pages ≡ 4 → mount.block ≡ 2 → mount.page ≡ 3 → after_in mount ≡ None }
+    ensures last { (mount : Reading) → mount.read_blocks ≡ 3 → mount.pages ≡ 4
+        → mount.block ≡ 2 → mount.page ≡ 3 → after_in mount ≡ None }
     ensures above { number_above 5 (Some (record { extent = sole 7; number = 5 })) ≡ 6 }
     ensures below { number_above 9 (Some (record { extent = sole 7; number = 5 })) ≡ 9 }
     ensures no_stamp { number_above 5 None ≡ 5 }
@@ -218,12 +300,15 @@ pub fn stamps()
 /// What was found of sectors, by tables of their pages, numbers and twins, and which pages have places there.
 #[tactic(auto, unfolding(crate::specs::Candidates::candidates_of))]
 pub fn tables_of_candidates()
-    ensures tables { candidates_of (Some (record { block = 1; page = 0 }) ∷ None ∷ []) (5 ∷ 6 ∷ []) (None ∷ Some (record { block = 2; page = 3 }) ∷ [])
+    ensures tables { candidates_of (Some (record { block = 1; page = 0 }) ∷ None ∷ [])
+        (5 ∷ 6 ∷ []) (None ∷ Some (record { block = 2; page = 3 }) ∷ [])
         ≡ Some (record { at = record { block = 1; page = 0 }; number = 5; twin = None }) ∷ None ∷ [] }
-    ensures twin { candidates_of (Some (record { block = 1; page = 0 }) ∷ []) (5 ∷ []) (Some (record { block = 2; page = 3 }) ∷ [])
+    ensures twin { candidates_of (Some (record { block = 1; page = 0 }) ∷ [])
+        (5 ∷ []) (Some (record { block = 2; page = 3 }) ∷ [])
         ≡ Some (record { at = record { block = 1; page = 0 }; number = 5; twin = Some (record { block = 2; page = 3 }) }) ∷ [] }
     ensures nothing { IsPackableVersion None }
-    ensures small { IsPackableVersion (Some (record { at = record { block = 1; page = 0 }; number = 5; twin = None })) }
+    ensures small { IsPackableVersion
+        (Some (record { at = record { block = 1; page = 0 }; number = 5; twin = None })) }
     ensures last { ¬ IsPackableVersion (Some (record { at = record { block = 4294967295; page = 4294967295 }; number = 5; twin = None })) }
     ensures last_twin { ¬ IsPackableVersion (Some (record {
       at = record { block = 1; page = 0 };
@@ -235,38 +320,55 @@ pub fn tables_of_candidates()
 /// What a mount finds of sectors, and which block it can free.
 pub fn candidates()
     ensures none { ¬ IsEntryOf None (Some (record { block = 1; page = 0 })) }
-    ensures found { IsEntryOf (Some (record { at = record { block = 1; page = 0 }; number = 5; twin = None })) (Some (record { block = 1; page = 0 })) }
-    ensures other { ¬ IsEntryOf (Some (record { at = record { block = 1; page = 0 }; number = 5; twin = None })) (Some (record { block = 2; page = 0 })) }
-    ensures lost { ¬ IsEntryOf (Some (record { at = record { block = 1; page = 0 }; number = 5; twin = None })) None }
-    ensures newer { (new : List (Option Seen)) → IsFoundWith [] (None ∷ Some (record { at = record { block = 1; page = 0 }; number = 5; twin = None }) ∷ [])
+    ensures found { IsEntryOf
+        (Some (record { at = record { block = 1; page = 0 }; number = 5; twin = None }))
+        (Some (record { block = 1; page = 0 })) }
+    ensures other { ¬ IsEntryOf
+        (Some (record { at = record { block = 1; page = 0 }; number = 5; twin = None }))
+        (Some (record { block = 2; page = 0 })) }
+    ensures lost { ¬ IsEntryOf
+        (Some (record { at = record { block = 1; page = 0 }; number = 5; twin = None })) None }
+    ensures newer { (new : List (Option Seen))
+        → IsFoundWith []
+        (None ∷ Some (record { at = record { block = 1; page = 0 }; number = 5; twin = None }) ∷ [])
         new (record { block = 2; page = 3 }) (Some (record { extent = record { first = 0; count = 2 }; number = 6 }))
         → new ≡ Some (record { at = record { block = 2; page = 3 }; number = 6; twin = None })
         ∷ Some (record { at = record { block = 2; page = 3 }; number = 6; twin = None }) ∷ [] }
-    ensures older { (new : List (Option Seen)) → IsFoundWith [] (Some (record { at = record { block = 1; page = 0 }; number = 5; twin = None }) ∷ [])
+    ensures older { (new : List (Option Seen))
+        → IsFoundWith []
+        (Some (record { at = record { block = 1; page = 0 }; number = 5; twin = None }) ∷ [])
         new (record { block = 2; page = 3 }) (Some (record { extent = sole 0; number = 4 }))
         → new ≡ Some (record { at = record { block = 1; page = 0 }; number = 5; twin = None }) ∷ [] }
-    ensures twin { (new : List (Option Seen)) → IsFoundWith [] (Some (record { at = record { block = 1; page = 0 }; number = 5; twin = None }) ∷ [])
+    ensures twin { (new : List (Option Seen))
+        → IsFoundWith []
+        (Some (record { at = record { block = 1; page = 0 }; number = 5; twin = None }) ∷ [])
         new (record { block = 2; page = 3 }) (Some (record { extent = sole 0; number = 5 }))
         → new ≡ Some (record { at = record { block = 1; page = 0 }; number = 5; twin = Some (record { block = 2; page = 3 }) }) ∷ [] }
     ensures gap { (new : List (Option Seen)) → IsFoundWith (0 ∷ 1 ∷ [])
         (Some (record { at = record { block = 1; page = 0 }; number = 5; twin = None }) ∷ []) new
         (record { block = 2; page = 3 }) (Some (record { extent = sole 0; number = 5 }))
         → new ≡ Some (record { at = record { block = 2; page = 3 }; number = 5; twin = Some (record { block = 1; page = 0 }) }) ∷ [] }
-    ensures beside { (new : List (Option Seen)) → IsFoundWith [] (None ∷ None ∷ []) new (record { block = 2; page = 3 })
+    ensures beside { (new : List (Option Seen))
+        → IsFoundWith [] (None ∷ None ∷ []) new (record { block = 2; page = 3 })
         (Some (record { extent = sole 0; number = 5 }))
         → new ≡ Some (record { at = record { block = 2; page = 3 }; number = 5; twin = None }) ∷ None ∷ [] }
-    ensures unread { (old new : List (Option Seen)) → IsFoundWith [] old new (record { block = 2; page = 3 }) None → new ≡ old }
+    ensures unread { (old new : List (Option Seen))
+        → IsFoundWith [] old new (record { block = 2; page = 3 }) None → new ≡ old }
     ensures third { with_twin (0 ∷ 0 ∷ 1 ∷ []) (record { at = record { block = 1; page = 0 }; number = 5; twin = Some (record { block = 2; page = 3 }) })
         (record { block = 4; page = 0 })
         ≡ record { at = record { block = 1; page = 0 }; number = 5; twin = Some (record { block = 4; page = 0 }) } }
     ensures second { with_twin (0 ∷ 0 ∷ 0 ∷ []) (record { at = record { block = 1; page = 0 }; number = 5; twin = Some (record { block = 2; page = 3 }) })
         (record { block = 4; page = 0 })
         ≡ record { at = record { block = 1; page = 0 }; number = 5; twin = Some (record { block = 2; page = 3 }) } }
-    ensures within { with_twin [] (record { at = record { block = 1; page = 0 }; number = 5; twin = None }) (record { block = 1; page = 3 })
+    ensures within { with_twin []
+        (record { at = record { block = 1; page = 0 }; number = 5; twin = None })
+        (record { block = 1; page = 3 })
         ≡ record { at = record { block = 1; page = 0 }; number = 5; twin = None } }
     ensures empty { IsFreeable [] [] 1 }
-    ensures alone { ¬ IsFreeable [] (Some (record { at = record { block = 1; page = 0 }; number = 5; twin = None }) ∷ []) 1 }
-    ensures elsewhere { IsFreeable [] (Some (record { at = record { block = 1; page = 0 }; number = 5; twin = None }) ∷ []) 2 }
+    ensures alone { ¬ IsFreeable []
+        (Some (record { at = record { block = 1; page = 0 }; number = 5; twin = None }) ∷ []) 1 }
+    ensures elsewhere { IsFreeable []
+        (Some (record { at = record { block = 1; page = 0 }; number = 5; twin = None }) ∷ []) 2 }
     ensures same_block { ¬ IsFreeable [] (Some (record { at = record { block = 1; page = 0 }; number = 5; twin = Some (record { block = 1; page = 2 }) }) ∷ [])
         1 }
     ensures behind_gap { ¬ IsFreeable (0 ∷ 0 ∷ 1 ∷ [])
@@ -277,50 +379,78 @@ pub fn candidates()
 /// Which pages are gaps, and which gaps are losses.
 pub fn losses()
     ensures erased { (f : Flash) → IsErased f → IsGapless f 1 }
-    ensures gap { (f : Flash) (v : Sector) → f 1 0 ≡ Torn → f 1 1 ≡ Version (sole 7) 5 v → ¬ IsGapless f 1 }
-    ensures erased_gap { (f : Flash) (v : Sector) → f 1 0 ≡ Erased → f 1 1 ≡ Version (sole 7) 5 v → ¬ IsGapless f 1 }
-    ensures counted { (f : Flash) (v : Sector) → f 1 0 ≡ Torn → f 1 1 ≡ Version (sole 7) 5 v → gaps_before f 1 2 ≡ 1 }
-    ensures torn_last { (f : Flash) (v : Sector) → f 1 0 ≡ Version (sole 7) 5 v → f 1 1 ≡ Torn → gaps_before f 1 2 ≡ 0 }
-    ensures versions { (f : Flash) (v : Sector) → f 1 0 ≡ Torn → f 1 1 ≡ Version (sole 7) 5 v → versions_before f 1 2 ≡ 1 }
-    ensures noted { gaps_noted (0 ∷ 0 ∷ []) 1 3 1 (Some (record { extent = sole 7; number = 5 })) ≡ 0 ∷ 2 ∷ [] }
+    ensures gap { (f : Flash) (v : Sector) → f 1 0 ≡ Torn
+        → f 1 1 ≡ Version (sole 7) 5 v → ¬ IsGapless f 1 }
+    ensures erased_gap { (f : Flash) (v : Sector) → f 1 0 ≡ Erased
+        → f 1 1 ≡ Version (sole 7) 5 v → ¬ IsGapless f 1 }
+    ensures counted { (f : Flash) (v : Sector) → f 1 0 ≡ Torn
+        → f 1 1 ≡ Version (sole 7) 5 v → gaps_before f 1 2 ≡ 1 }
+    ensures torn_last { (f : Flash) (v : Sector)
+        → f 1 0 ≡ Version (sole 7) 5 v → f 1 1 ≡ Torn → gaps_before f 1 2 ≡ 0 }
+    ensures versions { (f : Flash) (v : Sector) → f 1 0 ≡ Torn
+        → f 1 1 ≡ Version (sole 7) 5 v → versions_before f 1 2 ≡ 1 }
+    ensures noted { gaps_noted (0 ∷ 0 ∷ []) 1 3 1 (Some (record { extent = sole 7; number = 5 }))
+        ≡ 0 ∷ 2 ∷ [] }
     ensures not_noted { gaps_noted (0 ∷ 4 ∷ []) 1 3 1 None ≡ 0 ∷ 4 ∷ [] }
     ensures one_more { versions_noted 1 (Some (record { extent = sole 7; number = 5 })) ≡ 2 }
     ensures as_many { versions_noted 1 None ≡ 1 }
     ensures new { (f : Flash) → IsErased f → HasNoLoss f 8 }
-    ensures lost { (f : Flash) (v : Sector) → f 1 0 ≡ Torn → HoldsNewest f 7 v 1 1 → ((d q : ℕ) → HoldsNewest f 7 v d q → d ≡ 1)
+    ensures lost { (f : Flash) (v : Sector) → f 1 0 ≡ Torn
+        → HoldsNewest f 7 v 1 1 → ((d q : ℕ) → HoldsNewest f 7 v d q → d ≡ 1)
         → ((d q : ℕ) (w : Sector) → HoldsNewest f 7 w d q → w ≡ v) → ¬ HasNoLoss f 8 }
-    ensures elsewhere { (f : Flash) (s : ℕ) (v : Sector) → HasNoLoss f 8 → s < 8 → HoldsNewest f s v 1 1
+    ensures elsewhere { (f : Flash) (s : ℕ) (v : Sector)
+        → HasNoLoss f 8 → s < 8 → HoldsNewest f s v 1 1
         → (d : ℕ) × (q : ℕ) × (w : Sector) × IsGapless f d × HoldsNewest f s w d q }
-    ensures in_use { losses_in (Some (record { at = record { block = 1; page = 1 }; number = 5; twin = None }) ∷ []) (3 ∷ 2 ∷ []) 2 ≡ 2 }
+    ensures in_use { losses_in
+        (Some (record { at = record { block = 1; page = 1 }; number = 5; twin = None }) ∷ [])
+        (3 ∷ 2 ∷ []) 2 ≡ 2 }
     ensures unused { losses_in (None ∷ []) (3 ∷ 2 ∷ []) 2 ≡ 0 }
-    ensures tells { (mount : Reading) (core : Layer) (f : Flash) → TellsLosses mount core → HasNoted f mount → IsWrittenOn (device_in mount) f
+    ensures tells { (mount : Reading) (core : Layer) (f : Flash)
+        → TellsLosses mount core → HasNoted f mount → IsWrittenOn (device_in mount) f
         → ¬ HasNoLoss f (device_in mount).sectors → core.losses ≢ 0 }
-    ensures quiet { (mount : Reading) (core : Layer) (f : Flash) (acked begun : List Update) → TellsNoFalseLoss mount core → HasNoted f mount
-        → IsReadable f (device_in mount) acked begun → HasNoLoss f (device_in mount).sectors → core.losses ≡ 0 }
+    ensures quiet { (mount : Reading) (core : Layer) (f : Flash) (acked begun : List Update)
+        → TellsNoFalseLoss mount core → HasNoted f mount
+        → IsReadable f (device_in mount) acked begun
+        → HasNoLoss f (device_in mount).sectors → core.losses ≡ 0 }
 {}
 
 /// What keeps a loss from being told where no page was lost.
 pub fn unharmed()
-    ensures spare { (f : Flash) (device : Device) → IsUnharmed f device → (b : ℕ) × (b < device.blocks) × IsSafelyDuplicated f device.sectors b }
-    ensures no_loss { (f : Flash) (device : Device) → IsUnharmed f device → HasNoLoss f device.sectors }
-    ensures alone { (f : Flash) (v : Sector) → HoldsNewest f 7 v 1 1 → ((d q : ℕ) (w : Sector) → HoldsNewest f 7 w d q → d ≡ 1)
+    ensures spare { (f : Flash) (device : Device) → IsUnharmed f device
+        → (b : ℕ) × (b < device.blocks) × IsSafelyDuplicated f device.sectors b }
+    ensures no_loss { (f : Flash) (device : Device)
+        → IsUnharmed f device → HasNoLoss f device.sectors }
+    ensures alone { (f : Flash) (v : Sector) → HoldsNewest f 7 v 1 1
+        → ((d q : ℕ) (w : Sector) → HoldsNewest f 7 w d q → d ≡ 1)
         → ¬ IsSafelyDuplicated f 8 1 }
-    ensures mapped { (f : Flash) (layer : Layer) → KeepsWhole f layer → 7 < length layer.map.items → map_entry layer 7 ≡ Some (record { block = 1; page = 1 })
+    ensures mapped { (f : Flash) (layer : Layer) → KeepsWhole f layer
+        → 7 < length layer.map.items → map_entry layer 7 ≡ Some (record { block = 1; page = 1 })
         → IsGapless f 1 }
-    ensures full { (f : Flash) (layer : Layer) → KeepsWhole f layer → layer.next_page ≡ Some (record { block = 1; page = 2 }) → f 1 1 ≢ Torn }
-    ensures spared { (f : Flash) (layer : Layer) → KeepsWhole f layer → layer.next_page ≡ None → (b : ℕ) × (b < layer.blocks) × IsFree layer.map.items b }
+    ensures full { (f : Flash) (layer : Layer) → KeepsWhole f layer
+        → layer.next_page ≡ Some (record { block = 1; page = 2 }) → f 1 1 ≢ Torn }
+    ensures spared { (f : Flash) (layer : Layer) → KeepsWhole f layer
+        → layer.next_page ≡ None → (b : ℕ) × (b < layer.blocks) × IsFree layer.map.items b }
     ensures mounted { (f : Flash) (layer : Layer) (acked begun : List Update) (from : IsMountedWhole f layer) → IsReadable f (device_in from.0) acked begun
         → IsUnharmed f (device_in from.0) → KeepsWhole f layer × (layer.losses ≡ 0) }
-    ensures first { (f : Flash) (layer : Layer) → RunsWhole [] f layer → IsErased f × IsMountedWhole f layer }
-    ensures done { (events : List Event) (t : Flash) (new : Layer) (u : Update) → RunsWhole (Completed u (command.Erase 1) ∷ events) t new
-        → (f : Flash) × (old : Layer) × RunsWhole events f old × StaysWhole old u.extent (command.Erase 1) new × (losses_of new ≡ losses_of old) }
-    ensures failed { (events : List Event) (t : Flash) (new : Layer) (u : Update) → RunsWhole (Failed u (command.Erase 1) ∷ events) t new
-        → (f : Flash) × (old : Layer) × RunsWhole events f old × CutsUnharmed old u.extent (command.Erase 1) × IsMountedWhole t new
+    ensures first { (f : Flash) (layer : Layer)
+        → RunsWhole [] f layer → IsErased f × IsMountedWhole f layer }
+    ensures done { (events : List Event) (t : Flash) (new : Layer) (u : Update)
+        → RunsWhole (Completed u (command.Erase 1) ∷ events) t new
+        → (f : Flash) × (old : Layer) × RunsWhole events f old
+        × StaysWhole old u.extent (command.Erase 1) new × (losses_of new ≡ losses_of old) }
+    ensures failed { (events : List Event) (t : Flash) (new : Layer) (u : Update)
+        → RunsWhole (Failed u (command.Erase 1) ∷ events) t new
+        → (f : Flash) × (old : Layer) × RunsWhole events f old
+        × CutsUnharmed old u.extent (command.Erase 1) × IsMountedWhole t new
         × HasVersionlessBlock t (device_of new) }
-    ensures inside { (events : List Event) (t : Flash) (new : Layer) (u : Update) → RunsWhole (CutInside u (command.Erase 1) ∷ events) t new
-        → (f : Flash) × (old : Layer) × RunsWhole events f old × CutsUnharmed old u.extent (command.Erase 1) × IsMountedWhole t new }
-    ensures idle { (events : List Event) (t : Flash) (new : Layer) → RunsWhole (CutBetween ∷ events) t new
-        → (f : Flash) × (old : Layer) × RunsWhole events f old × CutsIdleUnharmed old × IsMountedWhole t new }
+    ensures inside { (events : List Event) (t : Flash) (new : Layer) (u : Update)
+        → RunsWhole (CutInside u (command.Erase 1) ∷ events) t new
+        → (f : Flash) × (old : Layer) × RunsWhole events f old
+        × CutsUnharmed old u.extent (command.Erase 1) × IsMountedWhole t new }
+    ensures idle { (events : List Event) (t : Flash) (new : Layer)
+        → RunsWhole (CutBetween ∷ events) t new
+        → (f : Flash) × (old : Layer) × RunsWhole events f old
+        × CutsIdleUnharmed old × IsMountedWhole t new }
 {}
 
 /// What the promise says of an erased flash, and of one with a version that nobody began.
@@ -328,51 +458,75 @@ pub fn promises()
     ensures nothing { (f : Flash) → IsErased f → KeepsAcknowledged f 8 [] [] }
     ensures lost { (f : Flash) (bytes : List ℕ) → IsErased f
         → ¬ KeepsAcknowledged f 8 (record { extent = sole 7; value = Some bytes } ∷ []) (record { extent = sole 7; value = Some bytes } ∷ []) }
-    ensures not_begun { (f : Flash) (bytes : List ℕ) → HoldsNewest f 7 (Some bytes) 0 0 → ¬ KeepsAcknowledged f 8 [] [] }
-    ensures keeps { (f : Flash) (device : Device) (acked begun : List Update) → IsRecoverable f device acked begun
+    ensures not_begun { (f : Flash) (bytes : List ℕ)
+        → HoldsNewest f 7 (Some bytes) 0 0 → ¬ KeepsAcknowledged f 8 [] [] }
+    ensures keeps { (f : Flash) (device : Device) (acked begun : List Update)
+        → IsRecoverable f device acked begun
         → KeepsAcknowledged f device.sectors acked begun }
-    ensures written { (f : Flash) (device : Device) (acked begun : List Update) → IsRecoverable f device acked begun → IsWrittenOn device f }
-    ensures frees { (f : Flash) (acked begun : List Update) → ¬ IsRecoverable f (record { blocks = 0; read_blocks = 0; pages = 4; sectors = 8 }) acked begun }
-    ensures number { (f : Flash) (core : Layer) (v : Sector) (acked begun : List Update) → IsConsistent f core acked begun → f 0 0 ≡ Version (sole 7) 5 v
+    ensures written { (f : Flash) (device : Device) (acked begun : List Update)
+        → IsRecoverable f device acked begun → IsWrittenOn device f }
+    ensures frees { (f : Flash) (acked begun : List Update)
+        → ¬ IsRecoverable f
+        (record { blocks = 0; read_blocks = 0; pages = 4; sectors = 8 }) acked begun }
+    ensures number { (f : Flash) (core : Layer) (v : Sector) (acked begun : List Update)
+        → IsConsistent f core acked begun → f 0 0 ≡ Version (sole 7) 5 v
         → 5 < next_number_of core }
-    ensures open { (f : Flash) (core : Layer) (acked begun : List Update) → IsConsistent f core acked begun
+    ensures open { (f : Flash) (core : Layer) (acked begun : List Update)
+        → IsConsistent f core acked begun
         → next_page_of core ≡ Some (record { block = 1; page = 2 }) → f 1 3 ≡ Erased }
-    ensures on_device { (f : Flash) (core : Layer) (v : Sector) (acked begun : List Update) → IsConsistent f core acked begun → f 3 0 ≡ Version (sole 7) 5 v
+    ensures on_device { (f : Flash) (core : Layer) (v : Sector) (acked begun : List Update)
+        → IsConsistent f core acked begun → f 3 0 ≡ Version (sole 7) 5 v
         → 3 < (device_of core).read_blocks }
-    ensures safe { (f : Flash) (core : Layer) (acked begun : List Update) → IsConsistent f core acked begun
+    ensures safe { (f : Flash) (core : Layer) (acked begun : List Update)
+        → IsConsistent f core acked begun
         → IsSafe core (command.Program (record { block = 1; page = 2 }) 5) → f 1 2 ≡ Erased }
-    ensures off_device { (f : Flash) (core : Layer) (acked begun : List Update) → IsConsistent f core acked begun → core.blocks ≡ 3
+    ensures off_device { (f : Flash) (core : Layer) (acked begun : List Update)
+        → IsConsistent f core acked begun → core.blocks ≡ 3
         → ¬ IsSafe core (command.Erase 3) }
-    ensures cut { (f : Flash) (core : Layer) (acked begun : List Update) → IsConsistent f core acked begun → SurvivesCut core (sole 7) command.Refused
+    ensures cut { (f : Flash) (core : Layer) (acked begun : List Update)
+        → IsConsistent f core acked begun → SurvivesCut core (sole 7) command.Refused
         → IsRecoverable f (device_of core) acked (record { extent = sole 7; value = None } ∷ begun) }
-    ensures idle { (f : Flash) (core : Layer) (acked begun : List Update) → IsConsistent f core acked begun → SurvivesIdleCut core
+    ensures idle { (f : Flash) (core : Layer) (acked begun : List Update)
+        → IsConsistent f core acked begun → SurvivesIdleCut core
         → IsRecoverable f (device_of core) acked begun }
-    ensures refused { (f : Flash) (old new : Layer) (acked begun : List Update) → IsConsistent f old acked begun → Acknowledges old (sole 7) command.Refused new
+    ensures refused { (f : Flash) (old new : Layer) (acked begun : List Update)
+        → IsConsistent f old acked begun → Acknowledges old (sole 7) command.Refused new
         → IsConsistent f new acked begun }
-    ensures programmed { (f t : Flash) (v : Sector) (old new : Layer) (acked begun : List Update) → IsConsistent f old acked begun
+    ensures programmed { (f t : Flash) (v : Sector) (old new : Layer) (acked begun : List Update)
+        → IsConsistent f old acked begun
         → Acknowledges old (sole 7) (command.Program (record { block = 1; page = 2 }) 5) new
         → Completes (command.Program (record { block = 1; page = 2 }) 5) (sole 7) v f t
         → IsConsistent t new (record { extent = sole 7; value = v } ∷ acked) (record { extent = sole 7; value = v } ∷ begun) }
-    ensures noted { (f : Flash) (mount : Reading) (v : Sector) → HasNoted f mount → f 0 0 ≡ Version (sole 7) 5 v → 0 < mount.block → 5 < mount.next_number }
-    ensures remounts { (f : Flash) (mount : Reading) (core : Layer) (acked begun : List Update) → Remounts mount core → HasNoted f mount
+    ensures noted { (f : Flash) (mount : Reading) (v : Sector) → HasNoted f mount
+        → f 0 0 ≡ Version (sole 7) 5 v → 0 < mount.block → 5 < mount.next_number }
+    ensures remounts { (f : Flash) (mount : Reading) (core : Layer) (acked begun : List Update)
+        → Remounts mount core → HasNoted f mount
         → IsReadable f (device_in mount) acked begun → IsConsistent f core acked begun }
-    ensures reads { (f : Flash) (device : Device) (acked begun : List Update) → IsReadable f device acked begun
+    ensures reads { (f : Flash) (device : Device) (acked begun : List Update)
+        → IsReadable f device acked begun
         → KeepsAcknowledged f device.sectors acked begun }
-    ensures read_written { (f : Flash) (device : Device) (acked begun : List Update) → IsReadable f device acked begun → IsWrittenOn device f }
-    ensures readable { (f : Flash) (device : Device) (acked begun : List Update) → KeepsAcknowledged f device.sectors acked begun
+    ensures read_written { (f : Flash) (device : Device) (acked begun : List Update)
+        → IsReadable f device acked begun → IsWrittenOn device f }
+    ensures readable { (f : Flash) (device : Device) (acked begun : List Update)
+        → KeepsAcknowledged f device.sectors acked begun
         → IsWrittenOn device f → IsReadable f device acked begun }
 {}
 
 /// Blocks that are numbered anew, and blocks without versions.
 pub fn failures()
     ensures same { (f : Flash) → IsRenumbered f f 3 }
-    ensures lost { (f t : Flash) (v : Sector) → f 0 1 ≡ Version (sole 7) 5 v → IsErased t → ¬ IsRenumbered f t 3 }
-    ensures grown { (f t : Flash) (v : Sector) → IsErased f → t 0 1 ≡ Version (sole 7) 5 v → ¬ IsRenumbered f t 3 }
+    ensures lost { (f t : Flash) (v : Sector)
+        → f 0 1 ≡ Version (sole 7) 5 v → IsErased t → ¬ IsRenumbered f t 3 }
+    ensures grown { (f t : Flash) (v : Sector) → IsErased f
+        → t 0 1 ≡ Version (sole 7) 5 v → ¬ IsRenumbered f t 3 }
     ensures within { (f t : Flash) (anew : IsRenumbered f t 3) → anew.to 2 < 3 }
-    ensures blank { (f : Flash) → IsErased f → HasVersionlessBlock f (record { blocks = 3; read_blocks = 5; pages = 4; sectors = 8 }) }
+    ensures blank { (f : Flash) → IsErased f
+        → HasVersionlessBlock f (record { blocks = 3; read_blocks = 5; pages = 4; sectors = 8 }) }
     ensures torn { (f : Flash) → ((p : ℕ) → f 1 p ≡ Torn) → HoldsNoVersion f 1 }
-    ensures version { (f : Flash) (v : Sector) → f 1 2 ≡ Version (sole 7) 5 v → ¬ HoldsNoVersion f 1 }
-    ensures not_used { (f : Flash) → ¬ HasVersionlessBlock f (record { blocks = 0; read_blocks = 5; pages = 4; sectors = 8 }) }
+    ensures version { (f : Flash) (v : Sector)
+        → f 1 2 ≡ Version (sole 7) 5 v → ¬ HoldsNoVersion f 1 }
+    ensures not_used { (f : Flash)
+        → ¬ HasVersionlessBlock f (record { blocks = 0; read_blocks = 5; pages = 4; sectors = 8 }) }
     ensures fewer { IsSameFlashOf
         (record { blocks = 5; read_blocks = 5; pages = 4; sectors = 8 }) (record { blocks = 4; read_blocks = 5; pages = 4; sectors = 8 }) }
     ensures unread { ¬ IsSameFlashOf
@@ -384,67 +538,119 @@ pub fn failures()
     ensures swapped_blocks { (f t : Flash) → IsSwapped f t 1 5 → (t 5 2 ≡ f 1 2) × (t 1 2 ≡ f 5 2) }
     ensures other_block { (f t : Flash) → IsSwapped f t 1 5 → t 3 2 ≡ f 3 2 }
     ensures numbers { (swapped 1 5 1 ≡ 5) × (swapped 1 5 5 ≡ 1) × (swapped 1 5 3 ≡ 3) }
-    ensures programmed { (b : ℕ) → Changes (command.Program (record { block = 1; page = 2 }) 5) b → b ≡ 1 }
-    ensures copied { (b : ℕ) → Changes (command.Copy 7 (record { block = 0; page = 4 }) (record { block = 1; page = 2 })) b → b ≡ 1 }
+    ensures programmed { (b : ℕ)
+        → Changes (command.Program (record { block = 1; page = 2 }) 5) b → b ≡ 1 }
+    ensures copied { (b : ℕ)
+        → Changes
+        (command.Copy 7 (record { block = 0; page = 4 }) (record { block = 1; page = 2 })) b
+        → b ≡ 1 }
     ensures wiped { (b : ℕ) → Changes (command.Erase 1) b → b ≡ 1 }
-    ensures changed { Changes (command.Program (record { block = 1; page = 2 }) 5) 1 × Changes (command.Erase 1) 1 }
+    ensures changed { Changes (command.Program (record { block = 1; page = 2 }) 5) 1
+        × Changes (command.Erase 1) 1 }
     ensures nothing { (b : ℕ) → ¬ Changes command.Refused b }
 {}
 
 /// Which updates of a run are acknowledged, and which were begun.
 pub fn runs()
-    ensures acknowledged { (u : Update) → acknowledged_in (Completed u (command.Program (record { block = 1; page = 2 }) 5) ∷ []) ≡ u ∷ [] }
+    ensures acknowledged { (u : Update)
+        → acknowledged_in (Completed u (command.Program (record { block = 1; page = 2 }) 5) ∷ [])
+        ≡ u ∷ [] }
     ensures not_yet { (u : Update) → acknowledged_in (Completed u (command.Erase 1) ∷ []) ≡ [] }
-    ensures cut { (u : Update) → acknowledged_in (CutInside u (command.Program (record { block = 1; page = 2 }) 5) ∷ []) ≡ [] }
+    ensures cut { (u : Update)
+        → acknowledged_in (CutInside u (command.Program (record { block = 1; page = 2 }) 5) ∷ [])
+        ≡ [] }
     ensures begun { (u : Update) → begun_in (CutInside u (command.Erase 1) ∷ []) ≡ u ∷ [] }
-    ensures failed { (u : Update) → acknowledged_in (Failed u (command.Program (record { block = 1; page = 2 }) 5) ∷ []) ≡ [] }
+    ensures failed { (u : Update)
+        → acknowledged_in (Failed u (command.Program (record { block = 1; page = 2 }) 5) ∷ [])
+        ≡ [] }
     ensures failed_begun { (u : Update) → begun_in (Failed u (command.Erase 1) ∷ []) ≡ u ∷ [] }
-    ensures completed { (u : Update) → begun_in (Completed u (command.Program (record { block = 1; page = 2 }) 5) ∷ CutBetween ∷ []) ≡ u ∷ [] }
+    ensures completed { (u : Update)
+        → begun_in
+        (Completed u (command.Program (record { block = 1; page = 2 }) 5) ∷ CutBetween ∷ [])
+        ≡ u ∷ [] }
     ensures erased { (f : Flash) (core : Layer) → Runs [] f core → IsErased f }
-    ensures inside { (events : List Event) (f t : Flash) (old new : Layer) (u : Update) → Runs events f old
-        → SurvivesCut old u.extent (command.Erase 1) → CutLeaves (command.Erase 1) u.extent u.value f t → IsMountedFrom t new
+    ensures inside { (events : List Event) (f t : Flash) (old new : Layer) (u : Update)
+        → Runs events f old
+        → SurvivesCut old u.extent (command.Erase 1)
+        → CutLeaves (command.Erase 1) u.extent u.value f t → IsMountedFrom t new
         → device_of new ≡ device_of old → Runs (CutInside u (command.Erase 1) ∷ events) t new }
-    ensures numbered_anew { (events : List Event) (f left t : Flash) (old new : Layer) (u : Update) → Runs events f old
-        → SurvivesCut old u.extent (command.Erase 1) → CutLeaves (command.Erase 1) u.extent u.value f left → IsRenumbered left t (device_of old).read_blocks
-        → IsMountedFrom t new → IsSameFlashOf (device_of old) (device_of new) → Runs (Failed u (command.Erase 1) ∷ events) t new }
-    ensures idle { (events : List Event) (f : Flash) (old new : Layer) → Runs events f old → IsMountedFrom f new → device_of new ≡ device_of old
+    ensures numbered_anew { (events : List Event) (f left t : Flash) (old new : Layer) (u : Update)
+        → Runs events f old
+        → SurvivesCut old u.extent (command.Erase 1)
+        → CutLeaves (command.Erase 1) u.extent u.value f left
+        → IsRenumbered left t (device_of old).read_blocks
+        → IsMountedFrom t new → IsSameFlashOf (device_of old) (device_of new)
+        → Runs (Failed u (command.Erase 1) ∷ events) t new }
+    ensures idle { (events : List Event) (f : Flash) (old new : Layer)
+        → Runs events f old → IsMountedFrom f new → device_of new ≡ device_of old
         → Runs (CutBetween ∷ events) f new }
-    ensures done { (events : List Event) (f t : Flash) (old new : Layer) (u : Update) → Runs events f old
-        → Completes (command.Erase 1) u.extent u.value f t → Acknowledges old u.extent (command.Erase 1) new → device_of new ≡ device_of old
+    ensures done { (events : List Event) (f t : Flash) (old new : Layer) (u : Update)
+        → Runs events f old
+        → Completes (command.Erase 1) u.extent u.value f t
+        → Acknowledges old u.extent (command.Erase 1) new → device_of new ≡ device_of old
         → Runs (Completed u (command.Erase 1) ∷ events) t new }
-    ensures between { (t : Flash) (new : Layer) → Runs (CutBetween ∷ []) t new → (b p : ℕ) → t b p ≡ Erased }
-    ensures mounted { (f : Flash) (core : Layer) (acked begun : List Update) → IsMountedFrom f core → IsReadable f (device_of core) acked begun
+    ensures between { (t : Flash) (new : Layer)
+        → Runs (CutBetween ∷ []) t new → (b p : ℕ) → t b p ≡ Erased }
+    ensures mounted { (f : Flash) (core : Layer) (acked begun : List Update)
+        → IsMountedFrom f core → IsReadable f (device_of core) acked begun
         → IsConsistent f core acked begun }
-    ensures failed_erase { (t : Flash) (new : Layer) (u : Update) → Runs (Failed u (command.Erase 1) ∷ []) t new
+    ensures failed_erase { (t : Flash) (new : Layer) (u : Update)
+        → Runs (Failed u (command.Erase 1) ∷ []) t new
         → (b p : ℕ) (e : Sectors) (m : ℕ) (v : Sector) → t b p ≢ Version e m v }
-    ensures failed_chosen { (events : List Event) (t : Flash) (new : Layer) (u : Update) → Runs (Failed u (command.Erase 1) ∷ events) t new
-        → (f : Flash) × (old : Layer) × Runs events f old × SurvivesCut old u.extent (command.Erase 1) }
-    ensures failed_mounted { (events : List Event) (t : Flash) (new : Layer) (u : Update) → Runs (Failed u (command.Erase 1) ∷ events) t new
+    ensures failed_chosen { (events : List Event) (t : Flash) (new : Layer) (u : Update)
+        → Runs (Failed u (command.Erase 1) ∷ events) t new
+        → (f : Flash) × (old : Layer) × Runs events f old
+        × SurvivesCut old u.extent (command.Erase 1) }
+    ensures failed_mounted { (events : List Event) (t : Flash) (new : Layer) (u : Update)
+        → Runs (Failed u (command.Erase 1) ∷ events) t new
         → IsMountedFrom t new }
-    ensures failed_same { (events : List Event) (t : Flash) (new : Layer) (u : Update) → Runs (Failed u (command.Erase 1) ∷ events) t new
-        → (f : Flash) × (old : Layer) × Runs events f old × IsSameFlashOf (device_of old) (device_of new) }
-    ensures call { (u v : Update) → outcomes_in (Completed u (command.Program (record { block = 1; page = 2 }) 5) ∷ Failed v (command.Erase 1) ∷ [])
+    ensures failed_same { (events : List Event) (t : Flash) (new : Layer) (u : Update)
+        → Runs (Failed u (command.Erase 1) ∷ events) t new
+        → (f : Flash) × (old : Layer) × Runs events f old
+        × IsSameFlashOf (device_of old) (device_of new) }
+    ensures call { (u v : Update)
+        → outcomes_in
+        (Completed u (command.Program (record { block = 1; page = 2 }) 5) ∷ Failed v
+        (command.Erase 1) ∷ [])
         ≡ (u, true) ∷ (v, false) ∷ [] }
-    ensures no_call { (u : Update) → outcomes_in (Completed u (command.Erase 1) ∷ CutBetween ∷ []) ≡ [] }
-    ensures cut_call { (u : Update) → outcomes_in (CutInside u (command.Program (record { block = 1; page = 2 }) 5) ∷ []) ≡ (u, false) ∷ [] }
-    ensures counted { (u : Update) → failures_in (Failed u (command.Erase 1) ∷ Completed u (command.Erase 1) ∷ Failed u (command.Erase 2) ∷ []) ≡ 2 }
-    ensures not_counted { (u : Update) → failures_in (CutInside u (command.Erase 1) ∷ CutBetween ∷ []) ≡ 0 }
+    ensures no_call { (u : Update)
+        → outcomes_in (Completed u (command.Erase 1) ∷ CutBetween ∷ []) ≡ [] }
+    ensures cut_call { (u : Update)
+        → outcomes_in (CutInside u (command.Program (record { block = 1; page = 2 }) 5) ∷ [])
+        ≡ (u, false) ∷ [] }
+    ensures counted { (u : Update)
+        → failures_in
+        (Failed u (command.Erase 1) ∷ Completed u
+        (command.Erase 1) ∷ Failed u (command.Erase 2) ∷ []) ≡ 2 }
+    ensures not_counted { (u : Update)
+        → failures_in (CutInside u (command.Erase 1) ∷ CutBetween ∷ []) ≡ 0 }
 {}
 
 /// Runs on a device that keeps a reserve.
 pub fn reserves()
     ensures first { (f : Flash) (core : Layer) → RunsOnReserve [] f core → IsErased f }
-    ensures replaced { (events : List Event) (t : Flash) (new : Layer) (u : Update) → RunsOnReserve (Failed u (command.Erase 1) ∷ events) t new
-        → (f left : Flash) × (old : Layer) × RunsOnReserve events f old × CutLeaves (command.Erase 1) u.extent u.value f left
-        × IsSwapped left t 1 (old.blocks + failures_in events) × IsMountedFrom t new × (device_of new ≡ device_of old) }
-    ensures replaces { (events : List Event) (f left t : Flash) (old new : Layer) (u : Update) → RunsOnReserve events f old → IsSafe old (command.Erase 1)
-        → SurvivesCut old u.extent (command.Erase 1) → CutLeaves (command.Erase 1) u.extent u.value f left
-        → IsSwapped left t 1 (old.blocks + failures_in events) → IsMountedFrom t new → device_of new ≡ device_of old
+    ensures replaced { (events : List Event) (t : Flash) (new : Layer) (u : Update)
+        → RunsOnReserve (Failed u (command.Erase 1) ∷ events) t new
+        → (f left : Flash) × (old : Layer) × RunsOnReserve events f old
+        × CutLeaves (command.Erase 1) u.extent u.value f left
+        × IsSwapped left t 1 (old.blocks + failures_in events)
+        × IsMountedFrom t new × (device_of new ≡ device_of old) }
+    ensures replaces { (events : List Event) (f left t : Flash) (old new : Layer) (u : Update)
+        → RunsOnReserve events f old → IsSafe old (command.Erase 1)
+        → SurvivesCut old u.extent (command.Erase 1)
+        → CutLeaves (command.Erase 1) u.extent u.value f left
+        → IsSwapped left t 1 (old.blocks + failures_in events)
+        → IsMountedFrom t new → device_of new ≡ device_of old
         → RunsOnReserve (Failed u (command.Erase 1) ∷ events) t new }
-    ensures safe { (events : List Event) (t : Flash) (new : Layer) (u : Update) → RunsOnReserve (Completed u (command.Erase 1) ∷ events) t new
-        → (f : Flash) × (old : Layer) × IsSafe old (command.Erase 1) × Completes (command.Erase 1) u.extent u.value f t }
-    ensures safe_cut { (events : List Event) (t : Flash) (new : Layer) (u : Update) → RunsOnReserve (CutInside u (command.Erase 1) ∷ events) t new
-        → (f : Flash) × (old : Layer) × IsSafe old (command.Erase 1) × CutLeaves (command.Erase 1) u.extent u.value f t }
-    ensures idle { (events : List Event) (t : Flash) (new : Layer) → RunsOnReserve (CutBetween ∷ events) t new
+    ensures safe { (events : List Event) (t : Flash) (new : Layer) (u : Update)
+        → RunsOnReserve (Completed u (command.Erase 1) ∷ events) t new
+        → (f : Flash) × (old : Layer) × IsSafe old (command.Erase 1)
+        × Completes (command.Erase 1) u.extent u.value f t }
+    ensures safe_cut { (events : List Event) (t : Flash) (new : Layer) (u : Update)
+        → RunsOnReserve (CutInside u (command.Erase 1) ∷ events) t new
+        → (f : Flash) × (old : Layer) × IsSafe old (command.Erase 1)
+        × CutLeaves (command.Erase 1) u.extent u.value f t }
+    ensures idle { (events : List Event) (t : Flash) (new : Layer)
+        → RunsOnReserve (CutBetween ∷ events) t new
         → (f : Flash) × (old : Layer) × RunsOnReserve events f old × (t ≡ f) }
 {}

@@ -141,8 +141,10 @@ impl Core {
 
     // Whether a block is free, and another one than this.
     fn is_free_beside(&self, block: u32, avoided: u32) -> bool
-        ensures yes { result ≡ true → IsFree self.now.map.items block × (block < self.now.blocks) × (block ≢ avoided) }
-        ensures no { result ≡ false → block < self.now.blocks → block ≢ avoided → 0 < live_in block self.now.map.items }
+        ensures yes { result ≡ true → IsFree self.now.map.items block
+            × (block < self.now.blocks) × (block ≢ avoided) }
+        ensures no { result ≡ false → block < self.now.blocks
+            → block ≢ avoided → 0 < live_in block self.now.map.items }
     {
         block < self.blocks && block != avoided && self.counts.get(block) == 0
     }

@@ -26,8 +26,11 @@ impl Mount {
 
     /// A mount that has noted nothing, of a device whose blocks are all in use.
     pub fn begin(alloc: Global, blocks: u32, pages: u32, sectors: u32) -> Result<Mount, MountFault>
-        ensures device { IfOk result (λ mount. device_in mount ≡ record { blocks = blocks; read_blocks = blocks; pages = pages; sectors = sectors }) }
-        ensures first { IfOk result (λ mount. next_in mount ≡ Some (record { block = 0; page = 0 })) }
+        ensures device { IfOk result
+            (λ mount. device_in mount
+            ≡ record { blocks = blocks; read_blocks = blocks; pages = pages; sectors = sectors }) }
+        ensures first { IfOk result
+            (λ mount. next_in mount ≡ Some (record { block = 0; page = 0 })) }
         ensures notes { IfOk result (λ mount. (f : Flash) → HasNoted f mount) }
         ensures refused { HasCapacity sectors blocks pages → result ≢ Err TooManySectors }
         ensures capacity { OnOk result (HasCapacity sectors blocks pages) }
@@ -46,7 +49,8 @@ impl Mount {
     ) -> Result<Mount, MountFault>
         requires { blocks ≤ read_blocks }
         ensures device { IfOk result (λ mount. device_in mount ≡ record { blocks = blocks; read_blocks = read_blocks; pages = pages; sectors = sectors }) }
-        ensures first { IfOk result (λ mount. next_in mount ≡ Some (record { block = 0; page = 0 })) }
+        ensures first { IfOk result
+            (λ mount. next_in mount ≡ Some (record { block = 0; page = 0 })) }
         ensures notes { IfOk result (λ mount. (f : Flash) → HasNoted f mount) }
         ensures refused { HasCapacity sectors blocks pages → result ≢ Err TooManySectors }
         ensures capacity { OnOk result (HasCapacity sectors blocks pages) }
@@ -90,9 +94,11 @@ impl Mount {
         ensures device { device_in self.new ≡ device_in self.old }
         ensures next { OnOk result (next_in self.new ≡ after_in self.old) }
         ensures notes { OnOk result ((f : Flash) → HasNoted f self.old
-            → IfSome (next_in self.old) (λ at. IsStampOf f at.block at.page stamp) → HasNoted f self.new) }
+            → IfSome (next_in self.old) (λ at. IsStampOf f at.block at.page stamp)
+            → HasNoted f self.new) }
         ensures accepts { (f : Flash) → IsWrittenOn (device_in self.old) f
-            → IfSome (next_in self.old) (λ at. IsStampOf f at.block at.page stamp) → result ≡ Ok tt }
+            → IfSome (next_in self.old) (λ at. IsStampOf f at.block at.page stamp)
+            → result ≡ Ok tt }
         ensures cause { OnErr result (result ≡ Err ForeignStamp) }
         ensures same { OnErr result (self.new ≡ self.old) }
     {
@@ -128,11 +134,13 @@ impl Mount {
         ensures remounts { IfOk result (Remounts self) }
 
         // The losses are the gaps in blocks that have a newest version which no block without a gap has.
-        ensures losses { IfOk result (λ core. losses_of core ≡ losses_in self.found.items self.gaps.items self.read_blocks) }
+        ensures losses { IfOk result
+            (λ core. losses_of core ≡ losses_in self.found.items self.gaps.items self.read_blocks) }
         ensures tells { IfOk result (TellsLosses self) }
         ensures quiet { IfOk result (TellsNoFalseLoss self) }
         ensures whole { IfOk result (MountsWhole self) }
-        ensures frees { (f : Flash) (acked begun : List Update) → HasNoted f self → IsRecoverable f (device_in self) acked begun → result ≢ Err NoFreeBlock }
+        ensures frees { (f : Flash) (acked begun : List Update) → HasNoted f self
+            → IsRecoverable f (device_in self) acked begun → result ≢ Err NoFreeBlock }
         ensures cause { OnErr result ((result ≡ Err NoFreeBlock) ⊎ (result ≡ Err OutOfMemory)) }
     {
         let Ok(avoided) = freeable(alloc, &self.found, &self.gaps, self.blocks) else {

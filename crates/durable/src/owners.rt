@@ -72,7 +72,9 @@ impl Owners {
 
     /// A sector that is mapped to a block, and its page: the first from a page on.
     pub fn next_in(&self, map: &PackedMap, block: u32, from: u32) -> Option<(u32, PageAddr)>
-        ensures { IfSome result (λ found. (found.0 < length map.now.items) × (slice_index_or map.now.items found.0 None ≡ Some found.1)
+        ensures { IfSome result
+            (λ found. (found.0 < length map.now.items)
+            × (slice_index_or map.now.items found.0 None ≡ Some found.1)
             × (found.1.block ≡ block)) }
     {
         for page in from..self.pages {

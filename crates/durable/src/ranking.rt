@@ -83,7 +83,8 @@ impl Counts {
     /// The block with the fewest live pages, beside one.
     pub fn fewest(&self, avoided: u32) -> u32
         ensures { (b : ℕ) → b < length self.now → b ≢ avoided
-            → (result < length self.now) × (result ≢ avoided) × (slice_index_or self.now result 0 ≤ slice_index_or self.now b 0) }
+            → (result < length self.now) × (result ≢ avoided)
+            × (slice_index_or self.now result 0 ≤ slice_index_or self.now b 0) }
     {
         let best = self.queue.least_beside(avoided);
         if (best as usize) < self.counts.len() {

@@ -9,9 +9,11 @@ use packed_map::PackedMap;
 /// The page after this one, if the block has one.
 pub fn page_after(at: PageAddr, pages: u32) -> Option<PageAddr>
     requires { at.page < pages }
-    ensures next { IfSome result (λ to. (to.block ≡ at.block) × (to.page ≡ at.page + 1) × (to.page < pages)) }
+    ensures next { IfSome result
+        (λ to. (to.block ≡ at.block) × (to.page ≡ at.page + 1) × (to.page < pages)) }
     ensures last { result ≡ None → at.page + 1 ≡ pages }
-    ensures exact { at.page + 1 < pages → result ≡ Some (record { block = at.block; page = at.page + 1 }) }
+    ensures exact { at.page + 1 < pages
+        → result ≡ Some (record { block = at.block; page = at.page + 1 }) }
 {
     let page = at.page + 1;
     (page < pages).then_some(PageAddr {
@@ -24,7 +26,8 @@ pub fn page_after(at: PageAddr, pages: u32) -> Option<PageAddr>
 pub fn fewest(counts: &[u32], avoided: u32) -> u32
     requires { length counts.now < 2 ^ 32 }
     ensures { (b : ℕ) → b < length counts.now → b ≢ avoided
-        → (result < length counts.now) × (result ≢ avoided) × (slice_index_or counts.now result 0 ≤ slice_index_or counts.now b 0) }
+        → (result < length counts.now) × (result ≢ avoided)
+        × (slice_index_or counts.now result 0 ≤ slice_index_or counts.now b 0) }
 {
     let mut best = avoided;
     let mut least = 0;
@@ -41,7 +44,9 @@ pub fn fewest(counts: &[u32], avoided: u32) -> u32
 /// A sector that is mapped to a block, and its page: the first from a page on, or otherwise any.
 pub fn source(map: &PackedMap, owners: &Owners, block: u32, from: u32) -> Option<(u32, PageAddr)>
     requires { length map.now.items < 2 ^ 32 }
-    ensures found { IfSome result (λ found. (found.0 < length map.now.items) × (slice_index_or map.now.items found.0 None ≡ Some found.1)
+    ensures found { IfSome result
+        (λ found. (found.0 < length map.now.items)
+        × (slice_index_or map.now.items found.0 None ≡ Some found.1)
         × (found.1.block ≡ block)) }
     ensures none { result ≡ None → IsFree map.now.items block }
 {
@@ -56,7 +61,9 @@ pub fn source(map: &PackedMap, owners: &Owners, block: u32, from: u32) -> Option
 
 fn source_in_map(map: &PackedMap, block: u32) -> Option<(u32, PageAddr)>
     requires { length map.now.items < 2 ^ 32 }
-    ensures found { IfSome result (λ found. (found.0 < length map.now.items) × (slice_index_or map.now.items found.0 None ≡ Some found.1)
+    ensures found { IfSome result
+        (λ found. (found.0 < length map.now.items)
+        × (slice_index_or map.now.items found.0 None ≡ Some found.1)
         × (found.1.block ≡ block)) }
     ensures none { result ≡ None → IsFree map.now.items block }
 {

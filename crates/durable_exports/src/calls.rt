@@ -28,7 +28,9 @@ pub extern "C" fn mintlintel_core_open(
     pages: u32,
     sectors: u32,
 ) -> u32
-    ensures code { result ≡ begin_code (seat_of handle.old) (nat_lt sectors ((blocks - 1) * pages)) (nat_eq result 6) }
+    ensures code { result
+        ≡ begin_code (seat_of handle.old)
+        (nat_lt sectors ((blocks - 1) * pages)) (nat_eq result 6) }
     ensures begun { result ≡ 0 → HasMount (seat_of handle.new)
         (IsBegun (record { blocks = blocks; read_blocks = blocks; pages = pages; sectors = sectors })) }
     ensures same { result ≢ 0 → seat_of handle.new ≡ seat_of handle.old }
@@ -46,7 +48,9 @@ pub extern "C" fn mintlintel_core_open_over(
     pages: u32,
     sectors: u32,
 ) -> u32
-    ensures code { result ≡ begin_code (seat_of handle.old) (nat_le blocks read_blocks && nat_lt sectors ((blocks - 1) * pages)) (nat_eq result 6) }
+    ensures code { result
+        ≡ begin_code (seat_of handle.old)
+        (nat_le blocks read_blocks && nat_lt sectors ((blocks - 1) * pages)) (nat_eq result 6) }
     ensures begun { result ≡ 0 → HasMount (seat_of handle.new)
         (IsBegun (record { blocks = blocks; read_blocks = read_blocks; pages = pages; sectors = sectors })) }
     ensures same { result ≢ 0 → seat_of handle.new ≡ seat_of handle.old }
@@ -70,7 +74,9 @@ fn open(
     sectors: u32,
 ) -> u32
     requires { blocks ≤ read_blocks }
-    ensures code { result ≡ begin_code (seat_of handle.old) (nat_lt sectors ((blocks - 1) * pages)) (nat_eq result 6) }
+    ensures code { result
+        ≡ begin_code (seat_of handle.old)
+        (nat_lt sectors ((blocks - 1) * pages)) (nat_eq result 6) }
     ensures begun { result ≡ 0 → HasMount (seat_of handle.new)
         (IsBegun (record { blocks = blocks; read_blocks = read_blocks; pages = pages; sectors = sectors })) }
     ensures same { result ≢ 0 → seat_of handle.new ≡ seat_of handle.old }
@@ -108,8 +114,10 @@ pub extern "C" fn mintlintel_core_note(
     count: u32,
     number: u64,
 ) -> u32
-    ensures code { result ≡ code_of_mount (seat_of handle.old) (λ m. note_code (next_in m) (nat_eq result 30)) }
-    ensures accepts { OfMount (seat_of handle.old) (Accepts (stamp_of has_version (record { first = first; count = count }) number) result) }
+    ensures code { result ≡ code_of_mount (seat_of handle.old)
+        (λ m. note_code (next_in m) (nat_eq result 30)) }
+    ensures accepts { OfMount (seat_of handle.old)
+        (Accepts (stamp_of has_version (record { first = first; count = count }) number) result) }
     ensures noted { result ≡ 0 → OfMount (seat_of handle.old)
         (λ m. HasMount (seat_of handle.new) (IsNoted (stamp_of has_version (record { first = first; count = count }) number) m)) }
     ensures same { result ≢ 0 → seat_of handle.new ≡ seat_of handle.old }
@@ -129,9 +137,11 @@ pub extern "C" fn mintlintel_core_note(
 }
 
 fn note(seat: &mut Seat, stamp: Option<Stamp>) -> u32
-    ensures code { result ≡ code_of_mount (Some seat.old) (λ m. note_code (next_in m) (nat_eq result 30)) }
+    ensures code { result ≡ code_of_mount (Some seat.old)
+        (λ m. note_code (next_in m) (nat_eq result 30)) }
     ensures accepts { OfMount (Some seat.old) (Accepts stamp result) }
-    ensures noted { result ≡ 0 → OfMount (Some seat.old) (λ m. HasMount (Some seat.new) (IsNoted stamp m)) }
+    ensures noted { result ≡ 0
+        → OfMount (Some seat.old) (λ m. HasMount (Some seat.new) (IsNoted stamp m)) }
     ensures same { result ≢ 0 → seat.new ≡ seat.old }
 {
     match seat {
@@ -146,7 +156,8 @@ pub extern "C" fn mintlintel_core_finish(alloc: Global, handle: &mut Handle) -> 
     ensures code { result ≡ code_of_mount (seat_of handle.old)
         (λ m. finish_code (next_in m) (if result == 0 then 0 else (if result == 6 then 6 else 7))) }
     ensures frees { OfMount (seat_of handle.old) (FreesBlock result) }
-    ensures mounted { result ≡ 0 → OfMount (seat_of handle.old) (λ m. HasLayer (seat_of handle.new) (IsMounted m)) }
+    ensures mounted { result ≡ 0
+        → OfMount (seat_of handle.old) (λ m. HasLayer (seat_of handle.new) (IsMounted m)) }
     ensures memory { result ≡ 6 → seat_of handle.new ≡ None }
     ensures block { result ≡ 7 → seat_of handle.new ≡ None }
     ensures same { result ≢ 0 → result ≢ 6 → result ≢ 7 → seat_of handle.new ≡ seat_of handle.old }
@@ -190,8 +201,10 @@ pub extern "C" fn mintlintel_core_page(
     sector: u32,
     out: &mut PlaceReport,
 ) -> u32
-    ensures code { result ≡ code_of_layer (seat_of handle.old) (sector_code sector (if result == 1 then 1 else 0)) }
-    ensures page { OfLayer (seat_of handle.old) (IsNewestPageOf sector (found_page result out.new)) }
+    ensures code { result
+        ≡ code_of_layer (seat_of handle.old) (sector_code sector (if result == 1 then 1 else 0)) }
+    ensures page { OfLayer (seat_of handle.old)
+        (IsNewestPageOf sector (found_page result out.new)) }
     ensures report { result ≢ 1 → out.new ≡ out.old }
     ensures same { seat_of handle.new ≡ seat_of handle.old }
 {
@@ -204,7 +217,8 @@ pub extern "C" fn mintlintel_core_page(
 }
 
 fn page(seat: &Seat, sector: u32, out: &mut PlaceReport) -> u32
-    ensures code { result ≡ code_of_layer (Some seat.now) (sector_code sector (if result == 1 then 1 else 0)) }
+    ensures code { result
+        ≡ code_of_layer (Some seat.now) (sector_code sector (if result == 1 then 1 else 0)) }
     ensures page { OfLayer (Some seat.now) (IsNewestPageOf sector (found_page result out.new)) }
     ensures report { result ≢ 1 → out.new ≡ out.old }
 {
@@ -223,9 +237,14 @@ pub extern "C" fn mintlintel_core_next(
     count: u32,
     out: &mut CommandReport,
 ) -> u32
-    ensures code { result ≡ code_of_layer (seat_of handle.old) (extent_code (record { first = first; count = count }) (if result == 31 then 31 else 0)) }
-    ensures progress { OfLayer (seat_of handle.old) (λ l. next_number_of l.core + 1 < 2 ^ 64 → result ≢ 31) }
-    ensures command { result ≡ 0 → OfLayer (seat_of handle.old) (IsCommandFor (record { first = first; count = count }) out.new) }
+    ensures code { result
+        ≡ code_of_layer (seat_of handle.old)
+        (extent_code (record { first = first; count = count }) (if result == 31 then 31 else 0)) }
+    ensures progress { OfLayer (seat_of handle.old)
+        (λ l. next_number_of l.core + 1 < 2 ^ 64 → result ≢ 31) }
+    ensures command { result ≡ 0
+        → OfLayer (seat_of handle.old)
+        (IsCommandFor (record { first = first; count = count }) out.new) }
     ensures report { result ≢ 0 → out.new ≡ out.old }
     ensures same { seat_of handle.new ≡ seat_of handle.old }
 {
@@ -249,7 +268,9 @@ pub extern "C" fn mintlintel_core_done(
     count: u32,
     command: &mut CommandReport,
 ) -> u32
-    ensures code { result ≡ code_of_layer (seat_of handle.old) (extent_code (record { first = first; count = count }) (if result == 32 then 32 else 0)) }
+    ensures code { result
+        ≡ code_of_layer (seat_of handle.old)
+        (extent_code (record { first = first; count = count }) (if result == 32 then 32 else 0)) }
     ensures done { result ≡ 0
         → OfLayer (seat_of handle.old) (λ l. HasLayer (seat_of handle.new) (IsDone (record { first = first; count = count }) command.old l)) }
     ensures same { result ≢ 0 → seat_of handle.new ≡ seat_of handle.old }

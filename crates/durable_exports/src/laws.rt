@@ -46,9 +46,12 @@ pub fn codes()
     ensures too_early { (at : Addr) → finish_code (Some at) 7 ≡ 32 }
     ensures no_sector { (l : Layer) → (layer_device l).sectors ≡ 8 → sector_code 8 0 l ≡ 3 }
     ensures sector { (l : Layer) → (layer_device l).sectors ≡ 8 → sector_code 7 5 l ≡ 5 }
-    ensures extent { (l : Layer) → (layer_device l).sectors ≡ 8 → extent_code (record { first = 6; count = 2 }) 5 l ≡ 5 }
-    ensures past { (l : Layer) → (layer_device l).sectors ≡ 8 → extent_code (record { first = 7; count = 2 }) 5 l ≡ 3 }
-    ensures empty { (l : Layer) → (layer_device l).sectors ≡ 8 → extent_code (record { first = 7; count = 0 }) 5 l ≡ 3 }
+    ensures extent { (l : Layer) → (layer_device l).sectors ≡ 8
+        → extent_code (record { first = 6; count = 2 }) 5 l ≡ 5 }
+    ensures past { (l : Layer) → (layer_device l).sectors ≡ 8
+        → extent_code (record { first = 7; count = 2 }) 5 l ≡ 3 }
+    ensures empty { (l : Layer) → (layer_device l).sectors ≡ 8
+        → extent_code (record { first = 7; count = 0 }) 5 l ≡ 3 }
 {}
 
 /// What is said of a mount or a layer, by what the handle has.
@@ -71,49 +74,66 @@ pub fn handles()
 /// Stamps, pages, commands and totals, as C passes and sees them.
 pub fn reports()
     ensures no_stamp { stamp_of 0 (sole 7) 5 ≡ None }
-    ensures stamp { stamp_of 1 (record { first = 7; count = 2 }) 5 ≡ Some (record { extent = record { first = 7; count = 2 }; number = 5 }) }
+    ensures stamp { stamp_of 1 (record { first = 7; count = 2 }) 5
+        ≡ Some (record { extent = record { first = 7; count = 2 }; number = 5 }) }
     ensures other { stamp_of 2 (sole 7) 5 ≡ Some (record { extent = sole 7; number = 5 }) }
     ensures no_page { (at : PlaceReport) → found_page 0 at ≡ None }
-    ensures page { found_page 1 (record { block = 1; page = 2 }) ≡ Some (record { block = 1; page = 2 }) }
-    ensures same_place { page_at (place_of (record { block = 1; page = 2 })) ≡ record { block = 1; page = 2 } }
+    ensures page { found_page 1 (record { block = 1; page = 2 })
+        ≡ Some (record { block = 1; page = 2 }) }
+    ensures same_place { page_at (place_of (record { block = 1; page = 2 }))
+        ≡ record { block = 1; page = 2 } }
     ensures program { report_of 7 (command.Program (record { block = 1; page = 2 }) 5)
         ≡ record { kind = 1; sector = 7; from_block = 0; from_page = 0; block = 1; page = 2; number = 5 } }
-    ensures copy { report_of 7 (command.Copy 6 (record { block = 1; page = 2 }) (record { block = 3; page = 4 }))
+    ensures copy { report_of 7
+        (command.Copy 6 (record { block = 1; page = 2 }) (record { block = 3; page = 4 }))
         ≡ record { kind = 2; sector = 6; from_block = 1; from_page = 2; block = 3; page = 4; number = 0 } }
     ensures erase { report_of 7 (command.Erase 4)
         ≡ record { kind = 3; sector = 0; from_block = 0; from_page = 0; block = 4; page = 0; number = 0 } }
     ensures none { (report_of 7 command.Refused).kind ≡ 0 }
     ensures counted { one_more 4 ≡ 5 }
     ensures greatest { one_more (2 ^ 64 - 1) ≡ 2 ^ 64 - 1 }
-    ensures programs { totals_with (command.Program (record { block = 1; page = 2 }) 5) no_totals ≡ record { programs = 1; copies = 0; erases = 0 } }
-    ensures copies { totals_with (command.Copy 6 (record { block = 1; page = 2 }) (record { block = 3; page = 4 })) no_totals
+    ensures programs { totals_with (command.Program (record { block = 1; page = 2 }) 5) no_totals
+        ≡ record { programs = 1; copies = 0; erases = 0 } }
+    ensures copies { totals_with
+        (command.Copy 6 (record { block = 1; page = 2 }) (record { block = 3; page = 4 })) no_totals
         ≡ record { programs = 0; copies = 1; erases = 0 } }
-    ensures erases { totals_with (command.Erase 4) no_totals ≡ record { programs = 0; copies = 0; erases = 1 } }
+    ensures erases { totals_with (command.Erase 4) no_totals
+        ≡ record { programs = 0; copies = 0; erases = 1 } }
     ensures refused { totals_with command.Refused no_totals ≡ no_totals }
 {}
 
 /// What a call leaves of a mount, and of a layer.
 pub fn calls()
     ensures begun { (device : Device) (m : Mount) → IsBegun device m → device_in m ≡ device }
-    ensures first { (device : Device) (m : Mount) → IsBegun device m → next_in m ≡ Some (record { block = 0; page = 0 }) }
+    ensures first { (device : Device) (m : Mount) → IsBegun device m
+        → next_in m ≡ Some (record { block = 0; page = 0 }) }
     ensures unread { (device : Device) (m : Mount) (f : Flash) → IsBegun device m → HasNoted f m }
-    ensures next { (stamp : Stamp) (m n : Mount) → IsNoted (Some stamp) m n → next_in n ≡ after_in m }
+    ensures next { (stamp : Stamp) (m n : Mount)
+        → IsNoted (Some stamp) m n → next_in n ≡ after_in m }
     ensures same_device { (m n : Mount) → IsNoted None m n → device_in n ≡ device_in m }
     ensures taken { (stamp : Stamp) (m : Mount) → Accepts (Some stamp) 0 m }
     ensures free { (m : Mount) → FreesBlock 0 m }
-    ensures stuck { (f : Flash) (m : Mount) (acked begun : List Update) → HasNoted f m → IsRecoverable f (device_in m) acked begun → ¬ FreesBlock 7 m }
+    ensures stuck { (f : Flash) (m : Mount) (acked begun : List Update) → HasNoted f m
+        → IsRecoverable f (device_in m) acked begun → ¬ FreesBlock 7 m }
     ensures mounted { (m : Mount) (l : Layer) → IsMounted m l → Remounts m l.core }
     ensures idle { (m : Mount) (l : Layer) → IsMounted m l → l.totals ≡ no_totals }
     ensures sizes { (m : Mount) (l : Layer) → IsMounted m l → layer_device l ≡ device_in m }
-    ensures losses { (m : Mount) (l : Layer) → IsMounted m l → layer_losses l ≡ losses_in m.found.items m.gaps.items m.read_blocks }
+    ensures losses { (m : Mount) (l : Layer) → IsMounted m l
+        → layer_losses l ≡ losses_in m.found.items m.gaps.items m.read_blocks }
     ensures tells { (m : Mount) (l : Layer) → IsMounted m l → TellsLosses m l.core }
     ensures quiet { (m : Mount) (l : Layer) → IsMounted m l → TellsNoFalseLoss m l.core }
     ensures whole { (m : Mount) (l : Layer) → IsMounted m l → MountsWhole m l.core }
-    ensures unharmed { (out : CommandReport) (l : Layer) → IsCommandFor (sole 7) out l → (c : Next) × (out ≡ report_of 7 c) × CutsUnharmed l.core (sole 7) c }
-    ensures idle_unharmed { (out : CommandReport) (l : Layer) → IsCommandFor (sole 7) out l → CutsIdleUnharmed l.core }
-    ensures stays { (did : CommandReport) (l k : Layer) → IsDone (sole 7) did l k → (c : Next) × (did ≡ report_of 7 c) × StaysWhole l.core (sole 7) c k.core }
-    ensures keeps { (did : CommandReport) (l k : Layer) → IsDone (sole 7) did l k → layer_losses k ≡ layer_losses l }
+    ensures unharmed { (out : CommandReport) (l : Layer) → IsCommandFor (sole 7) out l
+        → (c : Next) × (out ≡ report_of 7 c) × CutsUnharmed l.core (sole 7) c }
+    ensures idle_unharmed { (out : CommandReport) (l : Layer)
+        → IsCommandFor (sole 7) out l → CutsIdleUnharmed l.core }
+    ensures stays { (did : CommandReport) (l k : Layer) → IsDone (sole 7) did l k
+        → (c : Next) × (did ≡ report_of 7 c) × StaysWhole l.core (sole 7) c k.core }
+    ensures keeps { (did : CommandReport) (l k : Layer)
+        → IsDone (sole 7) did l k → layer_losses k ≡ layer_losses l }
     ensures beyond { (l : Layer) → (layer_device l).sectors ≡ 8 → IsNewestPageOf 8 None l }
-    ensures reported { (out : CommandReport) (l : Layer) → IsCommandFor (sole 7) out l → (c : Next) × (out ≡ report_of 7 c) }
-    ensures done { (did : CommandReport) (l k : Layer) → IsDone (sole 7) did l k → (c : Next) × (did ≡ report_of 7 c) × (k.totals ≡ totals_with c l.totals) }
+    ensures reported { (out : CommandReport) (l : Layer)
+        → IsCommandFor (sole 7) out l → (c : Next) × (out ≡ report_of 7 c) }
+    ensures done { (did : CommandReport) (l k : Layer) → IsDone (sole 7) did l k
+        → (c : Next) × (did ≡ report_of 7 c) × (k.totals ≡ totals_with c l.totals) }
 {}

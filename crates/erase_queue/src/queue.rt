@@ -62,7 +62,8 @@ impl EraseQueue {
     pub fn put(&self, rt: &impl Wait, pass: &mut QueuePass, block: usize) -> bool
         requires block { block < limit_of self.now }
         requires pass { IsPassOf self.now pass.old }
-        ensures put { MatchBool result (WasPut pass.old block pass.new) (WasFull (limit_of self.now) pass.old pass.new) }
+        ensures put { MatchBool result (WasPut pass.old block pass.new)
+            (WasFull (limit_of self.now) pass.old pass.new) }
         ensures pass { IsPassOf self.now pass.new }
     {
         let stands = self.push(rt, pass, block);
@@ -89,7 +90,8 @@ impl EraseQueue {
     #[tactic(auto, using(crate::proofs::Course::puts, crate::proofs::Course::takes, crate::proofs::Course::learns))]
     pub fn take(&self, rt: &impl Wait, pass: &mut QueuePass) -> Option<usize>
         requires { IsPassOf self.now pass.old }
-        ensures taken { MatchOption result (WasEmpty pass.old pass.new) (λ block. WasTaken pass.old block pass.new) }
+        ensures taken { MatchOption result (WasEmpty pass.old pass.new)
+            (λ block. WasTaken pass.old block pass.new) }
         ensures block { IfSome result (λ block. block < limit_of self.now) }
         ensures pass { IsPassOf self.now pass.new }
     {

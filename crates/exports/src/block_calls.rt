@@ -22,7 +22,8 @@ impl Sweeper {
     pub(crate) fn block(&mut self, block: u32, out: &mut StateReport) -> u32
         ensures device { self.new.volume ≡ self.old.volume }
         ensures code { result ≡ block_code (numbers_of (sweeper_volume self.old)) block }
-        ensures reported { result ≡ DONE → BlockReported self.old.broom block out.new self.new.broom }
+        ensures reported { result ≡ DONE
+            → BlockReported self.old.broom block out.new self.new.broom }
         ensures queue { result ≡ DONE → HandsNothing self.old.broom self.new.broom }
         ensures same { result ≢ DONE → self.new.broom ≡ self.old.broom }
         ensures unchanged { result ≢ DONE → out.new ≡ out.old }
@@ -45,8 +46,12 @@ impl Sweeper {
     pub(crate) fn counts(&mut self, out: &mut CountsReport) -> u32
         ensures device { self.new.volume ≡ self.old.volume }
         ensures code { result ≡ counts_code (numbers_of (sweeper_volume self.old)) out.new }
-        ensures counted { (states : List PinWord) × AllLoaded (device (flash_of (sweeper_volume self.old))) self.old.broom states self.new.broom
-            × (out.new ≡ counts_report (counts_in states) (as_number (is_some (blocks_of_broom self.old.broom).spare))) }
+        ensures counted { (states : List PinWord)
+            × AllLoaded
+            (device (flash_of (sweeper_volume self.old))) self.old.broom states self.new.broom
+            × (out.new
+            ≡ counts_report (counts_in states)
+            (as_number (is_some (blocks_of_broom self.old.broom).spare))) }
         ensures queue { HandsNothing self.old.broom self.new.broom }
     {
         let spares = u32::from(self.broom.has_spare());

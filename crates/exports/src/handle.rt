@@ -54,7 +54,8 @@ impl Handle {
     /// A call on the seat. A closed handle has no call, and stays closed.
     pub(crate) fn on<F: FnOnce(&mut Seat) -> u32>(&mut self, alloc: Global, call: F) -> u32
         requires { F.IsAlwaysCallable call }
-        ensures { Calls (seat_of self.old) result (seat_of self.new) (λ x code y. FnOnceReturnsAtMut F.FnOnce call x code y) }
+        ensures { Calls (seat_of self.old) result (seat_of self.new)
+            (λ x code y. FnOnceReturnsAtMut F.FnOnce call x code y) }
     {
         let Some(mut seat) = self.take(alloc) else {
             return CLOSED;
@@ -72,7 +73,8 @@ impl Handle {
         call: F,
     ) -> u32
         requires { F.IsAlwaysCallable call }
-        ensures { CallsWith (seat_of self.old) out.old result (seat_of self.new) out.new (λ x o code y p. ReturnsAtBoth F.FnOnce call x o code y p) }
+        ensures { CallsWith (seat_of self.old) out.old result (seat_of self.new) out.new
+            (λ x o code y p. ReturnsAtBoth F.FnOnce call x o code y p) }
     {
         let Some(mut seat) = self.take(alloc) else {
             return CLOSED;
@@ -90,7 +92,8 @@ impl Handle {
         call: F,
     ) -> u32
         requires { F.IsAlwaysCallable call }
-        ensures { CallsWith (seat_of self.old) out.old result (seat_of self.new) out.new (λ x o code y p. ReturnsAtBoth F.FnOnce call x o code y p) }
+        ensures { CallsWith (seat_of self.old) out.old result (seat_of self.new) out.new
+            (λ x o code y p. ReturnsAtBoth F.FnOnce call x o code y p) }
     {
         let Some(mut seat) = self.take(alloc) else {
             return CLOSED;

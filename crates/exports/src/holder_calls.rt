@@ -20,7 +20,8 @@ impl Holder {
         ensures page { page_of self.new.held ≡ page_of self.old.held }
         ensures view { view_of (pass_of self.new.held) ≡ view_of (pass_of self.old.held) }
         ensures undisturbed { result ≡ WRITTEN
-            → IsUndisturbed (flash_of (holder_volume self.old)) self.old.held (view_of (pass_of self.old.held)).copy self.new.held }
+            → IsUndisturbed (flash_of (holder_volume self.old)) self.old.held
+            (view_of (pass_of self.old.held)).copy self.new.held }
     {
         if out.len() != self.volume.geometry().page_bytes() {
             return NOT_A_PAGE;
@@ -37,7 +38,8 @@ impl Holder {
         ensures page { page_of self.new.held ≡ page_of self.old.held }
         ensures view { view_of (pass_of self.new.held) ≡ view_of (pass_of self.old.held) }
         ensures undisturbed { result ≡ DONE
-            → IsUndisturbed (flash_of (holder_volume self.old)) self.old.held (view_of (pass_of self.old.held)).copy self.new.held }
+            → IsUndisturbed (flash_of (holder_volume self.old)) self.old.held
+            (view_of (pass_of self.old.held)).copy self.new.held }
     {
         if i >= self.volume.geometry().words() {
             return NO_SUCH_BLOCK;

@@ -15,10 +15,15 @@ impl Host {
     #[tactic(auto, unfolding(crate::specs::Shared::IsStep))]
     pub(crate) fn read(&mut self, sector: u32, out: &mut [u8]) -> u32
         ensures device { self.new.volume ≡ self.old.volume }
-        ensures code { result ≡ read_code sector (length out.old) (view_of self.new.pass).seen self.old }
-        ensures buffer { out.new ≡ read_buffer sector out.old (view_of self.new.pass).seen self.old }
-        ensures correct { result ≤ WRITTEN → IsStep (host_volume self.old) self.old.pass (Read sector) (Found (got_by result) out.old out.new) self.new.pass }
-        ensures searched { result ≤ WRITTEN → (tries : ℕ) × Searched (view_of self.old.pass) tries (view_of self.new.pass) }
+        ensures code { result
+            ≡ read_code sector (length out.old) (view_of self.new.pass).seen self.old }
+        ensures buffer { out.new
+            ≡ read_buffer sector out.old (view_of self.new.pass).seen self.old }
+        ensures correct { result ≤ WRITTEN
+            → IsStep (host_volume self.old) self.old.pass (Read sector)
+            (Found (got_by result) out.old out.new) self.new.pass }
+        ensures searched { result ≤ WRITTEN → (tries : ℕ)
+            × Searched (view_of self.old.pass) tries (view_of self.new.pass) }
         ensures same { WRITTEN < result → self.new.pass ≡ self.old.pass }
     {
         let geometry = self.volume.geometry();
@@ -39,8 +44,11 @@ impl Host {
     pub(crate) fn look(&mut self, sector: u32) -> u32
         ensures device { self.new.volume ≡ self.old.volume }
         ensures code { result ≡ look_code sector (view_of self.new.pass).seen self.old }
-        ensures correct { result ≤ WRITTEN → IsStep (host_volume self.old) self.old.pass (Look sector) (IsWritten (written_by result)) self.new.pass }
-        ensures searched { result ≤ WRITTEN → Searched (view_of self.old.pass) 1 (view_of self.new.pass) }
+        ensures correct { result ≤ WRITTEN
+            → IsStep (host_volume self.old) self.old.pass (Look sector)
+            (IsWritten (written_by result)) self.new.pass }
+        ensures searched { result ≤ WRITTEN
+            → Searched (view_of self.old.pass) 1 (view_of self.new.pass) }
         ensures opened { opened_of self.new.pass ≡ opened_of self.old.pass }
         ensures same { WRITTEN < result → self.new.pass ≡ self.old.pass }
     {
@@ -59,9 +67,13 @@ impl Host {
     pub(crate) fn write(&mut self, sector: u32, bytes: &[u8]) -> u32
         ensures device { self.new.volume ≡ self.old.volume }
         ensures code { result ≡ write_code sector (length bytes.now) result self.old }
-        ensures correct { result ≤ WRITTEN → IsStep (host_volume self.old) self.old.pass (Write sector bytes.now) (Replaced (was_by result)) self.new.pass }
-        ensures wrote { result ≤ WRITTEN → HasWritten self.old.pass sector bytes.now (was_by result) self.new.pass }
-        ensures refused { result ≡ NO_BLOCK → Refused (view_of self.old.pass) (view_of self.new.pass) }
+        ensures correct { result ≤ WRITTEN
+            → IsStep (host_volume self.old) self.old.pass
+            (Write sector bytes.now) (Replaced (was_by result)) self.new.pass }
+        ensures wrote { result ≤ WRITTEN
+            → HasWritten self.old.pass sector bytes.now (was_by result) self.new.pass }
+        ensures refused { result ≡ NO_BLOCK
+            → Refused (view_of self.old.pass) (view_of self.new.pass) }
         ensures same { result ≡ NO_SECTOR → self.new.pass ≡ self.old.pass }
         ensures same_page { result ≡ NOT_A_PAGE → self.new.pass ≡ self.old.pass }
     {
@@ -83,9 +95,13 @@ impl Host {
     pub(crate) fn write_new(&mut self, sector: u32, bytes: &[u8]) -> u32
         ensures device { self.new.volume ≡ self.old.volume }
         ensures code { result ≡ write_code sector (length bytes.now) result self.old }
-        ensures correct { result ≤ WRITTEN → IsStep (host_volume self.old) self.old.pass (WriteNew sector bytes.now) (Replaced (was_by result)) self.new.pass }
-        ensures wrote { result ≤ WRITTEN → HasWrittenNew self.old.pass sector bytes.now (was_by result) self.new.pass }
-        ensures refused { result ≡ NO_BLOCK → Refused (view_of self.old.pass) (view_of self.new.pass) }
+        ensures correct { result ≤ WRITTEN
+            → IsStep (host_volume self.old) self.old.pass
+            (WriteNew sector bytes.now) (Replaced (was_by result)) self.new.pass }
+        ensures wrote { result ≤ WRITTEN
+            → HasWrittenNew self.old.pass sector bytes.now (was_by result) self.new.pass }
+        ensures refused { result ≡ NO_BLOCK
+            → Refused (view_of self.old.pass) (view_of self.new.pass) }
         ensures same { result ≡ NO_SECTOR → self.new.pass ≡ self.old.pass }
         ensures same_page { result ≡ NOT_A_PAGE → self.new.pass ≡ self.old.pass }
     {
@@ -108,8 +124,11 @@ impl Host {
     pub(crate) fn trim(&mut self, sector: u32) -> u32
         ensures device { self.new.volume ≡ self.old.volume }
         ensures code { result ≡ trim_code sector result self.old }
-        ensures correct { result ≤ WRITTEN → IsStep (host_volume self.old) self.old.pass (Trim sector) (Replaced (was_by result)) self.new.pass }
-        ensures called { result ≤ WRITTEN → HasTrimmed self.old.pass sector (was_by result) self.new.pass }
+        ensures correct { result ≤ WRITTEN
+            → IsStep (host_volume self.old) self.old.pass
+            (Trim sector) (Replaced (was_by result)) self.new.pass }
+        ensures called { result ≤ WRITTEN
+            → HasTrimmed self.old.pass sector (was_by result) self.new.pass }
         ensures same { WRITTEN < result → self.new.pass ≡ self.old.pass }
     {
         if sector >= self.volume.geometry().sectors() {

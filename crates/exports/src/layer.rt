@@ -27,7 +27,8 @@ pub(crate) fn read(layer: &OneFtl, sector: u32, out: &mut [u8]) -> u32
 // Writes bytes to a sector, and returns what it was.
 pub(crate) fn write(layer: &mut OneFtl, sector: u32, bytes: &[u8]) -> u32
     ensures code { result ≡ (write_on sector bytes.now (machine_of layer.old)).code }
-    ensures state { Open (machine_of layer.new) ≡ (write_on sector bytes.now (machine_of layer.old)).state }
+    ensures state { Open (machine_of layer.new)
+        ≡ (write_on sector bytes.now (machine_of layer.old)).state }
 {
     let geometry = layer.geometry();
     if sector >= geometry.sectors() {
@@ -45,7 +46,8 @@ pub(crate) fn write(layer: &mut OneFtl, sector: u32, bytes: &[u8]) -> u32
 // Writes bytes to a sector if it is empty.
 pub(crate) fn write_new(layer: &mut OneFtl, sector: u32, bytes: &[u8]) -> u32
     ensures code { result ≡ (write_new_on sector bytes.now (machine_of layer.old)).code }
-    ensures state { Open (machine_of layer.new) ≡ (write_new_on sector bytes.now (machine_of layer.old)).state }
+    ensures state { Open (machine_of layer.new)
+        ≡ (write_new_on sector bytes.now (machine_of layer.old)).state }
 {
     let geometry = layer.geometry();
     if sector >= geometry.sectors() {

@@ -26,8 +26,11 @@ pub extern "C" fn mintlintel_one_open(
     sectors: u32,
     endurance: u32,
 ) -> u32
-    ensures code { result ≡ open_code (seat_of handle.old) (numbers luns blocks pages words sectors endurance 0 0) (not (nat_eq result NO_MEMORY)) }
-    ensures fresh { result ≡ DONE → IsFreshIn (numbers luns blocks pages words sectors endurance 0 0) (state_of handle.new) }
+    ensures code { result
+        ≡ open_code (seat_of handle.old) (numbers luns blocks pages words sectors endurance 0 0)
+        (not (nat_eq result NO_MEMORY)) }
+    ensures fresh { result ≡ DONE
+        → IsFreshIn (numbers luns blocks pages words sectors endurance 0 0) (state_of handle.new) }
     ensures same { result ≢ DONE → seat_of handle.new ≡ seat_of handle.old }
 {
     if handle.is_open() {
@@ -82,7 +85,8 @@ pub extern "C" fn mintlintel_one_write(
     bytes: &[u8],
 ) -> u32
     ensures code { result ≡ (on_state (state_of handle.old) (write_on sector bytes.now)).code }
-    ensures state { state_of handle.new ≡ (on_state (state_of handle.old) (write_on sector bytes.now)).state }
+    ensures state { state_of handle.new
+        ≡ (on_state (state_of handle.old) (write_on sector bytes.now)).state }
 {
     handle.on(alloc, |seat| match seat {
         Seat::One(layer) => layer::write(layer, sector, bytes),
@@ -99,7 +103,8 @@ pub extern "C" fn mintlintel_one_write_new(
     bytes: &[u8],
 ) -> u32
     ensures code { result ≡ (on_state (state_of handle.old) (write_new_on sector bytes.now)).code }
-    ensures state { state_of handle.new ≡ (on_state (state_of handle.old) (write_new_on sector bytes.now)).state }
+    ensures state { state_of handle.new
+        ≡ (on_state (state_of handle.old) (write_new_on sector bytes.now)).state }
 {
     handle.on(alloc, |seat| match seat {
         Seat::One(layer) => layer::write_new(layer, sector, bytes),

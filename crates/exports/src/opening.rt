@@ -227,11 +227,15 @@ pub extern "C" fn mintlintel_shared_open(
     endurance: u32,
 ) -> u32
     ensures code { result ≡ shared_open_code (not (nat_eq result ALREADY_OPEN))
-        (numbers luns blocks pages words sectors endurance (capped TOO_MANY_HOSTS (length hosts.old))
+        (numbers luns blocks pages words sectors endurance
+        (capped TOO_MANY_HOSTS (length hosts.old))
         (capped TOO_MANY_BROOMS (length brooms.old))) (not (nat_eq result NO_MEMORY)) }
     ensures closed { result ≢ ALREADY_OPEN → All IsClosed hosts.old × All IsClosed brooms.old }
     ensures open { result ≡ ALREADY_OPEN → ¬ (All IsClosed hosts.old × All IsClosed brooms.old) }
-    ensures fresh { result ≡ DONE → AreFresh (numbers luns blocks pages words sectors endurance (length hosts.old) (length brooms.old)) hosts.new brooms.new }
+    ensures fresh { result ≡ DONE
+        → AreFresh
+        (numbers luns blocks pages words sectors endurance
+        (length hosts.old) (length brooms.old)) hosts.new brooms.new }
     ensures closed_hosts { result ≡ NO_MEMORY → All IsClosed hosts.new }
     ensures closed_brooms { result ≡ NO_MEMORY → All IsClosed brooms.new }
     ensures same_hosts { result ≢ DONE → result ≢ NO_MEMORY → hosts.new ≡ hosts.old }

@@ -72,13 +72,19 @@ pub extern "C" fn mintlintel_host_read(
     sector: u32,
     out: &mut [u8],
 ) -> u32
-    ensures code { result ≡ host_code (seat_of handle.old) (read_code sector (length out.old) (seen_of (seat_of handle.new))) }
-    ensures buffer { out.new ≡ by_host (seat_of handle.old) out.old out.old (read_buffer sector out.old (seen_of (seat_of handle.new))) }
+    ensures code { result
+        ≡ host_code (seat_of handle.old)
+        (read_code sector (length out.old) (seen_of (seat_of handle.new))) }
+    ensures buffer { out.new
+        ≡ by_host (seat_of handle.old) out.old out.old
+        (read_buffer sector out.old (seen_of (seat_of handle.new))) }
     ensures correct { HostCalled (seat_of handle.old) (seat_of handle.new)
-        (λ v p q. result ≤ WRITTEN → IsStep v p (Read sector) (Found (got_by result) out.old out.new) q) }
+        (λ v p q. result ≤ WRITTEN
+        → IsStep v p (Read sector) (Found (got_by result) out.old out.new) q) }
     ensures searched { HostCalled (seat_of handle.old) (seat_of handle.new)
         (λ v p q. result ≤ WRITTEN → (tries : ℕ) × Searched (view_of p) tries (view_of q)) }
-    ensures same { HostCalled (seat_of handle.old) (seat_of handle.new) (λ v p q. WRITTEN < result → q ≡ p) }
+    ensures same { HostCalled (seat_of handle.old) (seat_of handle.new)
+        (λ v p q. WRITTEN < result → q ≡ p) }
 {
     handle.on_page(alloc, out, |seat, out| match seat {
         Seat::Host(host) => host.read(sector, out),
@@ -89,13 +95,16 @@ pub extern "C" fn mintlintel_host_read(
 /// Whether a sector is written, by one look at its map word. No page is read.
 #[unsafe(no_mangle)]
 pub extern "C" fn mintlintel_host_look(alloc: Global, handle: &mut Handle, sector: u32) -> u32
-    ensures code { result ≡ host_code (seat_of handle.old) (look_code sector (seen_of (seat_of handle.new))) }
+    ensures code { result
+        ≡ host_code (seat_of handle.old) (look_code sector (seen_of (seat_of handle.new))) }
     ensures correct { HostCalled (seat_of handle.old) (seat_of handle.new)
         (λ v p q. result ≤ WRITTEN → IsStep v p (Look sector) (IsWritten (written_by result)) q) }
     ensures searched { HostCalled (seat_of handle.old) (seat_of handle.new)
         (λ v p q. result ≤ WRITTEN → Searched (view_of p) 1 (view_of q)) }
-    ensures opened { HostCalled (seat_of handle.old) (seat_of handle.new) (λ v p q. opened_of q ≡ opened_of p) }
-    ensures same { HostCalled (seat_of handle.old) (seat_of handle.new) (λ v p q. WRITTEN < result → q ≡ p) }
+    ensures opened { HostCalled (seat_of handle.old) (seat_of handle.new)
+        (λ v p q. opened_of q ≡ opened_of p) }
+    ensures same { HostCalled (seat_of handle.old) (seat_of handle.new)
+        (λ v p q. WRITTEN < result → q ≡ p) }
 {
     handle.on(alloc, |seat| match seat {
         Seat::Host(host) => host.look(sector),
@@ -111,9 +120,11 @@ pub extern "C" fn mintlintel_host_write(
     sector: u32,
     bytes: &[u8],
 ) -> u32
-    ensures code { result ≡ host_code (seat_of handle.old) (write_code sector (length bytes.now) result) }
+    ensures code { result
+        ≡ host_code (seat_of handle.old) (write_code sector (length bytes.now) result) }
     ensures correct { HostCalled (seat_of handle.old) (seat_of handle.new)
-        (λ v p q. result ≤ WRITTEN → IsStep v p (Write sector bytes.now) (Replaced (was_by result)) q) }
+        (λ v p q. result ≤ WRITTEN
+        → IsStep v p (Write sector bytes.now) (Replaced (was_by result)) q) }
     ensures wrote { HostCalled (seat_of handle.old) (seat_of handle.new)
         (λ v p q. result ≤ WRITTEN → HasWritten p sector bytes.now (was_by result) q) }
     ensures refused { HostCalled (seat_of handle.old) (seat_of handle.new)
@@ -135,9 +146,11 @@ pub extern "C" fn mintlintel_host_write_new(
     sector: u32,
     bytes: &[u8],
 ) -> u32
-    ensures code { result ≡ host_code (seat_of handle.old) (write_code sector (length bytes.now) result) }
+    ensures code { result
+        ≡ host_code (seat_of handle.old) (write_code sector (length bytes.now) result) }
     ensures correct { HostCalled (seat_of handle.old) (seat_of handle.new)
-        (λ v p q. result ≤ WRITTEN → IsStep v p (WriteNew sector bytes.now) (Replaced (was_by result)) q) }
+        (λ v p q. result ≤ WRITTEN
+        → IsStep v p (WriteNew sector bytes.now) (Replaced (was_by result)) q) }
     ensures wrote { HostCalled (seat_of handle.old) (seat_of handle.new)
         (λ v p q. result ≤ WRITTEN → HasWrittenNew p sector bytes.now (was_by result) q) }
     ensures refused { HostCalled (seat_of handle.old) (seat_of handle.new)
@@ -159,7 +172,8 @@ pub extern "C" fn mintlintel_host_trim(alloc: Global, handle: &mut Handle, secto
         (λ v p q. result ≤ WRITTEN → IsStep v p (Trim sector) (Replaced (was_by result)) q) }
     ensures called { HostCalled (seat_of handle.old) (seat_of handle.new)
         (λ v p q. result ≤ WRITTEN → HasTrimmed p sector (was_by result) q) }
-    ensures same { HostCalled (seat_of handle.old) (seat_of handle.new) (λ v p q. WRITTEN < result → q ≡ p) }
+    ensures same { HostCalled (seat_of handle.old) (seat_of handle.new)
+        (λ v p q. WRITTEN < result → q ≡ p) }
 {
     handle.on(alloc, |seat| match seat {
         Seat::Host(host) => host.trim(sector),
@@ -170,7 +184,8 @@ pub extern "C" fn mintlintel_host_trim(alloc: Global, handle: &mut Handle, secto
 /// Holds the page that has a sector's value, so that its block is not erased up to the release.
 #[unsafe(no_mangle)]
 pub extern "C" fn mintlintel_host_hold(alloc: Global, handle: &mut Handle, sector: u32) -> u32
-    ensures code { result ≡ host_code (seat_of handle.old) (hold_code sector (seen_of (seat_of handle.new))) }
+    ensures code { result
+        ≡ host_code (seat_of handle.old) (hold_code sector (seen_of (seat_of handle.new))) }
     ensures held { HoldCalled sector result (seat_of handle.old) (seat_of handle.new) }
 {
     handle.on(alloc, |seat| hold(seat, sector))
@@ -181,7 +196,8 @@ pub extern "C" fn mintlintel_host_hold(alloc: Global, handle: &mut Handle, secto
 pub extern "C" fn mintlintel_host_copy(alloc: Global, handle: &mut Handle, out: &mut [u8]) -> u32
     ensures code { result ≡ holder_code (seat_of handle.old) (copy_code (length out.old)) }
     ensures buffer { out.new ≡ by_holder (seat_of handle.old) out.old out.old (copied out.old) }
-    ensures page { HolderCalled (seat_of handle.old) (seat_of handle.new) (λ v k j. page_of j ≡ page_of k) }
+    ensures page { HolderCalled (seat_of handle.old) (seat_of handle.new)
+        (λ v k j. page_of j ≡ page_of k) }
     ensures view { HolderCalled (seat_of handle.old) (seat_of handle.new)
         (λ v k j. view_of (pass_of j) ≡ view_of (pass_of k)) }
     ensures undisturbed { HolderCalled (seat_of handle.old) (seat_of handle.new)
@@ -203,7 +219,8 @@ pub extern "C" fn mintlintel_host_word(
 ) -> u32
     ensures code { result ≡ holder_code (seat_of handle.old) (word_code i) }
     ensures word { out.new ≡ by_holder (seat_of handle.old) out.old out.old (word_read i out.old) }
-    ensures page { HolderCalled (seat_of handle.old) (seat_of handle.new) (λ v k j. page_of j ≡ page_of k) }
+    ensures page { HolderCalled (seat_of handle.old) (seat_of handle.new)
+        (λ v k j. page_of j ≡ page_of k) }
     ensures view { HolderCalled (seat_of handle.old) (seat_of handle.new)
         (λ v k j. view_of (pass_of j) ≡ view_of (pass_of k)) }
     ensures undisturbed { HolderCalled (seat_of handle.old) (seat_of handle.new)
@@ -249,12 +266,14 @@ pub extern "C" fn mintlintel_broom_drain(
     block: &mut u32,
     moved: &mut u32,
 ) -> u32
-    ensures code { result ≡ sweeper_code (seat_of handle.old) (λ _. drain_code (drain_by result block.new moved.new)) }
+    ensures code { result ≡ sweeper_code (seat_of handle.old)
+        (λ _. drain_code (drain_by result block.new moved.new)) }
     ensures drained { BroomCalled (seat_of handle.old) (seat_of handle.new)
         (λ v b c. DrainTold b (drain_by result block.new moved.new) c) }
     ensures left { BroomCalled (seat_of handle.old) (seat_of handle.new)
         (λ v b c. SurveyLeft b (drain_by result block.new moved.new) c) }
-    ensures queue { BroomCalled (seat_of handle.old) (seat_of handle.new) (λ v b c. HandsNothing b c) }
+    ensures queue { BroomCalled (seat_of handle.old) (seat_of handle.new)
+        (λ v b c. HandsNothing b c) }
     ensures below { BroomCalled (seat_of handle.old) (seat_of handle.new)
         (λ v b c. IsBelow (blocks_of (numbers_of v)) (drain_by result block.new moved.new)) }
     ensures block { result ≢ DONE → block.new ≡ block.old }
@@ -274,10 +293,12 @@ pub extern "C" fn mintlintel_broom_drain_next(
     block: &mut u32,
     moved: &mut u32,
 ) -> u32
-    ensures code { result ≡ sweeper_code (seat_of handle.old) (λ _. drain_code (drain_by result block.new moved.new)) }
+    ensures code { result ≡ sweeper_code (seat_of handle.old)
+        (λ _. drain_code (drain_by result block.new moved.new)) }
     ensures drained { BroomCalled (seat_of handle.old) (seat_of handle.new)
         (λ v b c. NextTold b (drain_by result block.new moved.new) c) }
-    ensures queue { BroomCalled (seat_of handle.old) (seat_of handle.new) (λ v b c. HandsNothing b c) }
+    ensures queue { BroomCalled (seat_of handle.old) (seat_of handle.new)
+        (λ v b c. HandsNothing b c) }
     ensures below { BroomCalled (seat_of handle.old) (seat_of handle.new)
         (λ v b c. IsBelow (blocks_of (numbers_of v)) (drain_by result block.new moved.new)) }
     ensures block { result ≢ DONE → block.new ≡ block.old }
@@ -298,10 +319,12 @@ pub extern "C" fn mintlintel_broom_drain_dead(
     block: &mut u32,
     moved: &mut u32,
 ) -> u32
-    ensures code { result ≡ sweeper_code (seat_of handle.old) (λ _. drain_code (drain_by result block.new moved.new)) }
+    ensures code { result ≡ sweeper_code (seat_of handle.old)
+        (λ _. drain_code (drain_by result block.new moved.new)) }
     ensures drained { BroomCalled (seat_of handle.old) (seat_of handle.new)
         (λ v b c. DeadTold b (drain_by result block.new moved.new) c) }
-    ensures queue { BroomCalled (seat_of handle.old) (seat_of handle.new) (λ v b c. HandsNothing b c) }
+    ensures queue { BroomCalled (seat_of handle.old) (seat_of handle.new)
+        (λ v b c. HandsNothing b c) }
     ensures below { BroomCalled (seat_of handle.old) (seat_of handle.new)
         (λ v b c. IsBelow (blocks_of (numbers_of v)) (drain_by result block.new moved.new)) }
     ensures block { result ≢ DONE → block.new ≡ block.old }
@@ -323,7 +346,8 @@ pub extern "C" fn mintlintel_broom_erase(alloc: Global, handle: &mut Handle, blo
         (λ v b c. result ≢ NO_SUCH_BLOCK → Unmarks b block c) }
     ensures queue { BroomCalled (seat_of handle.old) (seat_of handle.new)
         (λ v b c. result ≢ NO_SUCH_BLOCK → HandsNothing b c) }
-    ensures same { BroomCalled (seat_of handle.old) (seat_of handle.new) (λ v b c. result ≡ NO_SUCH_BLOCK → c ≡ b) }
+    ensures same { BroomCalled (seat_of handle.old) (seat_of handle.new)
+        (λ v b c. result ≡ NO_SUCH_BLOCK → c ≡ b) }
 {
     handle.on(alloc, |seat| match seat {
         Seat::Sweeper(sweeper) => sweeper.erase(block),
@@ -334,11 +358,14 @@ pub extern "C" fn mintlintel_broom_erase(alloc: Global, handle: &mut Handle, blo
 /// Makes a free block the spare of a broom that has none.
 #[unsafe(no_mangle)]
 pub extern "C" fn mintlintel_broom_restock(alloc: Global, handle: &mut Handle) -> u32
-    ensures code { result ≡ sweeper_code (seat_of handle.old) (λ _. restock_code (stocked_by result)) }
+    ensures code { result ≡ sweeper_code (seat_of handle.old)
+        (λ _. restock_code (stocked_by result)) }
     ensures restocked { BroomCalled (seat_of handle.old) (seat_of handle.new)
         (λ v b c. RestockTold b (stocked_by result) c) }
-    ensures queue { BroomCalled (seat_of handle.old) (seat_of handle.new) (λ v b c. HandsNothing b c) }
-    ensures survey { BroomCalled (seat_of handle.old) (seat_of handle.new) (λ v b c. KeepsSurvey b c) }
+    ensures queue { BroomCalled (seat_of handle.old) (seat_of handle.new)
+        (λ v b c. HandsNothing b c) }
+    ensures survey { BroomCalled (seat_of handle.old) (seat_of handle.new)
+        (λ v b c. KeepsSurvey b c) }
 {
     handle.on(alloc, |seat| match seat {
         Seat::Sweeper(sweeper) => sweeper.restock(),
@@ -355,7 +382,8 @@ fn drained<F: FnOnce(&mut Seat, &mut Drained) -> u32>(
     call: F,
 ) -> u32
     requires { F.IsAlwaysCallable call }
-    ensures { CallsWith {O = Drained} (seat_of handle.old) (record { block = block.old; moved = moved.old }) result (seat_of handle.new)
+    ensures { CallsWith {O = Drained} (seat_of handle.old)
+        (record { block = block.old; moved = moved.old }) result (seat_of handle.new)
         (record { block = block.new; moved = moved.new }) (λ x o code y p. ReturnsAtBoth F.FnOnce call x o code y p) }
 {
     let mut drained = Drained {
@@ -411,10 +439,14 @@ pub extern "C" fn mintlintel_broom_block(
     block: u32,
     out: &mut StateReport,
 ) -> u32
-    ensures code { result ≡ sweeper_code (seat_of handle.old) (λ s. block_code (numbers_of (sweeper_volume s)) block) }
-    ensures reported { BroomCalled (seat_of handle.old) (seat_of handle.new) (λ v b c. result ≡ DONE → BlockReported b block out.new c) }
-    ensures queue { BroomCalled (seat_of handle.old) (seat_of handle.new) (λ v b c. result ≡ DONE → HandsNothing b c) }
-    ensures same { BroomCalled (seat_of handle.old) (seat_of handle.new) (λ v b c. result ≢ DONE → c ≡ b) }
+    ensures code { result ≡ sweeper_code (seat_of handle.old)
+        (λ s. block_code (numbers_of (sweeper_volume s)) block) }
+    ensures reported { BroomCalled (seat_of handle.old) (seat_of handle.new)
+        (λ v b c. result ≡ DONE → BlockReported b block out.new c) }
+    ensures queue { BroomCalled (seat_of handle.old) (seat_of handle.new)
+        (λ v b c. result ≡ DONE → HandsNothing b c) }
+    ensures same { BroomCalled (seat_of handle.old) (seat_of handle.new)
+        (λ v b c. result ≢ DONE → c ≡ b) }
     ensures unchanged { result ≢ DONE → out.new ≡ out.old }
 {
     handle.on_with(alloc, out, |seat, out| match seat {
@@ -430,12 +462,16 @@ pub extern "C" fn mintlintel_broom_counts(
     handle: &mut Handle,
     out: &mut CountsReport,
 ) -> u32
-    ensures code { result ≡ sweeper_code (seat_of handle.old) (λ s. counts_code (numbers_of (sweeper_volume s)) out.new) }
+    ensures code { result ≡ sweeper_code (seat_of handle.old)
+        (λ s. counts_code (numbers_of (sweeper_volume s)) out.new) }
     ensures counted { BroomCalled (seat_of handle.old) (seat_of handle.new)
         (λ v b c. (states : List PinWord) × AllLoaded (device (flash_of v)) b states c
-        × (out.new ≡ counts_report (counts_in states) (as_number (is_some (blocks_of_broom b).spare)))) }
-    ensures queue { BroomCalled (seat_of handle.old) (seat_of handle.new) (λ v b c. HandsNothing b c) }
-    ensures unchanged { (result ≡ CLOSED → out.new ≡ out.old) × (result ≡ WRONG_KIND → out.new ≡ out.old) }
+        × (out.new
+        ≡ counts_report (counts_in states) (as_number (is_some (blocks_of_broom b).spare)))) }
+    ensures queue { BroomCalled (seat_of handle.old) (seat_of handle.new)
+        (λ v b c. HandsNothing b c) }
+    ensures unchanged { (result ≡ CLOSED → out.new ≡ out.old)
+        × (result ≡ WRONG_KIND → out.new ≡ out.old) }
 {
     handle.on_with(alloc, out, |seat, out| match seat {
         Seat::Sweeper(sweeper) => sweeper.counts(out),
@@ -451,7 +487,8 @@ pub extern "C" fn mintlintel_broom_tally(
     out: &mut TallyReport,
 ) -> u32
     ensures code { result ≡ sweeper_code (seat_of handle.old) (λ _. DONE) }
-    ensures tally { out.new ≡ by_sweeper (seat_of handle.old) out.old out.old (λ s. tally_of s.broom) }
+    ensures tally { out.new ≡ by_sweeper (seat_of handle.old) out.old out.old
+        (λ s. tally_of s.broom) }
     ensures same { seat_of handle.new ≡ seat_of handle.old }
 {
     handle.on_with(alloc, out, |seat, out| match seat {

@@ -23,10 +23,13 @@ impl Sweeper {
     pub(crate) fn drain(&mut self, out: &mut Drained) -> u32
         ensures device { self.new.volume ≡ self.old.volume }
         ensures code { result ≡ drain_code (drain_by result out.new.block out.new.moved) }
-        ensures drained { DrainTold self.old.broom (drain_by result out.new.block out.new.moved) self.new.broom }
-        ensures left { SurveyLeft self.old.broom (drain_by result out.new.block out.new.moved) self.new.broom }
+        ensures drained { DrainTold self.old.broom
+            (drain_by result out.new.block out.new.moved) self.new.broom }
+        ensures left { SurveyLeft self.old.broom
+            (drain_by result out.new.block out.new.moved) self.new.broom }
         ensures queue { HandsNothing self.old.broom self.new.broom }
-        ensures below { IsBelow (blocks_of (numbers_of (sweeper_volume self.old))) (drain_by result out.new.block out.new.moved) }
+        ensures below { IsBelow (blocks_of (numbers_of (sweeper_volume self.old)))
+            (drain_by result out.new.block out.new.moved) }
         ensures same { result ≢ DONE → out.new ≡ out.old }
     {
         let pages = self.volume.geometry().pages();
@@ -41,9 +44,11 @@ impl Sweeper {
     pub(crate) fn drain_next(&mut self, out: &mut Drained) -> u32
         ensures device { self.new.volume ≡ self.old.volume }
         ensures code { result ≡ drain_code (drain_by result out.new.block out.new.moved) }
-        ensures drained { NextTold self.old.broom (drain_by result out.new.block out.new.moved) self.new.broom }
+        ensures drained { NextTold self.old.broom
+            (drain_by result out.new.block out.new.moved) self.new.broom }
         ensures queue { HandsNothing self.old.broom self.new.broom }
-        ensures below { IsBelow (blocks_of (numbers_of (sweeper_volume self.old))) (drain_by result out.new.block out.new.moved) }
+        ensures below { IsBelow (blocks_of (numbers_of (sweeper_volume self.old)))
+            (drain_by result out.new.block out.new.moved) }
         ensures same { result ≢ DONE → out.new ≡ out.old }
     {
         let pages = self.volume.geometry().pages();
@@ -58,9 +63,11 @@ impl Sweeper {
     pub(crate) fn drain_dead(&mut self, out: &mut Drained) -> u32
         ensures device { self.new.volume ≡ self.old.volume }
         ensures code { result ≡ drain_code (drain_by result out.new.block out.new.moved) }
-        ensures drained { DeadTold self.old.broom (drain_by result out.new.block out.new.moved) self.new.broom }
+        ensures drained { DeadTold self.old.broom
+            (drain_by result out.new.block out.new.moved) self.new.broom }
         ensures queue { HandsNothing self.old.broom self.new.broom }
-        ensures below { IsBelow (blocks_of (numbers_of (sweeper_volume self.old))) (drain_by result out.new.block out.new.moved) }
+        ensures below { IsBelow (blocks_of (numbers_of (sweeper_volume self.old)))
+            (drain_by result out.new.block out.new.moved) }
         ensures same { result ≢ DONE → out.new ≡ out.old }
     {
         let answer = self.volume.drain_dead(&mut self.broom, &mut NoGate);
@@ -71,7 +78,8 @@ impl Sweeper {
     pub(crate) fn erase(&mut self, block: u32) -> u32
         ensures device { self.new.volume ≡ self.old.volume }
         ensures code { result ≡ erased_code block result self.old }
-        ensures erased { result ≢ NO_SUCH_BLOCK → EraseTold self.old.broom block (erase_by result block) self.new.broom }
+        ensures erased { result ≢ NO_SUCH_BLOCK
+            → EraseTold self.old.broom block (erase_by result block) self.new.broom }
         ensures marks { result ≢ NO_SUCH_BLOCK → Unmarks self.old.broom block self.new.broom }
         ensures queue { result ≢ NO_SUCH_BLOCK → HandsNothing self.old.broom self.new.broom }
         ensures same { result ≡ NO_SUCH_BLOCK → self.new.broom ≡ self.old.broom }
@@ -152,7 +160,8 @@ impl TallyReport {
 // The code of a drain's answer. Reports the number of a drained block, and how many pages moved.
 fn hand_out(answer: Drain, out: &mut Drained) -> u32
     ensures code { result ≡ drain_code (drain_by result out.new.block out.new.moved) }
-    ensures answer { answer ≢ drain.QueueFull → drain_by result out.new.block out.new.moved ≡ answer }
+    ensures answer { answer ≢ drain.QueueFull
+        → drain_by result out.new.block out.new.moved ≡ answer }
     ensures same { result ≢ DONE → out.new ≡ out.old }
 {
     match answer {

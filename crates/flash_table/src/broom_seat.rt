@@ -57,7 +57,9 @@ impl BroomSeat {
     /// Makes the spare the destination.
     pub fn use_spare(&mut self)
         requires { (own_blocks self.old).destination ≡ None }
-        ensures blocks { own_blocks self.new ≡ record (own_blocks self.old) { destination = (own_blocks self.old).spare; spare = None } }
+        ensures blocks { own_blocks self.new
+            ≡ record
+            (own_blocks self.old) { destination = (own_blocks self.old).spare; spare = None } }
         ensures same { broom_view self.new ≡ broom_view self.old }
         ensures broom { (f : Flash) → IsBroomOf f self.old → IsBroomOf f self.new }
     {

@@ -21,10 +21,12 @@ impl Flash {
     /// Stores word `i` of the destination's first page that isn't written, whose words begin at `start`. The stamp comes after the data words.
     pub fn put_copy_word(&self, broom: &mut BroomSeat, start: usize, i: u32, word: u64)
         requires broom { IsBroomOf self.now broom.old }
-        requires next { IsNextWord (geometry_of self.now) (broom_view broom.old) (own_blocks broom.old).destination i }
+        requires next { IsNextWord (geometry_of self.now)
+            (broom_view broom.old) (own_blocks broom.old).destination i }
         requires start { (o : OpenBlock) → (own_blocks broom.old).destination ≡ Some o
             → start ≡ page_index (numbers_of (geometry_of self.now)) o.block o.written }
-        ensures put { HasPut (broom_view broom.old) (own_blocks broom.old).destination word (broom_view broom.new) }
+        ensures put { HasPut (broom_view broom.old)
+            (own_blocks broom.old).destination word (broom_view broom.new) }
         ensures broom { IsBroomOf self.now broom.new }
         ensures blocks { own_blocks broom.new ≡ own_blocks broom.old }
     {
@@ -37,7 +39,8 @@ impl Flash {
     /// Counts the page of the destination that was filled; from now on it is programmed.
     pub fn count_copy(&self, broom: &mut BroomSeat)
         requires broom { IsBroomOf self.now broom.old }
-        requires filled { IsFilled (geometry_of self.now) (broom_view broom.old) (own_blocks broom.old).destination }
+        requires filled { IsFilled (geometry_of self.now)
+            (broom_view broom.old) (own_blocks broom.old).destination }
         ensures counted { (o : OpenBlock) (x : Work) → (own_blocks broom.old).destination ≡ Some o → CanCount (broom_view broom.old) (owned_of o) x
             → broom_view broom.new ≡ record (broom_view broom.old) {
               programs = (broom_view broom.old).programs ++ x.page ∷ [];
@@ -63,9 +66,12 @@ impl Flash {
     /// Gives up the destination, full or not.
     pub fn close_destination(&self, broom: &mut BroomSeat)
         requires broom { IsBroomOf self.now broom.old }
-        requires settled { CanGiveUp (geometry_of self.now) (broom_view broom.old) (own_blocks broom.old).destination }
-        ensures closed { (o : OpenBlock) → (own_blocks broom.old).destination ≡ Some o → broom_view broom.new ≡ left_closed (broom_view broom.old) o }
-        ensures blocks { own_blocks broom.new ≡ record (own_blocks broom.old) { destination = None } }
+        requires settled { CanGiveUp (geometry_of self.now)
+            (broom_view broom.old) (own_blocks broom.old).destination }
+        ensures closed { (o : OpenBlock) → (own_blocks broom.old).destination ≡ Some o
+            → broom_view broom.new ≡ left_closed (broom_view broom.old) o }
+        ensures blocks { own_blocks broom.new
+            ≡ record (own_blocks broom.old) { destination = None } }
         ensures broom { IsBroomOf self.now broom.new }
     {
         let Some(opened) = broom.blocks.destination else {

@@ -48,7 +48,8 @@ impl Flash {
     pub fn wipe(&self, broom: &mut BroomSeat, start: usize, i: u32)
         requires broom { IsBroomOf self.now broom.old }
         requires erasing { (o : ReclaimedBlock) × IsErasing self.now broom.old o }
-        requires start { (o : ReclaimedBlock) → (own_blocks broom.old).reclaiming ≡ reclaiming.Erasing o
+        requires start { (o : ReclaimedBlock)
+            → (own_blocks broom.old).reclaiming ≡ reclaiming.Erasing o
             → start ≡ page_index (device self.now) o.block 0 }
         requires next { i ≡ (broom_view broom.old).wiped }
         requires word { i < words_in_block (device self.now) }
@@ -66,9 +67,11 @@ impl Flash {
     pub fn free_block(&self, broom: &mut BroomSeat)
         requires broom { IsBroomOf self.now broom.old }
         requires wiped { (o : ReclaimedBlock) × CanLiveOn self.now broom.old o }
-        ensures freed { (o : ReclaimedBlock) → (own_blocks broom.old).reclaiming ≡ reclaiming.Erasing o
+        ensures freed { (o : ReclaimedBlock)
+            → (own_blocks broom.old).reclaiming ≡ reclaiming.Erasing o
             → broom_view broom.new ≡ left_free (broom_view broom.old) o }
-        ensures blocks { own_blocks broom.new ≡ record (own_blocks broom.old) { reclaiming = reclaiming.Nothing } }
+        ensures blocks { own_blocks broom.new
+            ≡ record (own_blocks broom.old) { reclaiming = reclaiming.Nothing } }
         ensures broom { IsBroomOf self.now broom.new }
     {
         let Reclaiming::Erasing(erased) = broom.blocks.reclaiming else {
@@ -86,10 +89,12 @@ impl Flash {
         requires broom { IsBroomOf self.now broom.old }
         requires wiped { (o : ReclaimedBlock) × CanLiveOn self.now broom.old o }
         requires no_spare { (own_blocks broom.old).spare ≡ None }
-        ensures kept { (o : ReclaimedBlock) → (own_blocks broom.old).reclaiming ≡ reclaiming.Erasing o
+        ensures kept { (o : ReclaimedBlock)
+            → (own_blocks broom.old).reclaiming ≡ reclaiming.Erasing o
             → broom_view broom.new ≡ record (broom_view broom.old)
             { owns = with_owned (owned_of (record { block = o.block; generation = o.generation + 1; written = 0 })) (broom_view broom.old).owns } }
-        ensures blocks { (o : ReclaimedBlock) → (own_blocks broom.old).reclaiming ≡ reclaiming.Erasing o
+        ensures blocks { (o : ReclaimedBlock)
+            → (own_blocks broom.old).reclaiming ≡ reclaiming.Erasing o
             → own_blocks broom.new ≡ record (own_blocks broom.old)
             { spare = Some (record { block = o.block; generation = o.generation + 1; written = 0 }); reclaiming = reclaiming.Nothing } }
         ensures broom { IsBroomOf self.now broom.new }
@@ -116,9 +121,11 @@ impl Flash {
     pub fn retire_block(&self, broom: &mut BroomSeat)
         requires broom { IsBroomOf self.now broom.old }
         requires last { (o : ReclaimedBlock) × IsLastErase self.now broom.old o }
-        ensures retired { (o : ReclaimedBlock) → (own_blocks broom.old).reclaiming ≡ reclaiming.Erasing o
+        ensures retired { (o : ReclaimedBlock)
+            → (own_blocks broom.old).reclaiming ≡ reclaiming.Erasing o
             → broom_view broom.new ≡ left_retired (broom_view broom.old) o }
-        ensures blocks { own_blocks broom.new ≡ record (own_blocks broom.old) { reclaiming = reclaiming.Nothing } }
+        ensures blocks { own_blocks broom.new
+            ≡ record (own_blocks broom.old) { reclaiming = reclaiming.Nothing } }
         ensures broom { IsBroomOf self.now broom.new }
     {
         let Reclaiming::Erasing(erased) = broom.blocks.reclaiming else {

@@ -15,7 +15,8 @@ use geometry::{MapWord, PinWord};
 
 // Whether a map word names a page of this block in this generation.
 fn is_page_in(word: u64, block: u32, generation: u32) -> bool
-    ensures { (x : Option MapWord) → word ≡ sector_word x → ((m : MapWord) → x ≡ Some m → FitsMap m) → result ≡ is_page_of block generation x }
+    ensures { (x : Option MapWord) → word ≡ sector_word x
+        → ((m : MapWord) → x ≡ Some m → FitsMap m) → result ≡ is_page_of block generation x }
 {
     match MapWord::unpack(word) {
         Some(page) => page.block == block && page.generation == generation,
@@ -35,7 +36,8 @@ impl Flash {
         requires broom { IsBroomOf self.now broom.old }
         requires next { CanInspect (broom_view broom.old) block state sector }
         requires sector { sector < sectors_of (geometry_of self.now) }
-        ensures inspected { InspectTold (broom_view broom.old) block state.generation sector result (broom_view broom.new) }
+        ensures inspected { InspectTold
+            (broom_view broom.old) block state.generation sector result (broom_view broom.new) }
         ensures broom { IsBroomOf self.now broom.new }
         ensures blocks { own_blocks broom.new ≡ own_blocks broom.old }
     {

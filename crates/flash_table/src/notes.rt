@@ -19,7 +19,8 @@ impl Flash {
         requires whole { (view_of pass.old).whole ≡ true }
         requires alone { (view_of pass.old).guest ≡ None }
         ensures lender { view_of pass.new ≡ lender (view_of pass.old) }
-        ensures note { (note_view result ≡ lent_note (view_of pass.old)) × IsNoteOf self.now result }
+        ensures note { (note_view result ≡ lent_note (view_of pass.old))
+            × IsNoteOf self.now result }
         ensures pass { IsPassOf self.now pass.new }
         ensures opened { opened_of pass.new ≡ opened_of pass.old }
     {
@@ -33,7 +34,8 @@ impl Flash {
         requires whole { (broom_view broom.old).whole ≡ true }
         requires alone { (broom_view broom.old).guest ≡ None }
         ensures lender { broom_view broom.new ≡ lender (broom_view broom.old) }
-        ensures note { (note_view result ≡ lent_note (broom_view broom.old)) × IsNoteOf self.now result }
+        ensures note { (note_view result ≡ lent_note (broom_view broom.old))
+            × IsNoteOf self.now result }
         ensures broom { IsBroomOf self.now broom.new }
         ensures blocks { own_blocks broom.new ≡ own_blocks broom.old }
     {
@@ -46,7 +48,8 @@ impl Flash {
         requires pass { IsPassOf self.now pass.old }
         requires note { IsNoteOf self.now note }
         requires whole { (view_of pass.old).whole ≡ true }
-        requires lent { (c : Carried) × ((note_view note).copy ≡ Some c) × ((note_view note).guest ≡ Some c.of) }
+        requires lent { (c : Carried) × ((note_view note).copy ≡ Some c)
+            × ((note_view note).guest ≡ Some c.of) }
         ensures host { view_of pass.new ≡ host_of (view_of pass.old) (note_view note) }
         ensures pass { IsPassOf self.now pass.new }
         ensures opened { opened_of pass.new ≡ opened_of pass.old }
@@ -60,7 +63,8 @@ impl Flash {
         requires broom { IsBroomOf self.now broom.old }
         requires note { IsNoteOf self.now note }
         requires whole { (broom_view broom.old).whole ≡ true }
-        requires lent { (c : Carried) × ((note_view note).copy ≡ Some c) × ((note_view note).guest ≡ Some c.of) }
+        requires lent { (c : Carried) × ((note_view note).copy ≡ Some c)
+            × ((note_view note).guest ≡ Some c.of) }
         ensures host { broom_view broom.new ≡ host_of (broom_view broom.old) (note_view note) }
         ensures broom { IsBroomOf self.now broom.new }
         ensures blocks { own_blocks broom.new ≡ own_blocks broom.old }
@@ -72,9 +76,11 @@ impl Flash {
     /// A note with the badge of the one that has lent it, and with what this one has seen and programmed.
     pub fn give_back(&self, pass: &mut Pass) -> Note
         requires pass { IsPassOf self.now pass.old }
-        requires guest { (n : Name) × ((view_of pass.old).guest ≡ Some n) × (¬ ((view_of pass.old).role ≡ role.Player n)) }
+        requires guest { (n : Name) × ((view_of pass.old).guest ≡ Some n)
+            × (¬ ((view_of pass.old).role ≡ role.Player n)) }
         ensures giver { view_of pass.new ≡ giver (view_of pass.old) }
-        ensures note { (note_view result ≡ given_note (view_of pass.old)) × IsNoteOf self.now result }
+        ensures note { (note_view result ≡ given_note (view_of pass.old))
+            × IsNoteOf self.now result }
         ensures pass { IsPassOf self.now pass.new }
         ensures opened { opened_of pass.new ≡ opened_of pass.old }
     {
@@ -85,9 +91,11 @@ impl Flash {
     /// A note with the badge of the one that has lent it, and with what this broom has seen, programmed and erased.
     pub fn broom_give_back(&self, broom: &mut BroomSeat) -> Note
         requires broom { IsBroomOf self.now broom.old }
-        requires guest { (n : Name) × ((broom_view broom.old).guest ≡ Some n) × (¬ ((broom_view broom.old).role ≡ role.Player n)) }
+        requires guest { (n : Name) × ((broom_view broom.old).guest ≡ Some n)
+            × (¬ ((broom_view broom.old).role ≡ role.Player n)) }
         ensures giver { broom_view broom.new ≡ giver (broom_view broom.old) }
-        ensures note { (note_view result ≡ given_note (broom_view broom.old)) × IsNoteOf self.now result }
+        ensures note { (note_view result ≡ given_note (broom_view broom.old))
+            × IsNoteOf self.now result }
         ensures broom { IsBroomOf self.now broom.new }
         ensures blocks { own_blocks broom.new ≡ own_blocks broom.old }
     {

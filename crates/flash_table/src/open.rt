@@ -52,9 +52,13 @@ impl Flash {
         geometry: &Geometry,
     ) -> Result<(Flash, Vec<Pass>, Vec<BroomSeat>), AllocError>
         ensures geometry { IfOk result (λ r. geometry_of r.0 ≡ geometry.now) }
-        ensures count { IfOk result (λ r. (length r.1.items ≡ hosts_of geometry.now) × (length r.2.items ≡ brooms_of geometry.now)) }
-        ensures passes { IfOk result (λ r. (t : ℕ) (p : Pass) → slice_get r.1.items t ≡ Some p → IsNewPass r.0 t p) }
-        ensures brooms { IfOk result (λ r. (i : ℕ) (b : BroomSeat) → slice_get r.2.items i ≡ Some b → IsNewBroom r.0 i b) }
+        ensures count { IfOk result
+            (λ r. (length r.1.items ≡ hosts_of geometry.now)
+            × (length r.2.items ≡ brooms_of geometry.now)) }
+        ensures passes { IfOk result
+            (λ r. (t : ℕ) (p : Pass) → slice_get r.1.items t ≡ Some p → IsNewPass r.0 t p) }
+        ensures brooms { IfOk result
+            (λ r. (i : ℕ) (b : BroomSeat) → slice_get r.2.items i ≡ Some b → IsNewBroom r.0 i b) }
     {
         let words = opening(alloc, geometry)?;
         let (table, mut dealer): (SharedTable, _) = Table::of_words(alloc, &words, geometry)?;

@@ -38,7 +38,8 @@ impl Flash {
     /// Pins the block of the page that a look has named. Returns false if the block was erased since the look, is being erased, or is retired.
     pub fn pin(&self, pass: &mut Pass, page: MapWord) -> bool
         requires pass { IsPassOf self.now pass.old }
-        requires candidate { (value : List ℕ) × ((view_of pass.old).pin ≡ pin.Candidate page value) }
+        requires candidate { (value : List ℕ)
+            × ((view_of pass.old).pin ≡ pin.Candidate page value) }
         requires block { page.block < blocks_of (geometry_of self.now) }
         ensures pinned { PinTold (view_of pass.old) page result (view_of pass.new) }
         ensures pass { IsPassOf self.now pass.new }
@@ -86,9 +87,11 @@ impl Flash {
         requires pinned { (value : List ℕ) × ((view_of pass.old).pin ≡ pin.Accepted page value) }
         requires block { page.block < blocks_of (geometry_of self.now) }
         requires page { page.page < pages_of (geometry_of self.now) }
-        requires start { start ≡ page_index (numbers_of (geometry_of self.now)) page.block page.page }
+        requires start { start
+            ≡ page_index (numbers_of (geometry_of self.now)) page.block page.page }
         requires word { i < words_of (geometry_of self.now) }
-        ensures value { (value : List ℕ) → (view_of pass.old).pin ≡ pin.Accepted page value → result ≡ data_word value i }
+        ensures value { (value : List ℕ) → (view_of pass.old).pin ≡ pin.Accepted page value
+            → result ≡ data_word value i }
         ensures spared { IsSpared (view_of pass.old) page }
         ensures same { view_of pass.new ≡ view_of pass.old }
         ensures pass { IsPassOf self.now pass.new }

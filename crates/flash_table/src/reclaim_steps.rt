@@ -20,9 +20,11 @@ impl Flash {
     pub fn load_state(&self, broom: &mut BroomSeat, block: u32) -> PinWord
         requires broom { IsBroomOf self.now broom.old }
         requires block { block < blocks_of (geometry_of self.now) }
-        ensures loaded { Loaded (broom_view broom.old) block (pin_word result) (broom_view broom.new) }
+        ensures loaded { Loaded (broom_view broom.old) block
+            (pin_word result) (broom_view broom.new) }
         ensures fits { FitsPin result }
-        ensures ranges { (result.generation < endurance_of (geometry_of self.now)) × (result.written ≤ pages_of (geometry_of self.now)) }
+        ensures ranges { (result.generation < endurance_of (geometry_of self.now))
+            × (result.written ≤ pages_of (geometry_of self.now)) }
         ensures broom { IsBroomOf self.now broom.new }
         ensures blocks { own_blocks broom.new ≡ own_blocks broom.old }
     {
@@ -41,9 +43,12 @@ impl Flash {
         requires state { FitsPin state × (state.phase ≡ phase.Closed) }
         requires loaded { IsLastLoaded (broom_view broom.old) block (pin_word state) }
         requires at_rest { (own_blocks broom.old).reclaiming ≡ reclaiming.Nothing }
-        ensures claimed { MatchBool result (IsClaimed (broom_view broom.old) block state (broom_view broom.new))
+        ensures claimed { MatchBool result
+            (IsClaimed (broom_view broom.old) block state (broom_view broom.new))
             (broom_view broom.new ≡ record (broom_view broom.old) { lost = (broom_view broom.old).lost ++ block ∷ [] }) }
-        ensures blocks { MatchBool result (NowDrains (own_blocks broom.old) block state (own_blocks broom.new)) (own_blocks broom.new ≡ own_blocks broom.old) }
+        ensures blocks { MatchBool result
+            (NowDrains (own_blocks broom.old) block state (own_blocks broom.new))
+            (own_blocks broom.new ≡ own_blocks broom.old) }
         ensures broom { IsBroomOf self.now broom.new }
     {
         let word = pin_at(&self.geometry, block);
@@ -66,11 +71,14 @@ impl Flash {
     /// Gives up the victim after all its counted pages are dead, or after it was inspected.
     pub fn drain(&self, broom: &mut BroomSeat)
         requires broom { IsBroomOf self.now broom.old }
-        requires emptied { IsCleared (geometry_of self.now) (broom_view broom.old) (own_blocks broom.old)
+        requires emptied { IsCleared (geometry_of self.now)
+            (broom_view broom.old) (own_blocks broom.old)
             ⊎ HasInspected (geometry_of self.now) (broom_view broom.old) (own_blocks broom.old) }
-        ensures drained { (o : ReclaimedBlock) → (own_blocks broom.old).reclaiming ≡ reclaiming.Draining o
+        ensures drained { (o : ReclaimedBlock)
+            → (own_blocks broom.old).reclaiming ≡ reclaiming.Draining o
             → broom_view broom.new ≡ left_drained (broom_view broom.old) o }
-        ensures blocks { own_blocks broom.new ≡ record (own_blocks broom.old) { reclaiming = reclaiming.Nothing } }
+        ensures blocks { own_blocks broom.new
+            ≡ record (own_blocks broom.old) { reclaiming = reclaiming.Nothing } }
         ensures broom { IsBroomOf self.now broom.new }
     {
         let Reclaiming::Draining(victim) = broom.blocks.reclaiming else {

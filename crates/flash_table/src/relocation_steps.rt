@@ -19,7 +19,8 @@ impl Flash {
     pub fn broom_look(&self, broom: &mut BroomSeat, sector: u32) -> Option<MapWord>
         requires broom { IsBroomOf self.now broom.old }
         requires sector { sector < sectors_of (geometry_of self.now) }
-        ensures named { Named (broom_view broom.old) sector (sector_word result) (broom_view broom.new) }
+        ensures named { Named (broom_view broom.old) sector
+            (sector_word result) (broom_view broom.new) }
         ensures fits { IfSome result FitsMap }
         ensures broom { IsBroomOf self.now broom.new }
         ensures blocks { own_blocks broom.new ≡ own_blocks broom.old }
@@ -37,7 +38,8 @@ impl Flash {
         requires next { IsOfVictim (geometry_of self.now) (own_blocks broom.old) page }
         requires cleared { page ≡ (broom_view broom.old).cleared }
         requires page { page < pages_of (geometry_of self.now) }
-        ensures stamp { StampTold (broom_view broom.old) (own_blocks broom.old) result (broom_view broom.new) }
+        ensures stamp { StampTold (broom_view broom.old)
+            (own_blocks broom.old) result (broom_view broom.new) }
         ensures broom { IsBroomOf self.now broom.new }
         ensures blocks { own_blocks broom.new ≡ own_blocks broom.old }
     {
@@ -55,12 +57,15 @@ impl Flash {
     /// Word `i` of the page that is copied, whose words begin at `start`.
     pub fn get_source_word(&self, broom: &mut BroomSeat, page: MapWord, start: usize, i: u32) -> u64
         requires broom { IsBroomOf self.now broom.old }
-        requires source { (x : Source) × ((broom_view broom.old).source ≡ Some x) × (x.page ≡ page) }
+        requires source { (x : Source)
+            × ((broom_view broom.old).source ≡ Some x) × (x.page ≡ page) }
         requires block { page.block < blocks_of (geometry_of self.now) }
         requires page { page.page < pages_of (geometry_of self.now) }
-        requires start { start ≡ page_index (numbers_of (geometry_of self.now)) page.block page.page }
+        requires start { start
+            ≡ page_index (numbers_of (geometry_of self.now)) page.block page.page }
         requires word { i < words_of (geometry_of self.now) }
-        ensures value { (x : Source) (value : List ℕ) → (broom_view broom.old).source ≡ Some x → x.value ≡ Some value → result ≡ data_word value i }
+        ensures value { (x : Source) (value : List ℕ) → (broom_view broom.old).source ≡ Some x
+            → x.value ≡ Some value → result ≡ data_word value i }
         ensures same { broom_view broom.new ≡ broom_view broom.old }
         ensures broom { IsBroomOf self.now broom.new }
         ensures blocks { own_blocks broom.new ≡ own_blocks broom.old }
@@ -74,7 +79,8 @@ impl Flash {
         requires broom { IsBroomOf self.now broom.old }
         requires sector { sector < sectors_of (geometry_of self.now) }
         requires fits { FitsMap from × FitsMap to }
-        requires live { (x : Source) × CanMove (broom_view broom.old) x to × ((x.page ≡ from) × (x.stamp ≡ sector)) }
+        requires live { (x : Source) × CanMove (broom_view broom.old) x to
+            × ((x.page ≡ from) × (x.stamp ≡ sector)) }
         ensures moved { MoveTold (broom_view broom.old) result (broom_view broom.new) }
         ensures broom { IsBroomOf self.now broom.new }
         ensures blocks { own_blocks broom.new ≡ own_blocks broom.old }

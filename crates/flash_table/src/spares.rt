@@ -14,7 +14,8 @@ impl Flash {
         requires broom { IsBroomOf self.now broom.old }
         requires no_spare { (own_blocks broom.old).spare ≡ None }
         requires block { block < blocks_of (geometry_of self.now) }
-        ensures spare { SpareTold (broom_view broom.old) (own_blocks broom.old) block result (broom_view broom.new) (own_blocks broom.new) }
+        ensures spare { SpareTold (broom_view broom.old) (own_blocks broom.old) block result
+            (broom_view broom.new) (own_blocks broom.new) }
         ensures broom { IsBroomOf self.now broom.new }
     {
         let Some(generation) = self.take_free(&mut broom.seat, block) else {

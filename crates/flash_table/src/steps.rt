@@ -54,7 +54,8 @@ impl Flash {
         requires sector { sector < sectors_of (geometry_of self.now) }
         requires page { FitsMap page }
         requires counted { (value : List ℕ) × CanPlace (view_of pass.old) sector page value }
-        ensures placed { PlaceTold (λ t value. Write t sector value) pass.old sector page result pass.new }
+        ensures placed { PlaceTold
+            (λ t value. Write t sector value) pass.old sector page result pass.new }
         ensures pass { IsPassOf self.now pass.new }
         ensures opened { opened_of pass.new ≡ opened_of pass.old }
     {
@@ -72,7 +73,8 @@ impl Flash {
         requires sector { sector < sectors_of (geometry_of self.now) }
         requires page { FitsMap page }
         requires counted { (value : List ℕ) × CanPlace (view_of pass.old) sector page value }
-        ensures placed { PlaceTold (λ t value. WriteNew t sector value) pass.old sector page result pass.new }
+        ensures placed { PlaceTold
+            (λ t value. WriteNew t sector value) pass.old sector page result pass.new }
         ensures pass { IsPassOf self.now pass.new }
         ensures opened { opened_of pass.new ≡ opened_of pass.old }
     {
@@ -88,7 +90,8 @@ impl Flash {
     pub fn place_trim(&self, pass: &mut Pass, sector: u32) -> Was
         requires pass { IsPassOf self.now pass.old }
         requires sector { sector < sectors_of (geometry_of self.now) }
-        ensures called { (t : ℕ) → HasNumber t pass.old → HasCalled pass.old (Trim t sector) sector result pass.new }
+        ensures called { (t : ℕ) → HasNumber t pass.old
+            → HasCalled pass.old (Trim t sector) sector result pass.new }
         ensures pass { IsPassOf self.now pass.new }
         ensures opened { opened_of pass.new ≡ opened_of pass.old }
     {
@@ -104,7 +107,8 @@ impl Flash {
         requires pass { IsPassOf self.now pass.old }
         requires nothing_open { opened_of pass.old ≡ None }
         requires block { block < blocks_of (geometry_of self.now) }
-        ensures taken { TakeTold (view_of pass.old) block result (view_of pass.new) (opened_of pass.new) }
+        ensures taken { TakeTold (view_of pass.old) block result
+            (view_of pass.new) (opened_of pass.new) }
         ensures pass { IsPassOf self.now pass.new }
     {
         let Some(generation) = self.take_free(&mut pass.seat, block) else {
@@ -121,8 +125,10 @@ impl Flash {
     /// Stores word `i` of the open block's first page that isn't written, whose words begin at `start`. The stamp comes after the data words.
     pub fn put_word(&self, pass: &mut Pass, start: usize, i: u32, word: u64)
         requires pass { IsPassOf self.now pass.old }
-        requires next { IsNextWord (geometry_of self.now) (view_of pass.old) (opened_of pass.old) i }
-        requires start { (o : OpenBlock) → opened_of pass.old ≡ Some o → start ≡ page_index (numbers_of (geometry_of self.now)) o.block o.written }
+        requires next { IsNextWord (geometry_of self.now)
+            (view_of pass.old) (opened_of pass.old) i }
+        requires start { (o : OpenBlock) → opened_of pass.old ≡ Some o
+            → start ≡ page_index (numbers_of (geometry_of self.now)) o.block o.written }
         ensures put { HasPut (view_of pass.old) (opened_of pass.old) word (view_of pass.new) }
         ensures pass { IsPassOf self.now pass.new }
         ensures opened { opened_of pass.new ≡ opened_of pass.old }
@@ -137,10 +143,12 @@ impl Flash {
     pub fn count(&self, pass: &mut Pass)
         requires pass { IsPassOf self.now pass.old }
         requires filled { IsFilled (geometry_of self.now) (view_of pass.old) (opened_of pass.old) }
-        ensures counted { (o : OpenBlock) (x : Work) → opened_of pass.old ≡ Some o → CanCount (view_of pass.old) (owned_of o) x
+        ensures counted { (o : OpenBlock) (x : Work) → opened_of pass.old ≡ Some o
+            → CanCount (view_of pass.old) (owned_of o) x
             → view_of pass.new ≡ record (view_of pass.old)
             { programs = (view_of pass.old).programs ++ x.page ∷ []; owns = owned_of (record o { written = o.written + 1 }) ∷ [] } }
-        ensures opened { (o : OpenBlock) → opened_of pass.old ≡ Some o → opened_of pass.new ≡ Some (record o { written = o.written + 1 }) }
+        ensures opened { (o : OpenBlock) → opened_of pass.old ≡ Some o
+            → opened_of pass.new ≡ Some (record o { written = o.written + 1 }) }
         ensures pass { IsPassOf self.now pass.new }
     {
         let Some(opened) = pass.opened else {
@@ -160,7 +168,8 @@ impl Flash {
     /// Gives up the open block, full or not.
     pub fn close(&self, pass: &mut Pass)
         requires pass { IsPassOf self.now pass.old }
-        requires settled { CanGiveUp (geometry_of self.now) (view_of pass.old) (opened_of pass.old) }
+        requires settled { CanGiveUp (geometry_of self.now)
+            (view_of pass.old) (opened_of pass.old) }
         ensures closed { view_of pass.new ≡ closed_pass (view_of pass.old) (opened_of pass.old) }
         ensures opened { opened_of pass.new ≡ None }
         ensures pass { IsPassOf self.now pass.new }

@@ -15,8 +15,11 @@ use geometry::{Phase, PinWord, TAKEN, pin_at};
 
 // The generation of a block that the word says is free.
 fn generation_if_free(word: u64) -> Option<u32>
-    ensures some { IfSome result (λ n. (state : PinWord) × FitsPin state × (pin_word state ≡ word) × (state.phase ≡ phase.Free) × (state.generation ≡ n)) }
-    ensures none { IfNone result ((state : PinWord) → FitsPin state → pin_word state ≡ word → ¬ (state.phase ≡ phase.Free)) }
+    ensures some { IfSome result
+        (λ n. (state : PinWord) × FitsPin state × (pin_word state ≡ word)
+        × (state.phase ≡ phase.Free) × (state.generation ≡ n)) }
+    ensures none { IfNone result ((state : PinWord) → FitsPin state
+        → pin_word state ≡ word → ¬ (state.phase ≡ phase.Free)) }
 {
     let state = PinWord::unpack(word)?;
     if state.phase == Phase::Free {

@@ -17,9 +17,11 @@ pub fn copy_page(
 )
     requires source { IsProgrammed die.old from }
     requires next { IsNext die.old to }
-    requires sector { (page_at (page_bytes_of (geometry_of die.old)) (block_of die.old from.block) from.page).stamp ≡ sector }
+    requires sector { (page_at (page_bytes_of (geometry_of die.old))
+        (block_of die.old from.block) from.page).stamp ≡ sector }
     requires room { length page.old ≡ page_bytes_of (geometry_of die.old) }
-    requires one_lun { one_lun ≡ (lun_of (geometry_of die.old) from.block == lun_of (geometry_of die.old) to.block) }
+    requires one_lun { one_lun
+        ≡ (lun_of (geometry_of die.old) from.block == lun_of (geometry_of die.old) to.block) }
     ensures changes { ChangesBlock die.old die.new to.block
         (programmed (block_of die.old to.block)
         (page_at (page_bytes_of (geometry_of die.old)) (block_of die.old from.block) from.page)) }

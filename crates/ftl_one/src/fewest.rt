@@ -49,7 +49,8 @@ fn first_of(counts: &[u16], count: u16) -> usize
 #[inline(always)]
 fn stands_within(counts: &[u16], at: usize, count: u16) -> bool
     requires { at + LANES ≤ length counts.now }
-    ensures { result ≡ false → (k : ℕ) → at ≤ k → k < at + LANES → slice_index counts.now k ≢ count }
+    ensures { result ≡ false → (k : ℕ) → at ≤ k
+        → k < at + LANES → slice_index counts.now k ≢ count }
 {
     let mut found = false;
     for i in 0..LANES {

@@ -116,9 +116,11 @@ impl OneFtl {
     #[tactic(auto, unfolding(crate::specs::OneFtl::geometry_of, crate::specs::OneFtl::array_of))]
     pub fn page(&self, sector: u32) -> Option<&[u8]>
         requires { sector < sectors_of (geometry_of self.now) }
-        ensures some { IfSome result (λ page. sector_at (array_of self.now) sector ≡ Some page.now) }
+        ensures some { IfSome result
+            (λ page. sector_at (array_of self.now) sector ≡ Some page.now) }
         ensures none { IfNone result (sector_at (array_of self.now) sector ≡ None) }
-        ensures size { IfSome result (λ page. length page.now ≡ page_bytes_of (geometry_of self.now)) }
+        ensures size { IfSome result
+            (λ page. length page.now ≡ page_bytes_of (geometry_of self.now)) }
     {
         self.store.page(sector)
     }
@@ -129,26 +131,34 @@ impl OneFtl {
         requires page { length bytes.now ≡ page_bytes_of (geometry_of self.old) }
         ensures geometry { geometry_of self.new ≡ geometry_of self.old }
         ensures answer { IfOk result (λ was. was ≡ was_of (sector_at (array_of self.old) sector)) }
-        ensures array { OnOk result (array_of self.new ≡ step (array_of self.old) (Write 0 sector bytes.now)) }
-        ensures stock { OnOk result (next (geometry_of self.old) (stock_of self.old) (Write 0 sector bytes.now) ≡ Some (stock_of self.new)) }
+        ensures array { OnOk result
+            (array_of self.new ≡ step (array_of self.old) (Write 0 sector bytes.now)) }
+        ensures stock { OnOk result
+            (next (geometry_of self.old) (stock_of self.old) (Write 0 sector bytes.now)
+            ≡ Some (stock_of self.new)) }
 
         // A write that is refused has changed nothing: no block is open or free, and there is no spare.
-        ensures worn { OnErr result (next (geometry_of self.old) (stock_of self.old) (Write 0 sector bytes.now) ≡ None) }
+        ensures worn { OnErr result
+            (next (geometry_of self.old) (stock_of self.old) (Write 0 sector bytes.now) ≡ None) }
         ensures no_page { OnErr result (HasNoPage (stock_of self.old)) }
         ensures same_array { OnErr result (array_of self.new ≡ array_of self.old) }
         ensures same_stock { OnErr result (stock_of self.new ≡ stock_of self.old) }
 
         // Whatever is relocated or erased, no other sector changes; a write that succeeds is one program.
-        ensures others { (s : ℕ) → s ≢ sector → sector_at (array_of self.new) s ≡ sector_at (array_of self.old) s }
-        ensures programs { OnOk result ((stock_of self.new).programs ≡ (stock_of self.old).programs + 1) }
+        ensures others { (s : ℕ) → s ≢ sector
+            → sector_at (array_of self.new) s ≡ sector_at (array_of self.old) s }
+        ensures programs { OnOk result
+            ((stock_of self.new).programs ≡ (stock_of self.old).programs + 1) }
 
         // At most one block is collected, a closed one with the fewest live pages, and none after a failed erase.
         ensures collection { CollectsAtMostOne (stock_of self.old) (stock_of self.new) }
-        ensures after_failure { HasRetired (stock_of self.old) → ErasesNothing (stock_of self.old) (stock_of self.new) }
+        ensures after_failure { HasRetired (stock_of self.old)
+            → ErasesNothing (stock_of self.old) (stock_of self.new) }
 
         // The collection that it makes is the one that was due.
         ensures due { OnOk result
-            (collection_between (geometry_of self.old) (stock_of self.old) (stock_of self.new) ≡ collection_due (geometry_of self.old) (stock_of self.old)) }
+            (collection_between (geometry_of self.old) (stock_of self.old) (stock_of self.new)
+            ≡ collection_due (geometry_of self.old) (stock_of self.old)) }
     {
         let Some(block) = self.make_ready() else {
             return Err(WornOut);
@@ -163,20 +173,28 @@ impl OneFtl {
         requires page { length bytes.now ≡ page_bytes_of (geometry_of self.old) }
         ensures geometry { geometry_of self.new ≡ geometry_of self.old }
         ensures answer { was_found result ≡ was_of (sector_at (array_of self.old) sector) }
-        ensures array { OnOk result (array_of self.new ≡ step (array_of self.old) (WriteNew 0 sector bytes.now)) }
-        ensures stock { OnOk result (next (geometry_of self.old) (stock_of self.old) (WriteNew 0 sector bytes.now) ≡ Some (stock_of self.new)) }
+        ensures array { OnOk result
+            (array_of self.new ≡ step (array_of self.old) (WriteNew 0 sector bytes.now)) }
+        ensures stock { OnOk result
+            (next (geometry_of self.old) (stock_of self.old) (WriteNew 0 sector bytes.now)
+            ≡ Some (stock_of self.new)) }
 
         // A write that is refused has changed nothing. A written sector leaves the stock as it was, and one that is empty finds no page.
         ensures written { result ≡ Err fault.Written
-            → next (geometry_of self.old) (stock_of self.old) (WriteNew 0 sector bytes.now) ≡ Some (stock_of self.old) }
-        ensures unchanged { result ≡ Err fault.Written → step (array_of self.old) (WriteNew 0 sector bytes.now) ≡ array_of self.old }
-        ensures worn { result ≡ Err fault.WornOut → next (geometry_of self.old) (stock_of self.old) (WriteNew 0 sector bytes.now) ≡ None }
+            → next (geometry_of self.old) (stock_of self.old) (WriteNew 0 sector bytes.now)
+            ≡ Some (stock_of self.old) }
+        ensures unchanged { result ≡ Err fault.Written
+            → step (array_of self.old) (WriteNew 0 sector bytes.now) ≡ array_of self.old }
+        ensures worn { result ≡ Err fault.WornOut
+            → next (geometry_of self.old) (stock_of self.old) (WriteNew 0 sector bytes.now) ≡ None }
         ensures same_array { OnErr result (array_of self.new ≡ array_of self.old) }
         ensures same_stock { OnErr result (stock_of self.new ≡ stock_of self.old) }
 
         // Whatever is relocated or erased, no other sector changes; a write that succeeds is one program.
-        ensures others { (s : ℕ) → s ≢ sector → sector_at (array_of self.new) s ≡ sector_at (array_of self.old) s }
-        ensures programs { OnOk result ((stock_of self.new).programs ≡ (stock_of self.old).programs + 1) }
+        ensures others { (s : ℕ) → s ≢ sector
+            → sector_at (array_of self.new) s ≡ sector_at (array_of self.old) s }
+        ensures programs { OnOk result
+            ((stock_of self.new).programs ≡ (stock_of self.old).programs + 1) }
     {
         match self.store.was(sector) {
             Was::Written => Err(NewOneFault::Written),
@@ -194,7 +212,8 @@ impl OneFtl {
         ensures geometry { geometry_of self.new ≡ geometry_of self.old }
         ensures answer { result ≡ was_of (sector_at (array_of self.old) sector) }
         ensures array { array_of self.new ≡ step (array_of self.old) (Trim 0 sector) }
-        ensures stock { next (geometry_of self.old) (stock_of self.old) (Trim 0 sector) ≡ Some (stock_of self.new) }
+        ensures stock { next (geometry_of self.old) (stock_of self.old) (Trim 0 sector)
+            ≡ Some (stock_of self.new) }
     {
         self.store.forget(sector)
     }
@@ -256,7 +275,8 @@ impl OneFtl {
         requires no_free { free_of (stock_of self.now).blocks ≡ None }
         requires spare { spare_of (stock_of self.now).blocks ≡ Some spare }
         ensures victim { victim_of (stock_of self.now).blocks ≡ Some result.victim }
-        ensures value { result ≡ collection_into (geometry_of self.now) (stock_of self.now) spare result.victim }
+        ensures value { result
+            ≡ collection_into (geometry_of self.now) (stock_of self.now) spare result.victim }
     {
         let victim = fewest_beside(self.store.live(), spare as usize) as u32;
         let copied = self.live(victim);
@@ -274,7 +294,9 @@ impl OneFtl {
     fn copybacks(&self, victim: u32, spare: u32, copied: u32) -> u32
         requires victim { victim < blocks_of (store_geometry_of self.now.store) }
         requires spare { spare < blocks_of (store_geometry_of self.now.store) }
-        ensures { result ≡ (if lun_of (store_geometry_of self.now.store) victim == lun_of (store_geometry_of self.now.store) spare then copied else 0) }
+        ensures { result
+            ≡ (if lun_of (store_geometry_of self.now.store) victim == lun_of
+            (store_geometry_of self.now.store) spare then copied else 0) }
     {
         if self.store.is_one_lun(victim, spare) {
             copied
@@ -287,9 +309,12 @@ impl OneFtl {
     fn make_ready(&mut self) -> Option<u32>
         ensures geometry { geometry_of self.new ≡ geometry_of self.old }
         ensures sectors { array_of self.new ≡ array_of self.old }
-        ensures ready { IfSome result (λ block. ready (endurance_of (geometry_of self.old)) (stock_of self.old) ≡ Some (stock_of self.new)) }
+        ensures ready { IfSome result
+            (λ block. ready (endurance_of (geometry_of self.old)) (stock_of self.old)
+            ≡ Some (stock_of self.new)) }
         ensures opened { IfSome result (λ block. open_of (stock_of self.new).blocks ≡ Some block) }
-        ensures none { IfNone result (ready (endurance_of (geometry_of self.old)) (stock_of self.old) ≡ None) }
+        ensures none { IfNone result
+            (ready (endurance_of (geometry_of self.old)) (stock_of self.old) ≡ None) }
         ensures no_page { IfNone result (HasNoPage (stock_of self.old)) }
         ensures same { IfNone result (stock_of self.new ≡ stock_of self.old) }
     {
@@ -329,7 +354,8 @@ impl OneFtl {
         requires spare { spare_of (stock_of self.old).blocks ≡ Some spare }
         ensures geometry { geometry_of self.new ≡ geometry_of self.old }
         ensures sectors { array_of self.new ≡ array_of self.old }
-        ensures stock { collect (endurance_of (geometry_of self.old)) (stock_of self.old) spare (victim_of (stock_of self.old).blocks)
+        ensures stock { collect (endurance_of (geometry_of self.old))
+            (stock_of self.old) spare (victim_of (stock_of self.old).blocks)
             ≡ Some (stock_of self.new) }
         ensures opened { open_of (stock_of self.new).blocks ≡ Some spare }
     {
@@ -352,7 +378,8 @@ impl OneFtl {
         ensures geometry { geometry_of self.new ≡ geometry_of self.old }
         ensures answer { result ≡ was_of (sector_at (array_of self.old) sector) }
         ensures array { array_of self.new ≡ step (array_of self.old) (Write 0 sector bytes.now) }
-        ensures stock { write_of (pages_of (geometry_of self.old)) sector (stock_of self.old) ≡ Some (stock_of self.new) }
+        ensures stock { write_of (pages_of (geometry_of self.old)) sector (stock_of self.old)
+            ≡ Some (stock_of self.new) }
     {
         let was = self.store.put(block, sector, bytes);
         self.counts.programs += 1;

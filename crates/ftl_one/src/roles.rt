@@ -9,7 +9,8 @@ use crate::role::Role;
 pub fn hand_over(roles: &mut [Role], spare: u32, victim: u32, failed: bool)
     requires spare { spare < length roles.old }
     requires victim { victim < length roles.old }
-    ensures { roles.new ≡ slice_set (slice_set roles.old spare Open) victim (if failed then Retired else Spare) }
+    ensures { roles.new
+        ≡ slice_set (slice_set roles.old spare Open) victim (if failed then Retired else Spare) }
 {
     roles[spare as usize] = Role::Open;
     roles[victim as usize] = if failed { Role::Retired } else { Role::Spare };

@@ -84,9 +84,11 @@ impl Store {
 
     pub fn page(&self, sector: u32) -> Option<&[u8]>
         requires { sector < sectors_of (geometry_of self.now) }
-        ensures some { IfSome result (λ page. sector_at (array_of self.now) sector ≡ Some page.now) }
+        ensures some { IfSome result
+            (λ page. sector_at (array_of self.now) sector ≡ Some page.now) }
         ensures none { IfNone result (sector_at (array_of self.now) sector ≡ None) }
-        ensures size { IfSome result (λ page. length page.now ≡ page_bytes_of (geometry_of self.now)) }
+        ensures size { IfSome result
+            (λ page. length page.now ≡ page_bytes_of (geometry_of self.now)) }
     {
         let at = self.current[sector as usize].page()?;
         Some(self.die.page(at))
@@ -106,7 +108,8 @@ impl Store {
         requires { sector < sectors_of (geometry_of self.old) }
         ensures answer { result ≡ was_of (sector_at (array_of self.old) sector) }
         ensures sectors { array_of self.new ≡ slice_set (array_of self.old) sector None }
-        ensures entries { (b : ℕ) → b < blocks_of (geometry_of self.old) → Forgets self.old self.new sector b }
+        ensures entries { (b : ℕ) → b < blocks_of (geometry_of self.old)
+            → Forgets self.old self.new sector b }
         ensures keeps { KeepsBlocks self.old self.new }
     {
         let entry = mem::replace(&mut self.current[sector as usize], MapEntry::none());
@@ -121,7 +124,8 @@ impl Store {
         requires sector { sector < sectors_of (geometry_of self.old) }
         requires page { length bytes.now ≡ page_bytes_of (geometry_of self.old) }
         ensures answer { result ≡ was_of (sector_at (array_of self.old) sector) }
-        ensures sectors { array_of self.new ≡ slice_set (array_of self.old) sector (Some bytes.now) }
+        ensures sectors { array_of self.new
+            ≡ slice_set (array_of self.old) sector (Some bytes.now) }
         ensures puts { Puts self.old self.new block sector }
     {
         let at = self.next_page(block);
@@ -158,7 +162,8 @@ impl Store {
     pub fn is_one_lun(&self, first: u32, second: u32) -> bool
         requires first { first < blocks_of (geometry_of self.now) }
         requires second { second < blocks_of (geometry_of self.now) }
-        ensures { result ≡ (lun_of (geometry_of self.now) first == lun_of (geometry_of self.now) second) }
+        ensures { result
+            ≡ (lun_of (geometry_of self.now) first == lun_of (geometry_of self.now) second) }
     {
         let geometry = self.die.geometry();
         geometry.lun_of(first) == geometry.lun_of(second)
@@ -172,7 +177,8 @@ impl Store {
         requires live { live_at self.old source ≡ true }
         requires room { HasRoom self.old block }
         requires apart { source.block ≢ block }
-        requires one_lun { one_lun ≡ (lun_of (geometry_of self.old) source.block == lun_of (geometry_of self.old) block) }
+        requires one_lun { one_lun
+            ≡ (lun_of (geometry_of self.old) source.block == lun_of (geometry_of self.old) block) }
         ensures { Relocates self.old self.new source block (sector_of self.old source) }
     {
         let to = self.next_page(block);
@@ -211,7 +217,8 @@ impl Store {
         requires block { block < blocks_of (geometry_of self.old) }
         requires usable { retired_of self.old block ≡ false }
         requires dead { live_count (entries_of self.old block) ≡ 0 }
-        ensures failed { result ≡ (erases_of self.old block + 1 == endurance_of (geometry_of self.old)) }
+        ensures failed { result
+            ≡ (erases_of self.old block + 1 == endurance_of (geometry_of self.old)) }
         ensures erases { Erases self.old self.new block }
     {
         self.die.erase(block) == 1

@@ -61,9 +61,14 @@ impl Geometry {
         hosts: u32,
         brooms: u32,
     ) -> Result<Geometry, GeometryFault>
-        ensures given { IfOk result (λ g. numbers_of g ≡ numbers luns blocks pages words sectors endurance hosts brooms) }
-        ensures sound { IfOk result (λ g. first_fault (numbers luns blocks pages words sectors endurance hosts brooms) ≡ None) }
-        ensures first { IfErr result (λ fault. first_fault (numbers luns blocks pages words sectors endurance hosts brooms) ≡ Some fault) }
+        ensures given { IfOk result
+            (λ g. numbers_of g ≡ numbers luns blocks pages words sectors endurance hosts brooms) }
+        ensures sound { IfOk result
+            (λ g. first_fault (numbers luns blocks pages words sectors endurance hosts brooms)
+            ≡ None) }
+        ensures first { IfErr result
+            (λ fault. first_fault (numbers luns blocks pages words sectors endurance hosts brooms)
+            ≡ Some fault) }
     {
         if luns < 1 || luns > MAX_LUNS {
             return Err(GeometryFault::Luns);

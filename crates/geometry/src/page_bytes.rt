@@ -15,7 +15,8 @@ pub fn put_word(page: &mut [u8], i: usize, word: u64)
     requires { 8 * i + 8 ≤ length page.old }
     ensures bytes { page.new ≡ with_word page.old i word }
     ensures word { word_of page.new i ≡ word }
-    ensures others { (k : ℕ) → k ≢ i → 8 * k + 8 ≤ length page.old → word_of page.new k ≡ word_of page.old k }
+    ensures others { (k : ℕ) → k ≢ i → 8 * k + 8 ≤ length page.old
+        → word_of page.new k ≡ word_of page.old k }
 {
     page[8 * i..8 * i + 8].copy_from_slice(&word.to_le_bytes());
 }

@@ -33,7 +33,9 @@ pub fn page_word_at(geometry: &Geometry, addr: PageAddr, i: u32) -> usize
 
 /// How many words the table has.
 pub fn table_size(geometry: &Geometry) -> usize
-    ensures { result ≡ table_words_of (blocks_of geometry.now) (pages_of geometry.now) (words_of geometry.now) (sectors_of geometry.now) }
+    ensures { result
+        ≡ table_words_of (blocks_of geometry.now) (pages_of geometry.now)
+        (words_of geometry.now) (sectors_of geometry.now) }
 {
     let pages = geometry.blocks() as usize * geometry.pages() as usize;
     geometry.sectors() as usize

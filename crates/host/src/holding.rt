@@ -63,7 +63,8 @@ impl Held {
 
     /// A hold made from its parts.
     pub fn from_parts(pass: Pass, page: PageAddr, generation: u32) -> Held
-        requires { (value : List ℕ) × ((view_of pass).pin ≡ pin.Accepted (page_in page generation) value) }
+        requires { (value : List ℕ)
+            × ((view_of pass).pin ≡ pin.Accepted (page_in page generation) value) }
         ensures pass { pass_of result ≡ pass }
         ensures page { page_of result ≡ page_in page generation }
     {
@@ -93,7 +94,8 @@ pub fn hold(flash: &Flash, pass: Pass, sector: u32) -> Holding
 pub fn copy_into(flash: &Flash, held: &mut Held, out: &mut [u8])
     requires held { (value : List ℕ) × Holds flash.now held.old value }
     requires page { length out.old ≡ page_bytes_of (geometry_of flash.now) }
-    ensures value { (value : List ℕ) → Holds flash.now held.old value → (out.new ≡ value) × Holds flash.now held.new value }
+    ensures value { (value : List ℕ) → Holds flash.now held.old value
+        → (out.new ≡ value) × Holds flash.now held.new value }
     ensures same { view_of (pass_of held.new) ≡ view_of (pass_of held.old) }
     ensures spared { IsSpared held.old }
     ensures page { page_of held.new ≡ page_of held.old }
@@ -105,7 +107,8 @@ pub fn copy_into(flash: &Flash, held: &mut Held, out: &mut [u8])
 pub fn word(flash: &Flash, held: &mut Held, i: u32) -> u64
     requires held { (value : List ℕ) × Holds flash.now held.old value }
     requires word { i < words_of (geometry_of flash.now) }
-    ensures value { (value : List ℕ) → Holds flash.now held.old value → (result ≡ data_word value i) × Holds flash.now held.new value }
+    ensures value { (value : List ℕ) → Holds flash.now held.old value
+        → (result ≡ data_word value i) × Holds flash.now held.new value }
     ensures same { view_of (pass_of held.new) ≡ view_of (pass_of held.old) }
     ensures spared { IsSpared held.old }
     ensures page { page_of held.new ≡ page_of held.old }

@@ -14,7 +14,8 @@ use flash_table::{Flash, Pass, Retired};
 pub fn meet(flash: &Flash, first: &mut Pass, second: &mut Pass)
     requires first { IsReady flash.now first.old }
     requires second { IsReady flash.now second.old }
-    ensures met { MetTold (view_of first.old) (view_of second.old) (view_of first.new) (view_of second.new) }
+    ensures met { MetTold (view_of first.old) (view_of second.old)
+        (view_of first.new) (view_of second.new) }
     ensures first { IsReady flash.now first.new }
     ensures second { IsReady flash.now second.new }
     ensures first_opened { opened_of first.new ≡ opened_of first.old }
@@ -33,7 +34,8 @@ pub fn meet(flash: &Flash, first: &mut Pass, second: &mut Pass)
 pub fn meet_holding(flash: &Flash, held: Held, other: &mut Pass) -> Held
     requires held { (value : List ℕ) × Holds flash.now held value }
     requires other { IsReady flash.now other.old }
-    ensures met_holding { MetHolding (view_of (pass_of held)) (view_of other.old) (page_of held) (view_of (pass_of result)) (view_of other.new) }
+    ensures met_holding { MetHolding (view_of (pass_of held)) (view_of other.old)
+        (page_of held) (view_of (pass_of result)) (view_of other.new) }
     ensures page { page_of result ≡ page_of held }
     ensures holds { (value : List ℕ) → Holds flash.now held value → Holds flash.now result value }
     ensures opened { opened_of (pass_of result) ≡ opened_of (pass_of held) }

@@ -24,7 +24,9 @@ pub fn read(flash: &Flash, pass: &mut Pass, sector: u32, out: &mut [u8]) -> Read
     requires sector { sector < sectors_of (geometry_of flash.now) }
     requires page { length out.old ≡ page_bytes_of (geometry_of flash.now) }
     ensures searched { Searched (view_of pass.old) result.tries (view_of pass.new) }
-    ensures answer { Answers (held (sectors_of (geometry_of flash.now)) (view_of pass.new).seen sector) result.got out.old out.new }
+    ensures answer { Answers
+        (held (sectors_of (geometry_of flash.now))
+        (view_of pass.new).seen sector) result.got out.old out.new }
     ensures pass { IsReady flash.now pass.new }
     ensures opened { opened_of pass.new ≡ opened_of pass.old }
 {
@@ -43,7 +45,9 @@ pub fn read_gated<G: Gate>(
     requires sector { sector < sectors_of (geometry_of flash.now) }
     requires page { length out.old ≡ page_bytes_of (geometry_of flash.now) }
     ensures searched { Searched (view_of pass.old) result.tries (view_of pass.new) }
-    ensures answer { Answers (held (sectors_of (geometry_of flash.now)) (view_of pass.new).seen sector) result.got out.old out.new }
+    ensures answer { Answers
+        (held (sectors_of (geometry_of flash.now))
+        (view_of pass.new).seen sector) result.got out.old out.new }
     ensures pass { IsReady flash.now pass.new }
     ensures opened { opened_of pass.new ≡ opened_of pass.old }
 {
@@ -68,7 +72,8 @@ pub fn look(flash: &Flash, pass: &mut Pass, sector: u32) -> bool
     requires pass { IsReady flash.now pass.old }
     requires sector { sector < sectors_of (geometry_of flash.now) }
     ensures searched { Searched (view_of pass.old) 1 (view_of pass.new) }
-    ensures answer { result ≡ is_some (held (sectors_of (geometry_of flash.now)) (view_of pass.new).seen sector) }
+    ensures answer { result
+        ≡ is_some (held (sectors_of (geometry_of flash.now)) (view_of pass.new).seen sector) }
     ensures pass { IsReady flash.now pass.new }
     ensures opened { opened_of pass.new ≡ opened_of pass.old }
 {

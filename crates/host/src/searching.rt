@@ -41,7 +41,8 @@ pub(crate) fn search<G: Gate>(flash: &Flash, pass: &mut Pass, sector: u32, gate:
     requires sector { sector < sectors_of (geometry_of flash.now) }
     ensures searched { Searched (view_of pass.old) result.tries (view_of pass.new) }
     ensures found { IfSome result.page (HasFound flash.now pass.new sector) }
-    ensures empty { IfNone result.page (IsReady flash.now pass.new × (held (sectors_of (geometry_of flash.now)) (view_of pass.new).seen sector ≡ None)) }
+    ensures empty { IfNone result.page (IsReady flash.now pass.new
+        × (held (sectors_of (geometry_of flash.now)) (view_of pass.new).seen sector ≡ None)) }
     ensures opened { opened_of pass.new ≡ opened_of pass.old }
 {
     let mut tries = 0;
@@ -65,8 +66,10 @@ pub(crate) fn search<G: Gate>(flash: &Flash, pass: &mut Pass, sector: u32, gate:
 pub(crate) fn read_page(flash: &Flash, pass: &mut Pass, page: MapWord, out: &mut [u8])
     requires pinned { (value : List ℕ) × IsPinned flash.now pass.old page value }
     requires out { length out.old ≡ page_bytes_of (geometry_of flash.now) }
-    ensures value { (value : List ℕ) → IsPinned flash.now pass.old page value → (out.new ≡ value) × IsPinned flash.now pass.new page value }
-    ensures spared { (value : List ℕ) (c : Carried) → IsPinned flash.now pass.old page value → (view_of pass.old).copy ≡ Some c
+    ensures value { (value : List ℕ) → IsPinned flash.now pass.old page value
+        → (out.new ≡ value) × IsPinned flash.now pass.new page value }
+    ensures spared { (value : List ℕ) (c : Carried)
+        → IsPinned flash.now pass.old page value → (view_of pass.old).copy ≡ Some c
         → Spared (view_of pass.old) page c }
     ensures same { view_of pass.new ≡ view_of pass.old }
     ensures opened { opened_of pass.new ≡ opened_of pass.old }

@@ -24,7 +24,9 @@ pub fn write(flash: &Flash, pass: &mut Pass, sector: u32, bytes: &[u8]) -> Resul
     requires pass { IsReady flash.now pass.old }
     requires sector { sector < sectors_of (geometry_of flash.now) }
     requires page { length bytes.now ≡ page_bytes_of (geometry_of flash.now) }
-    ensures wrote { IfOk result (λ was. (t : ℕ) → HasNumber t pass.old → Wrote (view_of pass.old) t sector bytes.now was (view_of pass.new)) }
+    ensures wrote { IfOk result
+        (λ was. (t : ℕ) → HasNumber t pass.old
+        → Wrote (view_of pass.old) t sector bytes.now was (view_of pass.new)) }
     ensures refused { OnErr result (Refused (view_of pass.old) (view_of pass.new)) }
     ensures pass { IsReady flash.now pass.new }
 {
@@ -42,7 +44,9 @@ pub fn write_gated<G: Gate>(
     requires pass { IsReady flash.now pass.old }
     requires sector { sector < sectors_of (geometry_of flash.now) }
     requires page { length bytes.now ≡ page_bytes_of (geometry_of flash.now) }
-    ensures wrote { IfOk result (λ was. (t : ℕ) → HasNumber t pass.old → Wrote (view_of pass.old) t sector bytes.now was (view_of pass.new)) }
+    ensures wrote { IfOk result
+        (λ was. (t : ℕ) → HasNumber t pass.old
+        → Wrote (view_of pass.old) t sector bytes.now was (view_of pass.new)) }
     ensures refused { OnErr result (Refused (view_of pass.old) (view_of pass.new)) }
     ensures pass { IsReady flash.now pass.new }
 {
@@ -59,7 +63,8 @@ pub fn write_gated<G: Gate>(
 pub fn trim(flash: &Flash, pass: &mut Pass, sector: u32) -> Was
     requires pass { IsReady flash.now pass.old }
     requires sector { sector < sectors_of (geometry_of flash.now) }
-    ensures called { (t : ℕ) → HasNumber t pass.old → HasCalled pass.old (Trim t sector) sector result pass.new }
+    ensures called { (t : ℕ) → HasNumber t pass.old
+        → HasCalled pass.old (Trim t sector) sector result pass.new }
     ensures pass { IsReady flash.now pass.new }
     ensures opened { opened_of pass.new ≡ opened_of pass.old }
 {
@@ -70,7 +75,9 @@ pub fn trim(flash: &Flash, pass: &mut Pass, sector: u32) -> Was
 pub(crate) fn take_lowest(flash: &Flash, pass: &mut Pass) -> bool
     requires pass { IsPassOf flash.now pass.old }
     requires nothing_open { opened_of pass.old ≡ None }
-    ensures taken { MatchBool result (TookLowest (view_of pass.old) (view_of pass.new) (opened_of pass.new)) (TookNone pass.old pass.new) }
+    ensures taken { MatchBool result
+        (TookLowest (view_of pass.old) (view_of pass.new) (opened_of pass.new))
+        (TookNone pass.old pass.new) }
     ensures pass { IsPassOf flash.now pass.new }
 {
     for block in 0..flash.geometry().blocks() {
@@ -87,8 +94,10 @@ pub(crate) fn fill(flash: &Flash, pass: &mut Pass, sector: u32, bytes: &[u8]) ->
     requires room { HasRoom (geometry_of flash.now) (opened_of pass.old) }
     requires settled { IsSettled (view_of pass.old) }
     requires page { length bytes.now ≡ page_bytes_of (geometry_of flash.now) }
-    ensures filled { (o : OpenBlock) → opened_of pass.old ≡ Some o → Filled (view_of pass.old) o sector bytes.now result (view_of pass.new) }
-    ensures opened { (o : OpenBlock) → opened_of pass.old ≡ Some o → opened_of pass.new ≡ Some (record o { written = o.written + 1 }) }
+    ensures filled { (o : OpenBlock) → opened_of pass.old ≡ Some o
+        → Filled (view_of pass.old) o sector bytes.now result (view_of pass.new) }
+    ensures opened { (o : OpenBlock) → opened_of pass.old ≡ Some o
+        → opened_of pass.new ≡ Some (record o { written = o.written + 1 }) }
     ensures pass { IsPassOf flash.now pass.new }
 {
     let Some(opened) = pass.opened() else {
@@ -113,7 +122,8 @@ pub(crate) fn fill(flash: &Flash, pass: &mut Pass, sector: u32, bytes: &[u8]) ->
 pub(crate) fn program(flash: &Flash, pass: &mut Pass, sector: u32, bytes: &[u8]) -> Option<MapWord>
     requires pass { IsReady flash.now pass.old }
     requires page { length bytes.now ≡ page_bytes_of (geometry_of flash.now) }
-    ensures filled { IfSome result (λ page. IsProgrammed flash.now (view_of pass.old) sector bytes.now page pass.new) }
+    ensures filled { IfSome result
+        (λ page. IsProgrammed flash.now (view_of pass.old) sector bytes.now page pass.new) }
     ensures refused { IfNone result (Refused (view_of pass.old) (view_of pass.new)) }
     ensures ready { IfNone result (IsReady flash.now pass.new) }
 {
@@ -126,9 +136,11 @@ pub(crate) fn program(flash: &Flash, pass: &mut Pass, sector: u32, bytes: &[u8])
 // Closes the open block if no page is left in it.
 pub(crate) fn close_if_full(flash: &Flash, pass: &mut Pass)
     requires pass { IsPassOf flash.now pass.old }
-    requires opened { (o : OpenBlock) × (opened_of pass.old ≡ Some o) × (o.block < blocks_of (geometry_of flash.now)) }
+    requires opened { (o : OpenBlock) × (opened_of pass.old ≡ Some o)
+        × (o.block < blocks_of (geometry_of flash.now)) }
     requires settled { IsSettled (view_of pass.old) }
-    ensures closed { (o : OpenBlock) → opened_of pass.old ≡ Some o → IsClosedIfFull (geometry_of flash.now) pass.old o pass.new }
+    ensures closed { (o : OpenBlock) → opened_of pass.old ≡ Some o
+        → IsClosedIfFull (geometry_of flash.now) pass.old o pass.new }
     ensures pass { IsPassOf flash.now pass.new }
 {
     let Some(opened) = pass.opened() else {

@@ -29,7 +29,9 @@ pub fn write_new(flash: &Flash, pass: &mut Pass, sector: u32, bytes: &[u8]) -> R
     requires pass { IsReady flash.now pass.old }
     requires sector { sector < sectors_of (geometry_of flash.now) }
     requires page { length bytes.now ≡ page_bytes_of (geometry_of flash.now) }
-    ensures wrote { IfSome (was_found result) (λ was. (t : ℕ) → HasNumber t pass.old → WroteNew (view_of pass.old) t sector bytes.now was (view_of pass.new)) }
+    ensures wrote { IfSome (was_found result)
+        (λ was. (t : ℕ) → HasNumber t pass.old
+        → WroteNew (view_of pass.old) t sector bytes.now was (view_of pass.new)) }
     ensures refused { result ≡ Err fault.NoBlock → Refused (view_of pass.old) (view_of pass.new) }
     ensures pass { IsReady flash.now pass.new }
 {
@@ -47,7 +49,9 @@ pub fn write_new_gated<G: Gate>(
     requires pass { IsReady flash.now pass.old }
     requires sector { sector < sectors_of (geometry_of flash.now) }
     requires page { length bytes.now ≡ page_bytes_of (geometry_of flash.now) }
-    ensures wrote { IfSome (was_found result) (λ was. (t : ℕ) → HasNumber t pass.old → WroteNew (view_of pass.old) t sector bytes.now was (view_of pass.new)) }
+    ensures wrote { IfSome (was_found result)
+        (λ was. (t : ℕ) → HasNumber t pass.old
+        → WroteNew (view_of pass.old) t sector bytes.now was (view_of pass.new)) }
     ensures refused { result ≡ Err fault.NoBlock → Refused (view_of pass.old) (view_of pass.new) }
     ensures pass { IsReady flash.now pass.new }
 {

@@ -30,37 +30,53 @@ pub fn turns_of_a_broom()
     ensures no_call { (n : ℕ) → ¬ IsTurn n [] }
     ensures no_turn { AreTurns 1 [] }
     ensures no_drain { (n : ℕ) (e : Erase) → ¬ AreTurns n (by.Erase e ∷ []) }
-    ensures each { (e : Erase) → AreTurns 1 (by.Drain drain.Lost 0 ∷ by.Erase e ∷ by.Drain drain.Lost 0 ∷ by.Erase e ∷ []) }
+    ensures each { (e : Erase)
+        → AreTurns 1
+        (by.Drain drain.Lost 0 ∷ by.Erase e ∷ by.Drain drain.Lost 0 ∷ by.Erase e ∷ []) }
 {}
 
 /// What the calls of a broom say of it, and what is known of each broom at the end of a run.
 pub fn brooms_of_a_run()
-    ensures same { (s t : Collector) → HasCollected s t → (arc_value t.volume ≡ arc_value s.volume) × (t.drains ≡ s.drains) }
+    ensures same { (s t : Collector) → HasCollected s t
+        → (arc_value t.volume ≡ arc_value s.volume) × (t.drains ≡ s.drains) }
     ensures no_call { (n : ℕ) (x y : Broom) → HasMadeCalls n x [] y → y ≡ x }
-    ensures one_call { (n : ℕ) (x y : Broom) → HasMadeCalls n x (by.Restock false ∷ []) y → RestockTold x false y × HandsNothing x y × KeepsSurvey x y }
-    ensures drained { (n k : ℕ) (x y : Broom) → HasMadeCalls n x (by.Drain drain.NoSpare k ∷ []) y → DrainOneTold n x drain.NoSpare y
+    ensures one_call { (n : ℕ) (x y : Broom) → HasMadeCalls n x (by.Restock false ∷ []) y
+        → RestockTold x false y × HandsNothing x y × KeepsSurvey x y }
+    ensures drained { (n k : ℕ) (x y : Broom)
+        → HasMadeCalls n x (by.Drain drain.NoSpare k ∷ []) y → DrainOneTold n x drain.NoSpare y
         × GrowsBy k (view_of_broom x).programs (view_of_broom y).programs }
-    ensures drained_next { (n k : ℕ) (x y : Broom) → HasMadeCalls n x (by.DrainNext drain.Lost k ∷ []) y → DrainNextOneTold n x drain.Lost y
+    ensures drained_next { (n k : ℕ) (x y : Broom)
+        → HasMadeCalls n x (by.DrainNext drain.Lost k ∷ []) y → DrainNextOneTold n x drain.Lost y
         × GrowsBy k (view_of_broom x).programs (view_of_broom y).programs }
-    ensures drained_dead { (n : ℕ) (x y : Broom) → HasMadeCalls n x (by.DrainDead drain.Lost ∷ []) y → DrainDeadOneTold n x drain.Lost y }
-    ensures erased { (n : ℕ) (x y : Broom) → HasMadeCalls n x (by.Erase erase.Pinned ∷ []) y → EraseOneTold n x erase.Pinned y }
-    ensures counted { (s t : Collector) → HasCollectedBy s (by.Erase erase.Stale ∷ []) t → s.tally ≡ nothing_done
+    ensures drained_dead { (n : ℕ) (x y : Broom)
+        → HasMadeCalls n x (by.DrainDead drain.Lost ∷ []) y → DrainDeadOneTold n x drain.Lost y }
+    ensures erased { (n : ℕ) (x y : Broom) → HasMadeCalls n x (by.Erase erase.Pinned ∷ []) y
+        → EraseOneTold n x erase.Pinned y }
+    ensures counted { (s t : Collector)
+        → HasCollectedBy s (by.Erase erase.Stale ∷ []) t → s.tally ≡ nothing_done
         → t.tally ≡ record nothing_done { stale = 1 } }
     ensures listed { (s t : Collector) → HasCollectedBy s (by.Erase erase.Stale ∷ []) t
         → 1 ≡ length (view_of_broom t.broom).stale - length (view_of_broom s.broom).stale + 0 }
     ensures listed_pinned { (s t : Collector) → HasCollectedBy s (by.Erase erase.Pinned ∷ []) t
         → 1 ≡ length (view_of_broom t.broom).busy - length (view_of_broom s.broom).busy + 0 }
     ensures turns { (s t : Collector) → (h : HasCollected s t) → AreTurns s.drains h.answers }
-    ensures at_start { (v : Volume) (s : Collector) → IsAtRunStart v 4 2 s → (arc_value s.volume ≡ v) × (s.drains ≡ 4) × (s.tally ≡ nothing_done)
+    ensures at_start { (v : Volume) (s : Collector) → IsAtRunStart v 4 2 s
+        → (arc_value s.volume ≡ v) × (s.drains ≡ 4) × (s.tally ≡ nothing_done)
         × ((view_of_broom s.broom).role ≡ seat.Player (name.Broom 2)) }
-    ensures begun { (g : Geometry) (e : CollectorEnd) → (h : HasServed g 4 3 e) → (geometry_of (flash_of h.volume) ≡ g) × IsAtRunStart h.volume 4 3 h.first
+    ensures begun { (g : Geometry) (e : CollectorEnd) → (h : HasServed g 4 3 e)
+        → (geometry_of (flash_of h.volume) ≡ g) × IsAtRunStart h.volume 4 3 h.first
         × HasFolded h.last e × (e.tally ≡ h.last.tally) }
-    ensures counts { (g : Geometry) (e : CollectorEnd) → (h : HasServed g 4 3 e) → (e.tally.erased ≡ length (folded_view e.folded).erases % 2 ^ 64)
+    ensures counts { (g : Geometry) (e : CollectorEnd) → (h : HasServed g 4 3 e)
+        → (e.tally.erased ≡ length (folded_view e.folded).erases % 2 ^ 64)
         × (e.tally.pinned ≡ listed_in busy_in h.first h.last h.collected % 2 ^ 64)
         × (e.tally.stale ≡ listed_in stale_in h.first h.last h.collected % 2 ^ 64) }
-    ensures served { (g : Geometry) (e : CollectorEnd) → AllHaveServed g 4 (e ∷ []) → HasServed g 4 0 e × (brooms_of g ≡ 1) }
-    ensures second { (g : Geometry) (e f : CollectorEnd) → AllHaveServed g 4 (e ∷ f ∷ []) → HasServed g 4 1 f }
+    ensures served { (g : Geometry) (e : CollectorEnd)
+        → AllHaveServed g 4 (e ∷ []) → HasServed g 4 0 e × (brooms_of g ≡ 1) }
+    ensures second { (g : Geometry) (e f : CollectorEnd)
+        → AllHaveServed g 4 (e ∷ f ∷ []) → HasServed g 4 1 f }
     ensures missing { (g : Geometry) → brooms_of g ≡ 1 → ¬ AllHaveServed g 4 [] }
-    ensures number { (g : Geometry) (e : CollectorEnd) → HasServed g 4 3 e → (folded_view e.folded).role ≡ seat.Player (name.Broom 3) }
-    ensures left { (s : Collector) (e : CollectorEnd) → HaveFolded (s ∷ []) (e ∷ []) → LeftAt (limit_at s) s.broom (folded_place e.folded) }
+    ensures number { (g : Geometry) (e : CollectorEnd) → HasServed g 4 3 e
+        → (folded_view e.folded).role ≡ seat.Player (name.Broom 3) }
+    ensures left { (s : Collector) (e : CollectorEnd) → HaveFolded (s ∷ []) (e ∷ [])
+        → LeftAt (limit_at s) s.broom (folded_place e.folded) }
 {}

@@ -23,19 +23,25 @@ pub fn a_survey_and_its_victim()
 /// What stays marked of a survey: a block that was drained by it is not drained by it again.
 pub fn marks_of_a_survey()
     ensures unmarked { (b : ℕ) (x y : Broom) → Unmarks x b y → ¬ IsClosed (marks_of y) b }
-    ensures others { (b k : ℕ) (x y : Broom) → Unmarks x b y → ¬ (k ≡ b) → IsClosed (marks_of x) k → IsClosed (marks_of y) k }
-    ensures left { (b c : ℕ) (x y : Broom) → SurveyLeft x (drain.Drained b c) y → ¬ IsClosed (marks_of y) b }
-    ensures next { (b c k d : ℕ) (x y z : Broom) → SurveyLeft x (drain.Drained b c) y → NextTold y (drain.Drained k d) z → ¬ (k ≡ b) }
+    ensures others { (b k : ℕ) (x y : Broom) → Unmarks x b y → ¬ (k ≡ b)
+        → IsClosed (marks_of x) k → IsClosed (marks_of y) k }
+    ensures left { (b c : ℕ) (x y : Broom)
+        → SurveyLeft x (drain.Drained b c) y → ¬ IsClosed (marks_of y) b }
+    ensures next { (b c k d : ℕ) (x y z : Broom) → SurveyLeft x (drain.Drained b c) y
+        → NextTold y (drain.Drained k d) z → ¬ (k ≡ b) }
     ensures kept { (x y : Broom) → NextTold x drain.NothingToGain y → KeepsSurvey x y }
     ensures no_queue { (x y : Broom) → ¬ NextTold x drain.QueueFull y }
 {}
 
 /// What a drain and a restock mean by their results.
 pub fn a_drain_and_its_survey()
-    ensures listed { (b c : ℕ) (x y : Broom) → DrainTold x (drain.Drained b c) y → HasDrained b x y }
-    ensures fewest { (b c : ℕ) (x y : Broom) → DrainTold x (drain.Drained b c) y → HadFewest (view_of_broom x) b (view_of_broom y) }
+    ensures listed { (b c : ℕ) (x y : Broom)
+        → DrainTold x (drain.Drained b c) y → HasDrained b x y }
+    ensures fewest { (b c : ℕ) (x y : Broom) → DrainTold x (drain.Drained b c) y
+        → HadFewest (view_of_broom x) b (view_of_broom y) }
     ensures nothing { (x y : Broom) → DrainTold x drain.NothingToGain y → DidNothing x y }
-    ensures no_spare { (x y : Broom) → DrainTold x drain.NoSpare y → HasNone x × (view_of_broom y ≡ view_of_broom x) }
+    ensures no_spare { (x y : Broom) → DrainTold x drain.NoSpare y
+        → HasNone x × (view_of_broom y ≡ view_of_broom x) }
     ensures lost { (x y : Broom) → DrainTold x drain.Lost y → DidNothing x y × HasLost x y }
     ensures no_queue { (x y : Broom) → ¬ DrainTold x drain.QueueFull y }
     ensures restocked { (x y : Broom) → RestockTold x true y → HasSpare y }

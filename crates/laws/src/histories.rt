@@ -12,9 +12,11 @@ pub fn beginnings_of_histories()
 
 /// Which calls are those of a pass, and which are of the hosts of a device.
 pub fn calls_of_hosts()
-    ensures calls { (s r : ℕ) → calls_of 0 (Trim 0 s ∷ Trim 1 s ∷ Trim 0 r ∷ []) ≡ Trim 0 s ∷ Trim 0 r ∷ [] }
+    ensures calls { (s r : ℕ)
+        → calls_of 0 (Trim 0 s ∷ Trim 1 s ∷ Trim 0 r ∷ []) ≡ Trim 0 s ∷ Trim 0 r ∷ [] }
     ensures last { (z : Numbers) (s : ℕ) → z.hosts ≡ 2 → AreOfHosts z (Trim 1 s ∷ []) }
-    ensures beyond { (z : Numbers) (s : ℕ) → z.hosts ≡ 2 → ¬ AreOfHosts z (Trim 0 s ∷ Trim 2 s ∷ []) }
+    ensures beyond { (z : Numbers) (s : ℕ) → z.hosts ≡ 2
+        → ¬ AreOfHosts z (Trim 0 s ∷ Trim 2 s ∷ []) }
 {}
 
 /// When two lists of pages share none, and when a list has none twice.

@@ -12,24 +12,36 @@ ghost use Rattle.laws.specs.{Brooms.a_page, Tables.an_owned};
 
 /// What a write leaves of the block that it fills, at which history it is answered, and what two players that met have heard of each other.
 pub fn records_of_hosts()
-    ensures full { (v w : View) (t s : ℕ) (x : List ℕ) (a : Was) → Wrote v t s x a w → v.numbers.pages ≡ 2 → v.owns ≡ an_owned 3 phase.Open 1 1 ∷ []
+    ensures full { (v w : View) (t s : ℕ) (x : List ℕ) (a : Was) → Wrote v t s x a w
+        → v.numbers.pages ≡ 2 → v.owns ≡ an_owned 3 phase.Open 1 1 ∷ []
         → (w.programs ≡ v.programs ++ a_page 1 3 1 ∷ []) × (w.taken ≡ v.taken) × (w.owns ≡ [])
         × (w.ceded ≡ v.ceded ++ an_owned 3 phase.Closed 1 2 ∷ []) }
-    ensures begun { (v w : View) (t s : ℕ) (x : List ℕ) (a : Was) → (h : Wrote v t s x a w) → v.numbers.pages ≡ 2 → v.owns ≡ []
-        → (h.page.page ≡ 0) × (w.taken ≡ v.taken + 1) × (w.denied ≡ v.denied ++ range_with_len 0 h.page.block) × (w.ceded ≡ v.ceded)
+    ensures begun { (v w : View) (t s : ℕ) (x : List ℕ) (a : Was)
+        → (h : Wrote v t s x a w) → v.numbers.pages ≡ 2 → v.owns ≡ []
+        → (h.page.page ≡ 0) × (w.taken ≡ v.taken + 1)
+        × (w.denied ≡ v.denied ++ range_with_len 0 h.page.block) × (w.ceded ≡ v.ceded)
         × (w.owns ≡ an_owned h.page.block phase.Open h.page.generation 1 ∷ []) }
-    ensures answered { (v w : View) (t s : ℕ) (x : List ℕ) (a : Was) → (h : Wrote v t s x a w) → (a ≡ was_at v.numbers.sectors h.before s)
+    ensures answered { (v w : View) (t s : ℕ) (x : List ℕ) (a : Was)
+        → (h : Wrote v t s x a w) → (a ≡ was_at v.numbers.sectors h.before s)
         × Begins v.seen h.before × (w.seen ≡ h.before ++ Write t s x ∷ []) }
-    ensures met { (v w x y : View) → MetTold v w x y → (x.copy ≡ Some (carried w)) × (y.copy ≡ Some (carried x)) × GoesOnFrom v w × GoesOnFrom w v }
-    ensures met_once { (v w x y : View) → MetTold v w x y → Once x.programs × Once y.programs × (x.mine ≡ v.mine) × (y.mine ≡ w.mine) }
-    ensures held { (v w x y : View) (m : MapWord) → MetHolding v w m x y → (x.copy ≡ Some (carried w)) × (y.copy ≡ Some (carried v)) × GoesOnFrom v w
+    ensures met { (v w x y : View) → MetTold v w x y → (x.copy ≡ Some (carried w))
+        × (y.copy ≡ Some (carried x)) × GoesOnFrom v w × GoesOnFrom w v }
+    ensures met_once { (v w x y : View) → MetTold v w x y → Once x.programs
+        × Once y.programs × (x.mine ≡ v.mine) × (y.mine ≡ w.mine) }
+    ensures held { (v w x y : View) (m : MapWord) → MetHolding v w m x y
+        → (x.copy ≡ Some (carried w)) × (y.copy ≡ Some (carried v)) × GoesOnFrom v w
         × GoesOnFrom w v × (x.seen ≡ v.seen) }
-    ensures held_once { (v w x y : View) (m : MapWord) → MetHolding v w m x y → (¬ (v.role ≡ w.role)) × Once v.programs × Once w.programs
+    ensures held_once { (v w x y : View) (m : MapWord) → MetHolding v w m x y
+        → (¬ (v.role ≡ w.role)) × Once v.programs × Once w.programs
         × Disjoint v.programs w.programs }
-    ensures stood { (v w x y : View) (m : MapWord) → StoodTold v w m x y → (x.copy ≡ Some (carried w)) × (y.copy ≡ Some (carried v)) × GoesOnFrom v w
+    ensures stood { (v w x y : View) (m : MapWord) → StoodTold v w m x y
+        → (x.copy ≡ Some (carried w)) × (y.copy ≡ Some (carried v)) × GoesOnFrom v w
         × GoesOnFrom w v × Begins w.named y.named }
-    ensures brooms { (v w x y : View) → BroomsMet v w x y → (x.copy ≡ Some (carried w)) × (y.copy ≡ Some (carried x)) × GoesOnFrom v w × GoesOnFrom w v }
-    ensures brooms_once { (v w x y : View) → BroomsMet v w x y → (¬ (v.role ≡ w.role)) × Once x.programs × Once y.programs × Once x.erases × Once y.erases }
-    ensures undisturbed { (f : Flash) (x : List ℕ) (h k : Held) (d : Carried) → Undisturbed f x h (Some d) k → Once (view_of (pass_of k)).programs
+    ensures brooms { (v w x y : View) → BroomsMet v w x y → (x.copy ≡ Some (carried w))
+        × (y.copy ≡ Some (carried x)) × GoesOnFrom v w × GoesOnFrom w v }
+    ensures brooms_once { (v w x y : View) → BroomsMet v w x y → (¬ (v.role ≡ w.role))
+        × Once x.programs × Once y.programs × Once x.erases × Once y.erases }
+    ensures undisturbed { (f : Flash) (x : List ℕ) (h k : Held) (d : Carried)
+        → Undisturbed f x h (Some d) k → Once (view_of (pass_of k)).programs
         × Once d.programs }
 {}

@@ -10,13 +10,18 @@ ghost use Rattle.laws.specs.Rounds.{write_and_reads, write_turned_away};
 
 /// Where the rounds of a trace end, whose answer each line gets, and which sectors the lines of a round may share.
 pub fn rounds_of_a_trace()
-    ensures cut { (c d : Command) → c.op ≡ op.Trim → d.op ≡ op.Read → rounds_of (c ∷ meeting ∷ d ∷ []) ≡ (c ∷ []) ∷ (d ∷ []) ∷ [] }
+    ensures cut { (c d : Command) → c.op ≡ op.Trim → d.op ≡ op.Read
+        → rounds_of (c ∷ meeting ∷ d ∷ []) ≡ (c ∷ []) ∷ (d ∷ []) ∷ [] }
     ensures last { rounds_of (meeting ∷ []) ≡ [] ∷ [] ∷ [] }
-    ensures own_answers { (a b c : Said) → merge three_reads (rows_with (a ∷ []) (b ∷ c ∷ [])) ≡ three_answers b a c }
-    ensures changed { (o : Op) → ¬ (o ≡ op.Read) → ¬ (o ≡ op.Meet) → ¬ AreDisjointCommands (plain_line 0 op.Read 5 ∷ plain_line 1 o 5 ∷ []) }
-    ensures one_worker { (o : Op) → AreDisjointCommands (plain_line 1 op.Trim 5 ∷ plain_line 1 o 5 ∷ []) }
+    ensures own_answers { (a b c : Said)
+        → merge three_reads (rows_with (a ∷ []) (b ∷ c ∷ [])) ≡ three_answers b a c }
+    ensures changed { (o : Op) → ¬ (o ≡ op.Read) → ¬ (o ≡ op.Meet)
+        → ¬ AreDisjointCommands (plain_line 0 op.Read 5 ∷ plain_line 1 o 5 ∷ []) }
+    ensures one_worker { (o : Op)
+        → AreDisjointCommands (plain_line 1 op.Trim 5 ∷ plain_line 1 o 5 ∷ []) }
     ensures apart { (o p : Op) → AreDisjointCommands (plain_line 0 o 5 ∷ plain_line 1 p 6 ∷ []) }
-    ensures next_round { (o p : Op) → ¬ (o ≡ op.Meet) → ¬ (p ≡ op.Meet) → IsDisjointTrace (plain_line 0 o 5 ∷ meeting ∷ plain_line 1 p 5 ∷ []) }
+    ensures next_round { (o p : Op) → ¬ (o ≡ op.Meet) → ¬ (p ≡ op.Meet)
+        → IsDisjointTrace (plain_line 0 o 5 ∷ meeting ∷ plain_line 1 p 5 ∷ []) }
 {}
 
 /// Which answer of a line is right for what its sector holds.
@@ -25,16 +30,20 @@ pub fn answers_of_sectors()
     ensures read_other { (x y : List ℕ) → ¬ (x ≡ y) → ¬ IsRight op.Read (Some x) kind.Page y }
     ensures read_empty { (x y : List ℕ) → ¬ IsRight op.Read (Some x) kind.Empty y }
     ensures read_full { (s : Sector) (y : List ℕ) → ¬ IsRight op.Read s kind.Full y }
-    ensures write_full { (s : Sector) (y : List ℕ) → IsRight op.Write s kind.Full y × IsRight op.New s kind.Full y }
+    ensures write_full { (s : Sector) (y : List ℕ)
+        → IsRight op.Write s kind.Full y × IsRight op.New s kind.Full y }
     ensures write_new { (x y : List ℕ) → ¬ IsRight op.New (Some x) kind.Empty y }
-    ensures write_empty { (y : List ℕ) → IsRight op.Write None kind.Empty y × (¬ IsRight op.Write None kind.Written y) }
+    ensures write_empty { (y : List ℕ) → IsRight op.Write None kind.Empty y
+        × (¬ IsRight op.Write None kind.Written y) }
     ensures trim_full { (s : Sector) (y : List ℕ) → ¬ IsRight op.Trim s kind.Full y }
-    ensures meet { (s : Sector) (y : List ℕ) → IsRight op.Meet s kind.Met y × (¬ IsRight op.Meet s kind.Empty y) }
+    ensures meet { (s : Sector) (y : List ℕ) → IsRight op.Meet s kind.Met y
+        × (¬ IsRight op.Meet s kind.Empty y) }
 {}
 
 /// How often a write is tried, and which blocks it finds taken.
 pub fn tries_of_a_write()
-    ensures turned_away { (found : List ℕ) → WriteFound 2 3 true found → found ≡ 0 ∷ 1 ∷ 2 ∷ 0 ∷ 1 ∷ 2 ∷ [] }
+    ensures turned_away { (found : List ℕ) → WriteFound 2 3 true found
+        → found ≡ 0 ∷ 1 ∷ 2 ∷ 0 ∷ 1 ∷ 2 ∷ [] }
     ensures at_last { WriteFound 2 3 false (0 ∷ 1 ∷ 2 ∷ 0 ∷ 1 ∷ []) }
     ensures too_often { (below : ℕ) → ¬ IsTried 2 3 false 2 below }
     ensures too_seldom { (below : ℕ) → ¬ IsTried 2 3 true 1 below }
@@ -49,9 +58,12 @@ pub fn answers_of_rounds()
     ensures behind { (x : List ℕ) → ¬ AreAtOneHistory 1 2 (write_and_reads x) nothing_read }
 
     // A new device is empty.
-    ensures new { (x : List ℕ) → ¬ AreAtOneHistory 1 1 (plain_line 0 op.Read 0 ∷ []) (rows_with (says_page x ∷ []) []) }
-    ensures empty { AreAtOneHistory 1 1 (plain_line 0 op.Read 0 ∷ []) (rows_with (says kind.Empty ∷ []) []) }
+    ensures new { (x : List ℕ)
+        → ¬ AreAtOneHistory 1 1 (plain_line 0 op.Read 0 ∷ []) (rows_with (says_page x ∷ []) []) }
+    ensures empty { AreAtOneHistory 1 1 (plain_line 0 op.Read 0 ∷ [])
+        (rows_with (says kind.Empty ∷ []) []) }
 
     // Only a write can be turned away.
-    ensures text { (x text : List ℕ) → IsTextOfSome 1 (three_lines x) text → (text ≡ all_done x) ⊎ (text ≡ write_turned_away x) }
+    ensures text { (x text : List ℕ) → IsTextOfSome 1 (three_lines x) text
+        → (text ≡ all_done x) ⊎ (text ≡ write_turned_away x) }
 {}

@@ -18,7 +18,9 @@ pub enum Page {
 
 /// Puts something into a page, if there is such a page.
 pub fn put(blocks: &mut Vec<Vec<Page>>, at: PageAddr, page: Page) -> bool
-    ensures put { result ≡ true → SetsPage (flash_in blocks.old.items) (flash_in blocks.new.items) at.block at.page (contents_of page) }
+    ensures put { result ≡ true
+        → SetsPage (flash_in blocks.old.items)
+        (flash_in blocks.new.items) at.block at.page (contents_of page) }
     ensures same { result ≡ false → blocks.new.items ≡ blocks.old.items }
 {
     let (block, index) = (at.block as usize, at.page as usize);
@@ -31,7 +33,8 @@ pub fn put(blocks: &mut Vec<Vec<Page>>, at: PageAddr, page: Page) -> bool
 
 /// Erases a block, if there is such a block.
 pub fn erase(blocks: &mut Vec<Vec<Page>>, block: u32) -> bool
-    ensures erased { result ≡ true → IsWiped (flash_in blocks.old.items) (flash_in blocks.new.items) block }
+    ensures erased { result ≡ true
+        → IsWiped (flash_in blocks.old.items) (flash_in blocks.new.items) block }
     ensures same { result ≡ false → blocks.new.items ≡ blocks.old.items }
 {
     if block as usize >= blocks.len() {

@@ -70,9 +70,12 @@ impl Chip {
     /// A chip whose pages are all erased, with power.
     pub fn new(alloc: Global, shape: Shape) -> Result<Chip, AllocError>
         ensures shape { IfOk result (λ chip. chip_shape chip ≡ shape) }
-        ensures bad { IfOk result (λ chip. (b : ℕ) → slice_index_or (chip_bad chip) b false ≡ false) }
+        ensures bad { IfOk result
+            (λ chip. (b : ℕ) → slice_index_or (chip_bad chip) b false ≡ false) }
         ensures erases { IfOk result (λ chip. (b : ℕ) → slice_index_or (chip_erases chip) b 0 ≡ 0) }
-        ensures schedule { IfOk result (λ chip. schedule_of chip ≡ record { powered = true; commands = 0; cut = None; failing = None }) }
+        ensures schedule { IfOk result
+            (λ chip. schedule_of chip
+            ≡ record { powered = true; commands = 0; cut = None; failing = None }) }
     {
         let mut blocks = Vec::new(alloc);
         for _ in 0..shape.blocks {
@@ -100,7 +103,7 @@ impl Chip {
 
     /// Gives the chip power again.
     pub fn power_on(&mut self)
-        ensures schedule { schedule_of self.new ≡ record { powered = true; commands = self.old.commands; cut = self.old.cut; failing = self.old.failing } }
+        ensures schedule { schedule_of self.new ≡ record (schedule_of self.old) { powered = true } }
         ensures same { HasSame self.old self.new }
     {
         self.powered = true;
@@ -109,7 +112,7 @@ impl Chip {
     /// Lets the power go in the command with this number, or before the calls after it.
     pub fn cut_at(&mut self, command: u64, cut: Cut)
         ensures schedule { schedule_of self.new
-            ≡ record { powered = self.old.powered; commands = self.old.commands; cut = Some (command, cut); failing = self.old.failing } }
+            ≡ record (schedule_of self.old) { cut = Some (command, cut) } }
         ensures same { HasSame self.old self.new }
     {
         self.cut = Some((command, cut));
@@ -118,7 +121,7 @@ impl Chip {
     /// Lets the command with this number fail, and no other.
     pub fn fail_at(&mut self, command: u64)
         ensures schedule { schedule_of self.new
-            ≡ record { powered = self.old.powered; commands = self.old.commands; cut = self.old.cut; failing = Some (command, 1) } }
+            ≡ record (schedule_of self.old) { failing = Some (command, 1) } }
         ensures same { HasSame self.old self.new }
     {
         self.failing = Some((command, 1));
@@ -127,7 +130,7 @@ impl Chip {
     /// Lets several of the 64 commands from this number on fail, and no others: bit i of the mask says that the i-th after it does.
     pub fn fail_from(&mut self, command: u64, mask: u64)
         ensures schedule { schedule_of self.new
-            ≡ record { powered = self.old.powered; commands = self.old.commands; cut = self.old.cut; failing = Some (command, mask) } }
+            ≡ record (schedule_of self.old) { failing = Some (command, mask) } }
         ensures same { HasSame self.old self.new }
     {
         self.failing = Some((command, mask));
@@ -135,7 +138,8 @@ impl Chip {
 
     /// Makes a page unreadable, as a charge that has leaked away does.
     pub fn lose_page(&mut self, at: PageAddr)
-        ensures loses { IsSameFlash (chip_flash self.old) (chip_flash self.new) ⊎ SetsPage (chip_flash self.old) (chip_flash self.new) at.block at.page Torn }
+        ensures loses { IsSameFlash (chip_flash self.old) (chip_flash self.new)
+            ⊎ SetsPage (chip_flash self.old) (chip_flash self.new) at.block at.page Torn }
         ensures shape { chip_shape self.new ≡ chip_shape self.old }
         ensures bad { chip_bad self.new ≡ chip_bad self.old }
         ensures schedule { schedule_of self.new ≡ schedule_of self.old }
@@ -211,7 +215,8 @@ impl Chip {
 
     // Fills a page by a command.
     fn fill(&mut self, at: PageAddr, page: Page) -> Result<(), Fault>
-        ensures sets { Sets result (chip_flash self.old) (chip_flash self.new) at (contents_of page) }
+        ensures sets { Sets result (chip_flash self.old)
+            (chip_flash self.new) at (contents_of page) }
         ensures ends { Ends (coming (schedule_of self.old)) result }
         ensures bad { chip_bad self.new ≡ chip_bad self.old }
         ensures shape { chip_shape self.new ≡ chip_shape self.old }
@@ -343,7 +348,8 @@ impl Nand for Chip {
     }
 
     fn program(&mut self, at: PageAddr, stamp: Stamp, main: &[u8]) -> Result<(), Fault>
-        ensures does { Performs (command.Program at stamp.number) stamp.extent (value_with stamp.trimmed main.now) result
+        ensures does { Performs (command.Program at stamp.number) stamp.extent
+            (value_with stamp.trimmed main.now) result
             (chip_flash self.old) (chip_flash self.new) }
         ensures shape { chip_shape self.new ≡ chip_shape self.old }
         ensures bad { chip_bad self.new ≡ chip_bad self.old }
@@ -357,7 +363,8 @@ impl Nand for Chip {
     }
 
     fn copyback(&mut self, from: PageAddr, to: PageAddr) -> Result<(), Fault>
-        ensures does { Performs (command.Copy 0 from to) (sole 0) None result (chip_flash self.old) (chip_flash self.new) }
+        ensures does { Performs (command.Copy 0 from to) (sole 0) None result
+            (chip_flash self.old) (chip_flash self.new) }
         ensures shape { chip_shape self.new ≡ chip_shape self.old }
         ensures bad { chip_bad self.new ≡ chip_bad self.old }
         ensures cause { CountsFault (chip_faults self.old) (chip_faults self.new) result }
@@ -370,13 +377,15 @@ impl Nand for Chip {
     }
 
     fn erase(&mut self, block: u32) -> Result<(), Fault>
-        ensures does { Performs (command.Erase block) (sole 0) None result (chip_flash self.old) (chip_flash self.new) }
+        ensures does { Performs (command.Erase block) (sole 0) None result
+            (chip_flash self.old) (chip_flash self.new) }
         ensures shape { chip_shape self.new ≡ chip_shape self.old }
         ensures bad { chip_bad self.new ≡ chip_bad self.old }
         ensures cause { CountsFault (chip_faults self.old) (chip_faults self.new) result }
         ensures ends { Ends (coming (schedule_of self.old)) result }
         ensures counted { OnOk result (chip_erases self.new
-            ≡ slice_set (chip_erases self.old) block ((slice_index_or (chip_erases self.old) block 0 + 1) % 2 ^ 64)) }
+            ≡ slice_set (chip_erases self.old) block
+            ((slice_index_or (chip_erases self.old) block 0 + 1) % 2 ^ 64)) }
     {
         match self.fate() {
             Fate::Done => {

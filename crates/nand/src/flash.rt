@@ -85,7 +85,8 @@ pub trait Nand {
 
     /// Marks a block bad for good. Its pages are still read.
     fn mark_bad(&mut self, block: u32) -> Result<(), PowerGone>
-        ensures marks { block < (shape self.old).blocks → OnOk result (Marks (bad self.old) (bad self.new) block) }
+        ensures marks { block < (shape self.old).blocks
+            → OnOk result (Marks (bad self.old) (bad self.new) block) }
         ensures only { (bad self.new ≡ bad self.old) ⊎ Marks (bad self.old) (bad self.new) block }
         ensures flash { flash self.new ≡ flash self.old }
         ensures shape { shape self.new ≡ shape self.old }
@@ -93,7 +94,8 @@ pub trait Nand {
 
     /// Reads a page's stamp alone.
     fn stamp(&mut self, at: PageAddr) -> Result<Reading, PowerGone>
-        ensures stamp { IfOk result (λ reading. ReadsStamp (flash self.old at.block at.page) reading) }
+        ensures stamp { IfOk result
+            (λ reading. ReadsStamp (flash self.old at.block at.page) reading) }
         ensures flash { flash self.new ≡ flash self.old }
         ensures shape { shape self.new ≡ shape self.old }
         ensures bad { bad self.new ≡ bad self.old }
@@ -102,7 +104,8 @@ pub trait Nand {
     /// Reads a page's stamp, and its main bytes into `out`. If it isn't a version with bytes, any bytes may be there.
     fn read(&mut self, at: PageAddr, out: &mut [u8]) -> Result<Reading, PowerGone>
         requires { length out.old ≡ (shape self.old).page_bytes }
-        ensures stamp { IfOk result (λ reading. ReadsStamp (flash self.old at.block at.page) reading) }
+        ensures stamp { IfOk result
+            (λ reading. ReadsStamp (flash self.old at.block at.page) reading) }
         ensures main { OnOk result (ReadsMain (flash self.old at.block at.page) out.new) }
         ensures flash { flash self.new ≡ flash self.old }
         ensures shape { shape self.new ≡ shape self.old }
@@ -112,21 +115,24 @@ pub trait Nand {
     /// Programs an erased page. The main bytes of a trim are none.
     fn program(&mut self, at: PageAddr, stamp: Stamp, main: &[u8]) -> Result<(), Fault>
         requires { stamp.trimmed ≡ false → length main.now ≡ (shape self.old).page_bytes }
-        ensures does { Performs (command.Program at stamp.number) stamp.extent (value_with stamp.trimmed main.now) result (flash self.old) (flash self.new) }
+        ensures does { Performs (command.Program at stamp.number) stamp.extent
+            (value_with stamp.trimmed main.now) result (flash self.old) (flash self.new) }
         ensures shape { shape self.new ≡ shape self.old }
         ensures bad { bad self.new ≡ bad self.old }
         ensures cause { CountsFault (faults self.old) (faults self.new) result };
 
     /// Copies a page with its stamp into an erased page.
     fn copyback(&mut self, from: PageAddr, to: PageAddr) -> Result<(), Fault>
-        ensures does { Performs (command.Copy 0 from to) (sole 0) None result (flash self.old) (flash self.new) }
+        ensures does { Performs (command.Copy 0 from to)
+            (sole 0) None result (flash self.old) (flash self.new) }
         ensures shape { shape self.new ≡ shape self.old }
         ensures bad { bad self.new ≡ bad self.old }
         ensures cause { CountsFault (faults self.old) (faults self.new) result };
 
     /// Erases a block.
     fn erase(&mut self, block: u32) -> Result<(), Fault>
-        ensures does { Performs (command.Erase block) (sole 0) None result (flash self.old) (flash self.new) }
+        ensures does { Performs (command.Erase block)
+            (sole 0) None result (flash self.old) (flash self.new) }
         ensures shape { shape self.new ≡ shape self.old }
         ensures bad { bad self.new ≡ bad self.old }
         ensures cause { CountsFault (faults self.old) (faults self.new) result };

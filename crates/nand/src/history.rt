@@ -22,19 +22,25 @@ impl<N: Nand> Durable<N> {
     /// Writes a sector, or trims an extent.
     pub fn make(&mut self, change: &Change) -> Result<(), Failure>
         requires { IsFor (layer_sectors self.old) (N.shape self.old.nand).page_bytes change.now }
-        ensures acknowledged { (updates : List Update) → IsOpenLayer N.flash N.shape N.bad self.old updates
-            → OnOk result (IsOpenLayer N.flash N.shape N.bad self.new (update_by change.now ∷ updates)) }
+        ensures acknowledged { (updates : List Update)
+            → IsOpenLayer N.flash N.shape N.bad self.old updates
+            → OnOk result
+            (IsOpenLayer N.flash N.shape N.bad self.new (update_by change.now ∷ updates)) }
         ensures fails { (updates : List Update) → IsOpenLayer N.flash N.shape N.bad self.old updates
-            → IfErr result (Fails N.flash N.shape N.bad self.old self.new (update_by change.now) updates) }
+            → IfErr result
+            (Fails N.flash N.shape N.bad self.old self.new (update_by change.now) updates) }
         ensures cause { IfErr result (IsTrueCause N.faults self.old self.new) }
         ensures closed { IsClosed self.old → result ≡ Err failure.Closed }
         ensures device { KeepsDevice N.shape N.bad N.faults self.old self.new }
         ensures marks { (updates : List Update) → IsOpenLayer N.flash N.shape N.bad self.old updates
             → OnOk result (HasMarkedFailed N.shape N.bad N.faults self.old self.new) }
-        ensures memory { (updates : List Update) → IsOpenLayer N.flash N.shape N.bad self.old updates
-            → result ≡ Err failure.OutOfMemory → HasMarkedFailed N.shape N.bad N.faults self.old self.new }
+        ensures memory { (updates : List Update)
+            → IsOpenLayer N.flash N.shape N.bad self.old updates
+            → result ≡ Err failure.OutOfMemory
+            → HasMarkedFailed N.shape N.bad N.faults self.old self.new }
         ensures once { (updates : List Update) → IsOpenLayer N.flash N.shape N.bad self.old updates
-            → OnOk result ((N.flash self.new.nand ≡ N.flash self.old.nand) ⊎ ProgramsOnce N.flash N.bad self.old self.new (update_by change.now)) }
+            → OnOk result ((N.flash self.new.nand ≡ N.flash self.old.nand)
+            ⊎ ProgramsOnce N.flash N.bad self.old self.new (update_by change.now)) }
     {
         match change {
             Change::Write(sector, bytes) => self.write(*sector, bytes),
@@ -57,13 +63,17 @@ impl<N: Nand> Durable<N> {
         requires changes { All (IsFor sectors (N.shape nand).page_bytes) changes.now }
         requires none { acknowledged.old.items ≡ [] }
         ensures array { (before : List Update) → CanOpen N.flash N.shape N.bad nand sectors before
-            → IfOk result (λ layer. (after : List Update) × Leads changes.now acknowledged.new.items before after
+            → IfOk result
+            (λ layer. (after : List Update) × Leads changes.now acknowledged.new.items before after
             × IsOpenLayer N.flash N.shape N.bad layer after) }
         ensures back { (before : List Update) → CanOpen N.flash N.shape N.bad nand sectors before
-            → IfErr result (λ refused. (after : List Update) × Leads changes.now acknowledged.new.items before after
+            → IfErr result
+            (λ refused. (after : List Update)
+            × Leads changes.now acknowledged.new.items before after
             × CanOpen N.flash N.shape N.bad refused.nand sectors after) }
         ensures all { OnOk result (length acknowledged.new.items ≡ length changes.now) }
-        ensures device { IfOk result (λ layer. (layer_sectors layer ≡ sectors) × (N.shape layer.nand ≡ N.shape nand)) }
+        ensures device { IfOk result
+            (λ layer. (layer_sectors layer ≡ sectors) × (N.shape layer.nand ≡ N.shape nand)) }
     {
         let mut layer = Durable::open(alloc, nand, sectors)?;
         for i in 0..changes.len() {
@@ -90,12 +100,18 @@ impl<N: Nand> Durable<N> {
     ) -> Result<Durable<N>, NotOpened<N>>
         requires { IsFor (layer_sectors self) (N.shape self.nand).page_bytes change.now }
         ensures open { (updates : List Update) → IsOpenLayer N.flash N.shape N.bad self updates
-            → IfOk result (λ layer. (after : List Update) × Makes acknowledged.new (update_by change.now) updates after
+            → IfOk result
+            (λ layer. (after : List Update)
+            × Makes acknowledged.new (update_by change.now) updates after
             × IsOpenLayer N.flash N.shape N.bad layer after) }
         ensures back { (updates : List Update) → IsOpenLayer N.flash N.shape N.bad self updates
-            → IfErr result (λ refused. (after : List Update) × Makes acknowledged.new (update_by change.now) updates after
+            → IfErr result
+            (λ refused. (after : List Update)
+            × Makes acknowledged.new (update_by change.now) updates after
             × CanOpen N.flash N.shape N.bad refused.nand (layer_sectors self) after) }
-        ensures device { IfOk result (λ layer. (layer_sectors layer ≡ layer_sectors self) × (N.shape layer.nand ≡ N.shape self.nand)) }
+        ensures device { IfOk result
+            (λ layer. (layer_sectors layer ≡ layer_sectors self)
+            × (N.shape layer.nand ≡ N.shape self.nand)) }
     {
         let mut layer = self;
         match layer.make(change) {

@@ -51,7 +51,8 @@ pub struct NotOpened<N> {
 
 // What a sector is, by what its page was read as.
 fn found(reading: Reading, sector: u32) -> Result<Was, Failure>
-    ensures version { (e : Sectors) (n : ℕ) (t : Bool) → Covers e sector → reading ≡ outcome.Version (record { extent = e; number = n; trimmed = t })
+    ensures version { (e : Sectors) (n : ℕ) (t : Bool) → Covers e sector
+        → reading ≡ outcome.Version (record { extent = e; number = n; trimmed = t })
         → result ≡ Ok (if t then was.Empty else was.Written) }
     ensures lost { OnErr result (result ≡ Err failure.Lost) }
 {
@@ -75,23 +76,36 @@ impl<N: Nand> Durable<N> {
     pub fn open(alloc: Global, nand: N, sectors: u32) -> Result<Durable<N>, NotOpened<N>>
         ensures open { (updates : List Update) → CanOpen N.flash N.shape N.bad nand sectors updates
             → IfOk result (λ layer. IsOpenLayer N.flash N.shape N.bad layer updates) }
-        ensures new { IsErased (N.flash nand) → IfOk result (λ layer. IsOpenLayer N.flash N.shape N.bad layer []) }
-        ensures chip { IfOk result (λ layer. (N.flash layer.nand ≡ N.flash nand) × (N.shape layer.nand ≡ N.shape nand)
+        ensures new { IsErased (N.flash nand)
+            → IfOk result (λ layer. IsOpenLayer N.flash N.shape N.bad layer []) }
+        ensures chip { IfOk result
+            (λ layer. (N.flash layer.nand ≡ N.flash nand) × (N.shape layer.nand ≡ N.shape nand)
             × (N.bad layer.nand ≡ N.bad nand) × (layer_sectors layer ≡ sectors)) }
-        ensures capacity { OnOk result (HasCapacity sectors (good_before (N.bad nand) (N.shape nand).blocks) (N.shape nand).pages) }
-        ensures back { IfErr result (λ refused. (N.flash refused.nand ≡ N.flash nand) × (N.shape refused.nand ≡ N.shape nand)
+        ensures capacity { OnOk result
+            (HasCapacity sectors (good_before (N.bad nand) (N.shape nand).blocks)
+            (N.shape nand).pages) }
+        ensures back { IfErr result
+            (λ refused. (N.flash refused.nand ≡ N.flash nand)
+            × (N.shape refused.nand ≡ N.shape nand)
             × (N.bad refused.nand ≡ N.bad nand)) }
 
         // It is refused only if the sectors are too many, if the flash is none that this layer leaves, or without memory or power.
-        ensures room { HasCapacity sectors (good_before (N.bad nand) (N.shape nand).blocks) (N.shape nand).pages
+        ensures room { HasCapacity sectors
+            (good_before (N.bad nand) (N.shape nand).blocks) (N.shape nand).pages
             → IfErr result (λ refused. refused.why ≢ why.Refused mount_fault.TooManySectors) }
         ensures foreign { IsWrittenOn (device_on (N.shape nand) (N.bad nand) sectors) (N.flash nand)
             → IfErr result (λ refused. refused.why ≢ why.Refused mount_fault.ForeignStamp) }
         ensures frees { (updates : List Update) → CanOpen N.flash N.shape N.bad nand sectors updates
             → IfErr result (λ refused. refused.why ≢ why.Refused mount_fault.NoFreeBlock) }
-        ensures begins { IsErased (N.flash nand) → HasCapacity sectors (good_before (N.bad nand) (N.shape nand).blocks) (N.shape nand).pages
-            → IfErr result (λ refused. (refused.why ≡ why.PowerGone) ⊎ (refused.why ≡ why.Refused mount_fault.OutOfMemory)) }
-        ensures power { IfErr result (λ refused. refused.why ≡ why.PowerGone → N.faults refused.nand fault.PowerGone ≢ N.faults nand fault.PowerGone) }
+        ensures begins { IsErased (N.flash nand)
+            → HasCapacity sectors
+            (good_before (N.bad nand) (N.shape nand).blocks) (N.shape nand).pages
+            → IfErr result
+            (λ refused. (refused.why ≡ why.PowerGone)
+            ⊎ (refused.why ≡ why.Refused mount_fault.OutOfMemory)) }
+        ensures power { IfErr result
+            (λ refused. refused.why ≡ why.PowerGone
+            → N.faults refused.nand fault.PowerGone ≢ N.faults nand fault.PowerGone) }
     {
         let mut nand = nand;
         match mount(alloc, &mut nand, sectors) {
@@ -153,8 +167,10 @@ impl<N: Nand> Durable<N> {
             → IfOk result (λ got. ReadsSector (array_after updates sector) got out.new) }
 
         // It changes nothing, and fails only without power.
-        ensures open { (updates : List Update) → IsOpenLayer N.flash N.shape N.bad self.old updates → IsOpenLayer N.flash N.shape N.bad self.new updates }
-        ensures only { (updates : List Update) → IsOpenLayer N.flash N.shape N.bad self.old updates → OnErr result (result ≡ Err failure.PowerGone) }
+        ensures open { (updates : List Update) → IsOpenLayer N.flash N.shape N.bad self.old updates
+            → IsOpenLayer N.flash N.shape N.bad self.new updates }
+        ensures only { (updates : List Update) → IsOpenLayer N.flash N.shape N.bad self.old updates
+            → OnErr result (result ≡ Err failure.PowerGone) }
         ensures cause { IfErr result (IsTrueCause N.faults self.old self.new) }
         ensures closed { IsClosed self.old → result ≡ Err failure.Closed }
         ensures flash { N.flash self.new.nand ≡ N.flash self.old.nand }
@@ -180,21 +196,30 @@ impl<N: Nand> Durable<N> {
     pub fn write(&mut self, sector: u32, bytes: &[u8]) -> Result<(), Failure>
         requires sector { sector < layer_sectors self.old }
         requires page { length bytes.now ≡ (N.shape self.old.nand).page_bytes }
-        ensures acknowledged { (updates : List Update) → IsOpenLayer N.flash N.shape N.bad self.old updates
-            → OnOk result (IsOpenLayer N.flash N.shape N.bad self.new (update_of (sole sector) (Some bytes.now) ∷ updates)) }
+        ensures acknowledged { (updates : List Update)
+            → IsOpenLayer N.flash N.shape N.bad self.old updates
+            → OnOk result
+            (IsOpenLayer N.flash N.shape N.bad self.new
+            (update_of (sole sector) (Some bytes.now) ∷ updates)) }
 
         // It fails only if the chip does, or if the numbers have run out.
         ensures fails { (updates : List Update) → IsOpenLayer N.flash N.shape N.bad self.old updates
-            → IfErr result (Fails N.flash N.shape N.bad self.old self.new (update_of (sole sector) (Some bytes.now)) updates) }
+            → IfErr result
+            (Fails N.flash N.shape N.bad self.old self.new
+            (update_of (sole sector) (Some bytes.now)) updates) }
         ensures cause { IfErr result (IsTrueCause N.faults self.old self.new) }
         ensures closed { IsClosed self.old → result ≡ Err failure.Closed }
         ensures device { KeepsDevice N.shape N.bad N.faults self.old self.new }
         ensures marks { (updates : List Update) → IsOpenLayer N.flash N.shape N.bad self.old updates
             → OnOk result (HasMarkedFailed N.shape N.bad N.faults self.old self.new) }
-        ensures memory { (updates : List Update) → IsOpenLayer N.flash N.shape N.bad self.old updates
-            → result ≡ Err failure.OutOfMemory → HasMarkedFailed N.shape N.bad N.faults self.old self.new }
+        ensures memory { (updates : List Update)
+            → IsOpenLayer N.flash N.shape N.bad self.old updates
+            → result ≡ Err failure.OutOfMemory
+            → HasMarkedFailed N.shape N.bad N.faults self.old self.new }
         ensures once { (updates : List Update) → IsOpenLayer N.flash N.shape N.bad self.old updates
-            → OnOk result (ProgramsOnce N.flash N.bad self.old self.new (update_of (sole sector) (Some bytes.now))) }
+            → OnOk result
+            (ProgramsOnce N.flash N.bad self.old self.new
+            (update_of (sole sector) (Some bytes.now))) }
         ensures overwrites { result ≢ Err failure.Written }
     {
         let extent = Extent {
@@ -208,25 +233,35 @@ impl<N: Nand> Durable<N> {
     pub fn write_new(&mut self, sector: u32, bytes: &[u8]) -> Result<(), Failure>
         requires sector { sector < layer_sectors self.old }
         requires page { length bytes.now ≡ (N.shape self.old.nand).page_bytes }
-        ensures acknowledged { (updates : List Update) → IsOpenLayer N.flash N.shape N.bad self.old updates
-            → OnOk result (IsOpenLayer N.flash N.shape N.bad self.new (update_of (sole sector) (Some bytes.now) ∷ updates)) }
+        ensures acknowledged { (updates : List Update)
+            → IsOpenLayer N.flash N.shape N.bad self.old updates
+            → OnOk result
+            (IsOpenLayer N.flash N.shape N.bad self.new
+            (update_of (sole sector) (Some bytes.now) ∷ updates)) }
         ensures empty { (updates : List Update) → IsOpenLayer N.flash N.shape N.bad self.old updates
             → OnOk result (was_of (array_after updates sector) ≡ was.Empty) }
 
         // It fails only if the sector is written, if the chip fails, or if the numbers have run out.
-        ensures written { (updates : List Update) → IsOpenLayer N.flash N.shape N.bad self.old updates
+        ensures written { (updates : List Update)
+            → IsOpenLayer N.flash N.shape N.bad self.old updates
             → result ≡ Err failure.Written → was_of (array_after updates sector) ≡ was.Written }
         ensures fails { (updates : List Update) → IsOpenLayer N.flash N.shape N.bad self.old updates
-            → IfErr result (Fails N.flash N.shape N.bad self.old self.new (update_of (sole sector) (Some bytes.now)) updates) }
+            → IfErr result
+            (Fails N.flash N.shape N.bad self.old self.new
+            (update_of (sole sector) (Some bytes.now)) updates) }
         ensures cause { IfErr result (IsTrueCause N.faults self.old self.new) }
         ensures closed { IsClosed self.old → result ≡ Err failure.Closed }
         ensures device { KeepsDevice N.shape N.bad N.faults self.old self.new }
         ensures marks { (updates : List Update) → IsOpenLayer N.flash N.shape N.bad self.old updates
             → OnOk result (HasMarkedFailed N.shape N.bad N.faults self.old self.new) }
-        ensures memory { (updates : List Update) → IsOpenLayer N.flash N.shape N.bad self.old updates
-            → result ≡ Err failure.OutOfMemory → HasMarkedFailed N.shape N.bad N.faults self.old self.new }
+        ensures memory { (updates : List Update)
+            → IsOpenLayer N.flash N.shape N.bad self.old updates
+            → result ≡ Err failure.OutOfMemory
+            → HasMarkedFailed N.shape N.bad N.faults self.old self.new }
         ensures once { (updates : List Update) → IsOpenLayer N.flash N.shape N.bad self.old updates
-            → OnOk result (ProgramsOnce N.flash N.bad self.old self.new (update_of (sole sector) (Some bytes.now))) }
+            → OnOk result
+            (ProgramsOnce N.flash N.bad self.old self.new
+            (update_of (sole sector) (Some bytes.now))) }
     {
         let extent = Extent {
             first: sector,
@@ -244,22 +279,28 @@ impl<N: Nand> Durable<N> {
         requires { LiesWithin (layer_sectors self.old) extent }
         ensures was { (updates : List Update) → IsOpenLayer N.flash N.shape N.bad self.old updates
             → IfOk result (Were (array_after updates) extent) }
-        ensures acknowledged { (updates : List Update) → IsOpenLayer N.flash N.shape N.bad self.old updates
-            → OnOk result (IsOpenLayer N.flash N.shape N.bad self.new (update_of extent None ∷ updates)) }
+        ensures acknowledged { (updates : List Update)
+            → IsOpenLayer N.flash N.shape N.bad self.old updates
+            → OnOk result
+            (IsOpenLayer N.flash N.shape N.bad self.new (update_of extent None ∷ updates)) }
         ensures nothing { result ≡ Ok was.Empty → N.flash self.new.nand ≡ N.flash self.old.nand }
 
         // It fails only if the chip does, or if the numbers have run out.
         ensures fails { (updates : List Update) → IsOpenLayer N.flash N.shape N.bad self.old updates
-            → IfErr result (Fails N.flash N.shape N.bad self.old self.new (update_of extent None) updates) }
+            → IfErr result
+            (Fails N.flash N.shape N.bad self.old self.new (update_of extent None) updates) }
         ensures cause { IfErr result (IsTrueCause N.faults self.old self.new) }
         ensures closed { IsClosed self.old → result ≡ Err failure.Closed }
         ensures device { KeepsDevice N.shape N.bad N.faults self.old self.new }
         ensures marks { (updates : List Update) → IsOpenLayer N.flash N.shape N.bad self.old updates
             → OnOk result (HasMarkedFailed N.shape N.bad N.faults self.old self.new) }
-        ensures memory { (updates : List Update) → IsOpenLayer N.flash N.shape N.bad self.old updates
-            → result ≡ Err failure.OutOfMemory → HasMarkedFailed N.shape N.bad N.faults self.old self.new }
+        ensures memory { (updates : List Update)
+            → IsOpenLayer N.flash N.shape N.bad self.old updates
+            → result ≡ Err failure.OutOfMemory
+            → HasMarkedFailed N.shape N.bad N.faults self.old self.new }
         ensures once { (updates : List Update) → IsOpenLayer N.flash N.shape N.bad self.old updates
-            → result ≡ Ok was.Written → ProgramsOnce N.flash N.bad self.old self.new (update_of extent None) }
+            → result ≡ Ok was.Written
+            → ProgramsOnce N.flash N.bad self.old self.new (update_of extent None) }
         ensures trims { result ≢ Err failure.Written }
     {
         match self.were(extent) {
@@ -274,7 +315,8 @@ impl<N: Nand> Durable<N> {
 
     /// Returns once what was acknowledged is durable.
     pub fn flush(&mut self) -> Result<(), Failure>
-        ensures open { (updates : List Update) → IsOpenLayer N.flash N.shape N.bad self.old updates → IsOpenLayer N.flash N.shape N.bad self.new updates }
+        ensures open { (updates : List Update) → IsOpenLayer N.flash N.shape N.bad self.old updates
+            → IsOpenLayer N.flash N.shape N.bad self.new updates }
         ensures only { OnErr result (result ≡ Err failure.PowerGone) }
         ensures cause { IfErr result (IsTrueCause N.faults self.old self.new) }
         ensures flash { N.flash self.new.nand ≡ N.flash self.old.nand }
@@ -292,7 +334,8 @@ impl<N: Nand> Durable<N> {
         ensures gives { (updates : List Update) → IsOpenLayer N.flash N.shape N.bad self.old updates
             → IfOk result (λ had. had ≡ was_of (array_after updates sector)) }
         ensures looks { Looks N.flash N.shape N.bad N.faults self.old self.new result }
-        ensures only { (updates : List Update) → IsOpenLayer N.flash N.shape N.bad self.old updates → OnErr result (result ≡ Err failure.PowerGone) }
+        ensures only { (updates : List Update) → IsOpenLayer N.flash N.shape N.bad self.old updates
+            → OnErr result (result ≡ Err failure.PowerGone) }
         ensures closed { IsClosed self.old → result ≡ Err failure.Closed }
     {
         if !self.mounted {
@@ -313,7 +356,8 @@ impl<N: Nand> Durable<N> {
         ensures gives { (updates : List Update) → IsOpenLayer N.flash N.shape N.bad self.old updates
             → IfOk result (Were (array_after updates) extent) }
         ensures looks { Looks N.flash N.shape N.bad N.faults self.old self.new result }
-        ensures only { (updates : List Update) → IsOpenLayer N.flash N.shape N.bad self.old updates → OnErr result (result ≡ Err failure.PowerGone) }
+        ensures only { (updates : List Update) → IsOpenLayer N.flash N.shape N.bad self.old updates
+            → OnErr result (result ≡ Err failure.PowerGone) }
         ensures closed { IsClosed self.old → result ≡ Err failure.Closed }
     {
         for sector in extent.first..extent.first + extent.count {

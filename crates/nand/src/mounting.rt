@@ -43,20 +43,34 @@ pub fn mount<N: Nand>(alloc: Global, nand: &mut N, sectors: u32) -> Result<Mount
     ensures flash { N.flash nand.new ≡ N.flash nand.old }
     ensures shape { N.shape nand.new ≡ N.shape nand.old }
     ensures bad { N.bad nand.new ≡ N.bad nand.old }
-    ensures order { IfOk result (λ mounted. IsOrder mounted.numbers.items (N.bad nand.old) (N.shape nand.old).blocks) }
-    ensures device { IfOk result (λ mounted. device_of mounted.core ≡ device_on (N.shape nand.old) (N.bad nand.old) sectors) }
-    ensures reserve { IfOk result (λ mounted. mounted.reserve + used_blocks (N.shape nand.old) (N.bad nand.old) sectors
+    ensures order { IfOk result
+        (λ mounted. IsOrder mounted.numbers.items (N.bad nand.old) (N.shape nand.old).blocks) }
+    ensures device { IfOk result
+        (λ mounted. device_of mounted.core
+        ≡ device_on (N.shape nand.old) (N.bad nand.old) sectors) }
+    ensures reserve { IfOk result
+        (λ mounted. mounted.reserve + used_blocks (N.shape nand.old) (N.bad nand.old) sectors
         ≡ good_before (N.bad nand.old) (N.shape nand.old).blocks) }
-    ensures consistent { (updates : List Update) → CanOpen N.flash N.shape N.bad nand.old sectors updates
-        → IfOk result (λ mounted. IsConsistent (numbered mounted.numbers.items (N.flash nand.old)) mounted.core updates updates) }
-    ensures foreign { IsWrittenOn (device_on (N.shape nand.old) (N.bad nand.old) sectors) (N.flash nand.old)
+    ensures consistent { (updates : List Update)
+        → CanOpen N.flash N.shape N.bad nand.old sectors updates
+        → IfOk result
+        (λ mounted. IsConsistent
+        (numbered mounted.numbers.items (N.flash nand.old)) mounted.core updates updates) }
+    ensures foreign { IsWrittenOn
+        (device_on (N.shape nand.old) (N.bad nand.old) sectors) (N.flash nand.old)
         → result ≢ Err (why.Refused mount_fault.ForeignStamp) }
-    ensures frees { (updates : List Update) → CanOpen N.flash N.shape N.bad nand.old sectors updates → result ≢ Err (why.Refused mount_fault.NoFreeBlock) }
-    ensures capacity { OnOk result (HasCapacity sectors (good_before (N.bad nand.old) (N.shape nand.old).blocks) (N.shape nand.old).pages) }
-    ensures refused { HasCapacity sectors (good_before (N.bad nand.old) (N.shape nand.old).blocks) (N.shape nand.old).pages
+    ensures frees { (updates : List Update) → CanOpen N.flash N.shape N.bad nand.old sectors updates
+        → result ≢ Err (why.Refused mount_fault.NoFreeBlock) }
+    ensures capacity { OnOk result
+        (HasCapacity sectors (good_before (N.bad nand.old) (N.shape nand.old).blocks)
+        (N.shape nand.old).pages) }
+    ensures refused { HasCapacity sectors
+        (good_before (N.bad nand.old) (N.shape nand.old).blocks) (N.shape nand.old).pages
         → result ≢ Err (why.Refused mount_fault.TooManySectors) }
-    ensures power { result ≡ Err why.PowerGone → N.faults nand.new fault.PowerGone ≢ N.faults nand.old fault.PowerGone }
-    ensures faults { OnOk result ((cause : Cause) → N.faults nand.new cause ≡ N.faults nand.old cause) }
+    ensures power { result ≡ Err why.PowerGone
+        → N.faults nand.new fault.PowerGone ≢ N.faults nand.old fault.PowerGone }
+    ensures faults { OnOk result ((cause : Cause)
+        → N.faults nand.new cause ≡ N.faults nand.old cause) }
     ensures failures { N.faults nand.new fault.Failed ≡ N.faults nand.old fault.Failed }
 {
     let order = order_of(alloc, nand)?;
@@ -83,18 +97,28 @@ fn mount_in_order<N: Nand>(
     ensures flash { N.flash nand.new ≡ N.flash nand.old }
     ensures shape { N.shape nand.new ≡ N.shape nand.old }
     ensures bad { N.bad nand.new ≡ N.bad nand.old }
-    ensures device { IfOk result (λ core. device_of core ≡ device_using used (N.shape nand.old) sectors) }
-    ensures consistent { (updates : List Update) → IsReadable (numbered numbers.now (N.flash nand.old)) (device_using used (N.shape nand.old) sectors)
-        updates updates → IfOk result (λ core. IsConsistent (numbered numbers.now (N.flash nand.old)) core updates updates) }
-    ensures foreign { IsWrittenOn (device_using used (N.shape nand.old) sectors) (numbered numbers.now (N.flash nand.old))
+    ensures device { IfOk result
+        (λ core. device_of core ≡ device_using used (N.shape nand.old) sectors) }
+    ensures consistent { (updates : List Update)
+        → IsReadable (numbered numbers.now (N.flash nand.old))
+        (device_using used (N.shape nand.old) sectors)
+        updates updates
+        → IfOk result
+        (λ core. IsConsistent (numbered numbers.now (N.flash nand.old)) core updates updates) }
+    ensures foreign { IsWrittenOn (device_using used (N.shape nand.old) sectors)
+        (numbered numbers.now (N.flash nand.old))
         → result ≢ Err (why.Refused mount_fault.ForeignStamp) }
     ensures frees { (updates : List Update)
-        → IsRecoverable (numbered numbers.now (N.flash nand.old)) (device_using used (N.shape nand.old) sectors) updates updates
+        → IsRecoverable (numbered numbers.now (N.flash nand.old))
+        (device_using used (N.shape nand.old) sectors) updates updates
         → result ≢ Err (why.Refused mount_fault.NoFreeBlock) }
     ensures capacity { OnOk result (HasCapacity sectors used (N.shape nand.old).pages) }
-    ensures refused { HasCapacity sectors used (N.shape nand.old).pages → result ≢ Err (why.Refused mount_fault.TooManySectors) }
-    ensures power { result ≡ Err why.PowerGone → N.faults nand.new fault.PowerGone ≢ N.faults nand.old fault.PowerGone }
-    ensures faults { OnOk result ((cause : Cause) → N.faults nand.new cause ≡ N.faults nand.old cause) }
+    ensures refused { HasCapacity sectors used (N.shape nand.old).pages
+        → result ≢ Err (why.Refused mount_fault.TooManySectors) }
+    ensures power { result ≡ Err why.PowerGone
+        → N.faults nand.new fault.PowerGone ≢ N.faults nand.old fault.PowerGone }
+    ensures faults { OnOk result ((cause : Cause)
+        → N.faults nand.new cause ≡ N.faults nand.old cause) }
     ensures failures { N.faults nand.new fault.Failed ≡ N.faults nand.old fault.Failed }
 {
     let shape = nand.shape();

@@ -54,16 +54,21 @@ pub struct Order {
 
 /// Asks a chip for its bad blocks.
 pub fn order_of<N: Nand>(alloc: Global, nand: &mut N) -> Result<Order, OpenFailure>
-    ensures order { IfOk result (λ order. IsOrder order.numbers.items (N.bad nand.old) (N.shape nand.old).blocks) }
-    ensures good { IfOk result (λ order. order.good ≡ good_before (N.bad nand.old) (N.shape nand.old).blocks) }
+    ensures order { IfOk result
+        (λ order. IsOrder order.numbers.items (N.bad nand.old) (N.shape nand.old).blocks) }
+    ensures good { IfOk result
+        (λ order. order.good ≡ good_before (N.bad nand.old) (N.shape nand.old).blocks) }
     ensures few { IfOk result (λ order. order.good ≤ (N.shape nand.old).blocks) }
     ensures flash { N.flash nand.new ≡ N.flash nand.old }
     ensures shape { N.shape nand.new ≡ N.shape nand.old }
     ensures bad { N.bad nand.new ≡ N.bad nand.old }
-    ensures faults { OnOk result ((cause : Cause) → N.faults nand.new cause ≡ N.faults nand.old cause) }
+    ensures faults { OnOk result ((cause : Cause)
+        → N.faults nand.new cause ≡ N.faults nand.old cause) }
     ensures failures { N.faults nand.new fault.Failed ≡ N.faults nand.old fault.Failed }
-    ensures cause { OnErr result ((result ≡ Err why.PowerGone) ⊎ (result ≡ Err (why.Refused mount_fault.OutOfMemory))) }
-    ensures power { result ≡ Err why.PowerGone → N.faults nand.new fault.PowerGone ≢ N.faults nand.old fault.PowerGone }
+    ensures cause { OnErr result ((result ≡ Err why.PowerGone)
+        ⊎ (result ≡ Err (why.Refused mount_fault.OutOfMemory))) }
+    ensures power { result ≡ Err why.PowerGone
+        → N.faults nand.new fault.PowerGone ≢ N.faults nand.old fault.PowerGone }
 {
     let blocks = nand.shape().blocks;
     let Ok(mut numbers) = in_order(alloc, blocks) else {
@@ -87,7 +92,8 @@ fn place(numbers: &mut Vec<u32>, good: u32, block: u32, is_bad: bool) -> u32
     ensures order { (bad : List Bool) → good ≡ good_before bad block → is_marked bad block ≡ is_bad
         → IsOrderTo numbers.old.items bad (length numbers.old.items) block
         → IsOrderTo numbers.new.items bad (length numbers.old.items) (block + 1) }
-    ensures good { (bad : List Bool) → good ≡ good_before bad block → is_marked bad block ≡ is_bad → result ≡ good_before bad (block + 1) }
+    ensures good { (bad : List Bool) → good ≡ good_before bad block
+        → is_marked bad block ≡ is_bad → result ≡ good_before bad (block + 1) }
     ensures length { length numbers.new.items ≡ length numbers.old.items }
 {
     if is_bad {
@@ -113,7 +119,8 @@ fn in_order(alloc: Global, blocks: u32) -> Result<Vec<u32>, AllocError>
 fn exchange(numbers: &mut Vec<u32>, a: u32, b: u32)
     requires a { a < length numbers.old.items }
     requires b { b < length numbers.old.items }
-    ensures swapped { (c : ℕ) → block_of numbers.new.items c ≡ block_of numbers.old.items (swapped a b c) }
+    ensures swapped { (c : ℕ)
+        → block_of numbers.new.items c ≡ block_of numbers.old.items (swapped a b c) }
     ensures length { length numbers.new.items ≡ length numbers.old.items }
 {
     numbers.swap(a as usize, b as usize);

@@ -52,7 +52,8 @@ fn perform<N: Nand>(
     main: &[u8],
 ) -> Result<(), Fault>
     requires { trimmed ≡ false → length main.now ≡ (N.shape nand.old).page_bytes }
-    ensures does { (bad : List Bool) (blocks : ℕ) → IsOrder numbers.now bad blocks → Performs command extent (value_with trimmed main.now) result
+    ensures does { (bad : List Bool) (blocks : ℕ) → IsOrder numbers.now bad blocks
+        → Performs command extent (value_with trimmed main.now) result
         (numbered numbers.now (N.flash nand.old)) (numbered numbers.now (N.flash nand.new)) }
     ensures shape { N.shape nand.new ≡ N.shape nand.old }
     ensures bad { N.bad nand.new ≡ N.bad nand.old }
@@ -86,20 +87,29 @@ impl<N: Nand> Durable<N> {
     ) -> Result<(), Failure>
         requires within { LiesWithin (layer_sectors self.old) extent }
         requires page { trimmed ≡ false → length main.now ≡ (N.shape self.old.nand).page_bytes }
-        ensures acknowledged { (updates : List Update) → IsOpenLayer N.flash N.shape N.bad self.old updates
-            → OnOk result (IsOpenLayer N.flash N.shape N.bad self.new (update_of extent (value_with trimmed main.now) ∷ updates)) }
+        ensures acknowledged { (updates : List Update)
+            → IsOpenLayer N.flash N.shape N.bad self.old updates
+            → OnOk result
+            (IsOpenLayer N.flash N.shape N.bad self.new
+            (update_of extent (value_with trimmed main.now) ∷ updates)) }
         ensures fails { (updates : List Update) → IsOpenLayer N.flash N.shape N.bad self.old updates
-            → IfErr result (Fails N.flash N.shape N.bad self.old self.new (update_of extent (value_with trimmed main.now)) updates) }
+            → IfErr result
+            (Fails N.flash N.shape N.bad self.old self.new
+            (update_of extent (value_with trimmed main.now)) updates) }
         ensures cause { IfErr result (IsTrueCause N.faults self.old self.new) }
         ensures closed { IsClosed self.old → result ≡ Err failure.Closed }
         ensures device { KeepsDevice N.shape N.bad N.faults self.old self.new }
         ensures marks { (updates : List Update) → IsOpenLayer N.flash N.shape N.bad self.old updates
             → OnOk result (HasMarkedFailed N.shape N.bad N.faults self.old self.new) }
-        ensures memory { (updates : List Update) → IsOpenLayer N.flash N.shape N.bad self.old updates
-            → result ≡ Err failure.OutOfMemory → HasMarkedFailed N.shape N.bad N.faults self.old self.new }
+        ensures memory { (updates : List Update)
+            → IsOpenLayer N.flash N.shape N.bad self.old updates
+            → result ≡ Err failure.OutOfMemory
+            → HasMarkedFailed N.shape N.bad N.faults self.old self.new }
         ensures overwrites { result ≢ Err failure.Written }
         ensures once { (updates : List Update) → IsOpenLayer N.flash N.shape N.bad self.old updates
-            → OnOk result (ProgramsOnce N.flash N.bad self.old self.new (update_of extent (value_with trimmed main.now))) }
+            → OnOk result
+            (ProgramsOnce N.flash N.bad self.old self.new
+            (update_of extent (value_with trimmed main.now))) }
     {
         if !self.mounted {
             return Err(Failure::Closed);
@@ -134,16 +144,25 @@ impl<N: Nand> Durable<N> {
     fn attempt(&mut self, extent: Extent, trimmed: bool, main: &[u8]) -> Result<(), Stop>
         requires within { LiesWithin (layer_sectors self.old) extent }
         requires page { trimmed ≡ false → length main.now ≡ (N.shape self.old.nand).page_bytes }
-        ensures acknowledged { (updates : List Update) → IsOpenLayer N.flash N.shape N.bad self.old updates
-            → OnOk result (IsOpenLayer N.flash N.shape N.bad self.new (update_of extent (value_with trimmed main.now) ∷ updates)) }
-        ensures leaves { (updates : List Update) → IsOpenLayer N.flash N.shape N.bad self.old updates
-            → IfErr result (Leaves N.flash N.shape N.bad self.new (update_of extent (value_with trimmed main.now)) updates) }
-        ensures number { result ≡ Err stop.NoNumber → (number_of self.new ≡ number_of self.old) × (2 ^ 64 ≤ number_of self.new + 1) }
+        ensures acknowledged { (updates : List Update)
+            → IsOpenLayer N.flash N.shape N.bad self.old updates
+            → OnOk result
+            (IsOpenLayer N.flash N.shape N.bad self.new
+            (update_of extent (value_with trimmed main.now) ∷ updates)) }
+        ensures leaves { (updates : List Update)
+            → IsOpenLayer N.flash N.shape N.bad self.old updates
+            → IfErr result
+            (Leaves N.flash N.shape N.bad self.new
+            (update_of extent (value_with trimmed main.now)) updates) }
+        ensures number { result ≡ Err stop.NoNumber
+            → (number_of self.new ≡ number_of self.old) × (2 ^ 64 ≤ number_of self.new + 1) }
         ensures counts { CountsStop (N.faults self.old.nand) (N.faults self.new.nand) result }
         ensures device { IsSameDevice N.shape N.bad self.old self.new }
         ensures reserve { reserve_of self.new ≡ reserve_of self.old }
         ensures adds { (updates : List Update) → IsOpenLayer N.flash N.shape N.bad self.old updates
-            → OnOk result (AddsVersion (N.flash self.old.nand) (N.flash self.new.nand) (number_of self.old) (update_of extent
+            → OnOk result
+            (AddsVersion (N.flash self.old.nand) (N.flash self.new.nand)
+            (number_of self.old) (update_of extent
             (value_with trimmed main.now))) }
     {
         loop {
@@ -171,20 +190,31 @@ impl<N: Nand> Durable<N> {
 
     // Marks the block with this number bad, and mounts again with the next block of the reserve in its stead.
     fn replace(&mut self, number: u32) -> Result<(), Failure>
-        ensures replaced { (updates : List Update) → CanReplace N.flash N.shape N.bad self.old number updates → 0 < reserve_of self.old
-            → OnOk result (IsOpenLayer N.flash N.shape N.bad self.new updates × (reserve_of self.new + 1 ≡ reserve_of self.old)
+        ensures replaced { (updates : List Update)
+            → CanReplace N.flash N.shape N.bad self.old number updates → 0 < reserve_of self.old
+            → OnOk result (IsOpenLayer N.flash N.shape N.bad self.new updates
+            × (reserve_of self.new + 1 ≡ reserve_of self.old)
             × (good_before (N.bad self.new.nand) (N.shape self.old.nand).blocks + 1
             ≡ good_before (N.bad self.old.nand) (N.shape self.old.nand).blocks)) }
-        ensures closed { (updates : List Update) → CanReplace N.flash N.shape N.bad self.old number updates → 0 < reserve_of self.old
-            → OnErr result (IsClosed self.new × CanOpen N.flash N.shape N.bad self.new.nand (layer_sectors self.old) updates) }
-        ensures marked { (updates : List Update) → CanReplace N.flash N.shape N.bad self.old number updates → result ≡ Err failure.OutOfMemory
+        ensures closed { (updates : List Update)
+            → CanReplace N.flash N.shape N.bad self.old number updates → 0 < reserve_of self.old
+            → OnErr result (IsClosed self.new
+            × CanOpen N.flash N.shape N.bad self.new.nand (layer_sectors self.old) updates) }
+        ensures marked { (updates : List Update)
+            → CanReplace N.flash N.shape N.bad self.old number updates
+            → result ≡ Err failure.OutOfMemory
             → good_before (N.bad self.new.nand) (N.shape self.old.nand).blocks + 1
             ≡ good_before (N.bad self.old.nand) (N.shape self.old.nand).blocks }
-        ensures causes { OnErr result ((result ≡ Err failure.PowerGone) ⊎ (result ≡ Err failure.OutOfMemory)) }
-        ensures failures { N.faults self.new.nand fault.Failed ≡ N.faults self.old.nand fault.Failed }
-        ensures faults { OnOk result ((cause : Cause) → N.faults self.new.nand cause ≡ N.faults self.old.nand cause) }
-        ensures power { result ≡ Err failure.PowerGone → N.faults self.new.nand fault.PowerGone ≢ N.faults self.old.nand fault.PowerGone }
-        ensures marks { (b : ℕ) → is_marked (N.bad self.old.nand) b ≡ true → is_marked (N.bad self.new.nand) b ≡ true }
+        ensures causes { OnErr result ((result ≡ Err failure.PowerGone)
+            ⊎ (result ≡ Err failure.OutOfMemory)) }
+        ensures failures { N.faults self.new.nand fault.Failed
+            ≡ N.faults self.old.nand fault.Failed }
+        ensures faults { OnOk result ((cause : Cause)
+            → N.faults self.new.nand cause ≡ N.faults self.old.nand cause) }
+        ensures power { result ≡ Err failure.PowerGone
+            → N.faults self.new.nand fault.PowerGone ≢ N.faults self.old.nand fault.PowerGone }
+        ensures marks { (b : ℕ) → is_marked (N.bad self.old.nand) b ≡ true
+            → is_marked (N.bad self.new.nand) b ≡ true }
         ensures shape { N.shape self.new.nand ≡ N.shape self.old.nand }
         ensures sectors { layer_sectors self.new ≡ layer_sectors self.old }
     {

@@ -12,9 +12,11 @@ pub fn bits_of_entries()
     ensures last_low_page { entry_of 16384 ≡ Some (record { block = 0; page = 16383 }) }
     ensures next_block { entry_of 16385 ≡ Some (record { block = 1; page = 0 }) }
     ensures last_low { entry_of 4294967295 ≡ Some (record { block = 262143; page = 16382 }) }
-    ensures last_block { entry_of 70368744177664 ≡ Some (record { block = 4294967295; page = 16383 }) }
+    ensures last_block { entry_of 70368744177664
+        ≡ Some (record { block = 4294967295; page = 16383 }) }
     ensures high_page { entry_of 70368744177665 ≡ Some (record { block = 0; page = 16384 }) }
-    ensures greatest { entry_of 18446744073709551615 ≡ Some (record { block = 4294967295; page = 4294967294 }) }
+    ensures greatest { entry_of 18446744073709551615
+        ≡ Some (record { block = 4294967295; page = 4294967294 }) }
 {}
 
 /// Which entries have bits.

@@ -95,7 +95,9 @@ fn own_place(places: &mut Vec<u32>, kept: &mut Vec<u32>, used: &mut u32, group: 
     requires room { length places.old.items * 256 + 256 ≤ vec_capacity kept.old }
     ensures kept { AreGrouped places.new.items kept.new.items used.new }
     ensures own { slice_index_or places.new.items group 0 ≢ 0 }
-    ensures same { (k : ℕ) → k / 256 < length places.old.items → number_at places.new.items kept.new.items k ≡ number_at places.old.items kept.old.items k }
+    ensures same { (k : ℕ) → k / 256 < length places.old.items
+        → number_at places.new.items kept.new.items k
+        ≡ number_at places.old.items kept.old.items k }
     ensures size { length places.new.items ≡ length places.old.items }
     ensures room { vec_capacity kept.old ≤ vec_capacity kept.new }
 {

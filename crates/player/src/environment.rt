@@ -15,7 +15,9 @@ pub trait Arguments {
 
     /// The bytes of the argument at an index, or none past the last one.
     fn argument(&self, alloc: Global, place: usize) -> Result<Option<Vec<u8>>, AllocError>
-        ensures { IfSome (all self.now) (λ arguments. IfOk result (λ found. option_map (λ bytes. bytes.items) found ≡ slice_get arguments place)) };
+        ensures { IfSome (all self.now)
+            (λ arguments. IfOk result
+            (λ found. option_map (λ bytes. bytes.items) found ≡ slice_get arguments place)) };
 }
 
 impl<S: Env> Arguments for S {
@@ -37,7 +39,8 @@ impl<S: Env> Arguments for S {
 
 /// The words of the command line: the program's own name, by whatever name it was called, and then the arguments. Each has to be UTF-8.
 pub fn read_words<S: Arguments>(system: &S, alloc: Global) -> Result<Vec<String>, Stop>
-    ensures words { IfOk result (λ words. IfSome (S.all system.now) (AreWordsOf (map string_bytes words.items))) }
+    ensures words { IfOk result
+        (λ words. IfSome (S.all system.now) (AreWordsOf (map string_bytes words.items))) }
     ensures why { IfErr result (IsUnread (S.all system.now)) }
 {
     let Ok(name) = String::from_str(alloc, "flashplay") else {

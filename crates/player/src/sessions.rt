@@ -176,7 +176,9 @@ fn if_counted(given: Options<'_>, refused: u64) -> u64
 // The same of a run by workers, whose answers are searched only then.
 fn count_if_wanted(given: Options<'_>, played: &PlayedByWorkers) -> u64
     requires { IsAnswered played.now }
-    ensures { result ≡ counted_refusals given.entry (refused_by_workers (commands_played played.now) (answers_played played.now)) }
+    ensures { result
+        ≡ counted_refusals given.entry
+        (refused_by_workers (commands_played played.now) (answers_played played.now)) }
 {
     if given.all_written {
         played.refused()
@@ -187,7 +189,8 @@ fn count_if_wanted(given: Options<'_>, played: &PlayedByWorkers) -> u64
 
 // Opens the files that the options name.
 fn open_files<F: NamedFile>(given: Options<'_>, files: &mut RunFiles<F>) -> Result<(), Stop>
-    ensures { OpensFiles result given.entry (filings F.opened_as F.refused_as F.contents files.old files.new) }
+    ensures { OpensFiles result given.entry
+        (filings F.opened_as F.refused_as F.contents files.old files.new) }
 {
     if let Err(why) = open_file(given.wear, &mut files.wear) {
         return Err(Stop::File(RunFile::Wear, why));
@@ -200,7 +203,9 @@ fn open_files<F: NamedFile>(given: Options<'_>, files: &mut RunFiles<F>) -> Resu
 
 // Opens a file, if it is named.
 fn open_file<F: NamedFile>(name: Option<&str>, file: &mut Watched<F>) -> Result<(), FileStop>
-    ensures opened { OnOk result (IsOpened (option_map (λ n. n.now) name.entry) (filing F.opened_as F.refused_as F.contents file.old file.new)) }
+    ensures opened { OnOk result
+        (IsOpened (option_map (λ n. n.now) name.entry)
+        (filing F.opened_as F.refused_as F.contents file.old file.new)) }
     ensures asked { OnErr result (is_some (option_map (λ n. n.now) name.entry) ≡ true) }
     ensures unopened { IfErr result (λ why. (fault : OpenFault) × (why ≡ stop_of_open fault)
         × HasFailedToOpen fault (filing F.opened_as F.refused_as F.contents file.old file.new)) }

@@ -58,7 +58,8 @@ fn line(stop: &Stop) -> Line
 
 // The line that says how many writes were refused.
 fn refused_line(why: Refusal, count: u64) -> Line
-    ensures { result.bytes ≡ codes "writes refused: " ++ decimal count ++ codes " " ++ refusal_text why ++ codes "\n" }
+    ensures { result.bytes
+        ≡ codes "writes refused: " ++ decimal count ++ codes " " ++ refusal_text why ++ codes "\n" }
 {
     let mut digits = itoa::Buffer::new();
     let mut line = joined("writes refused: ", digits.format(count), " ");

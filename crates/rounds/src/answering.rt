@@ -47,9 +47,14 @@ impl Answers {
     pub fn push(&mut self, kind: Kind, page: &[u8])
         requires space { HasSpace self.old 1 (bytes_of (page_size_of self.old) kind) }
         requires page { kind ≡ kinds.Page → length page.now ≡ page_size_of self.old }
-        ensures more { said_in self.new ≡ said_in self.old ++ record { kind = kind; page = take (bytes_of (page_size_of self.old) kind) page.now } ∷ [] }
+        ensures more { said_in self.new
+            ≡ said_in self.old
+            ++ record { kind = kind; page = take (bytes_of (page_size_of self.old) kind) page.now }
+            ∷ [] }
         ensures page { page_size_of self.new ≡ page_size_of self.old }
-        ensures space { (n m : ℕ) → HasSpace self.old (1 + n) (bytes_of (page_size_of self.old) kind + m) → HasSpace self.new n m }
+        ensures space { (n m : ℕ)
+            → HasSpace self.old (1 + n) (bytes_of (page_size_of self.old) kind + m)
+            → HasSpace self.new n m }
     {
         self.kinds.push_reserved(kind);
         if let Kind::Page = kind {
@@ -63,7 +68,8 @@ impl Answers {
     pub fn next(&self, cursor: &mut Cursor) -> (Kind, &[u8])
         requires there { place_of cursor.old < length (said_in self.now) }
         requires at { IsCursorOf self.now cursor.old }
-        ensures answer { slice_get (said_in self.now) (place_of cursor.old) ≡ Some (record { kind = result.0; page = result.1.now }) }
+        ensures answer { slice_get (said_in self.now) (place_of cursor.old)
+            ≡ Some (record { kind = result.0; page = result.1.now }) }
         ensures place { place_of cursor.new ≡ place_of cursor.old + 1 }
         ensures at { IsCursorOf self.now cursor.new }
     {

@@ -18,7 +18,9 @@ impl Plan {
     /// Which lines of a trace each worker has, and where its rounds end.
     pub fn new(alloc: Global, commands: &Commands, hosts: u32) -> Result<Plan, AllocError>
         requires { All (λ c. c.worker < hosts) commands.now }
-        ensures rows { IfOk result (λ plan. map items_of plan.rows.items ≡ map (λ t. places_for t commands.now) (range_with_len 0 hosts)) }
+        ensures rows { IfOk result
+            (λ plan. map items_of plan.rows.items ≡ map
+            (λ t. places_for t commands.now) (range_with_len 0 hosts)) }
         ensures ends { IfOk result (λ plan. plan.ends.items ≡ ends_of commands.now) }
     {
         let mut rows = empty_rows(alloc, hosts)?;

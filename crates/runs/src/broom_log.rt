@@ -32,7 +32,8 @@ pub fn tell_brooms_if<V: Write>(
     file: &mut Watched<V>,
 ) -> Result<(), OutputFailed>
     requires none { IfSome lines (λ waiting. waiting_of waiting ≡ []) }
-    ensures { EndsText (is_some lines) (brooms_text brooms.now) (over V.contents file.old file.new) result }
+    ensures { EndsText (is_some lines) (brooms_text brooms.now)
+        (over V.contents file.old file.new) result }
 {
     match lines {
         None => Ok(()),

@@ -21,7 +21,8 @@ impl Delivery {
     /// The room for a run on a device of this geometry.
     pub fn new(alloc: Global, geometry: &Geometry) -> Result<Delivery, AllocError>
         ensures workers { IfOk result (λ delivery. workers_in delivery ≡ hosts_of geometry.now) }
-        ensures digits { IfOk result (λ delivery. digits_in delivery ≡ 2 * page_bytes_of geometry.now) }
+        ensures digits { IfOk result
+            (λ delivery. digits_in delivery ≡ 2 * page_bytes_of geometry.now) }
     {
         Ok(Delivery {
             next: vec![in alloc; Cursor::new(); geometry.hosts() as usize]?,
@@ -40,7 +41,8 @@ impl Delivery {
         requires workers { length rows.now ≡ workers_in self }
         requires answers { HaveAnswers (answers_by rows.now) commands.now }
         requires pages { All (λ row. digits_in self ≡ 2 * page_size_of row) rows.now }
-        ensures { WritesOut (written_by_workers wanted commands.now (answers_by rows.now)) (over W.contents writer.old writer.new) result }
+        ensures { WritesOut (written_by_workers wanted commands.now (answers_by rows.now))
+            (over W.contents writer.old writer.new) result }
     {
         if wanted {
             return self.deliver(commands, rows, writer);
@@ -68,7 +70,8 @@ impl Delivery {
         requires workers { length rows.now ≡ workers_in self }
         requires answers { HaveAnswers (answers_by rows.now) commands.now }
         requires pages { All (λ row. digits_in self ≡ 2 * page_size_of row) rows.now }
-        ensures { WritesOut (text_of commands.now (answers_by rows.now)) (over W.contents writer.old writer.new) result }
+        ensures { WritesOut (text_of commands.now (answers_by rows.now))
+            (over W.contents writer.old writer.new) result }
     {
         let Delivery {
             mut next,
@@ -94,9 +97,11 @@ pub(crate) fn next_answer<'a>(
 ) -> Option<(Kind, &'a [u8])>
     requires workers { length next.old ≡ length rows.now }
     requires there { is_meet command.now.op ≡ false
-        → slice_index_or (passed_in next.old) command.now.worker 0 < length (answers_by rows.now command.now.worker) }
+        → slice_index_or (passed_in next.old) command.now.worker 0
+        < length (answers_by rows.now command.now.worker) }
     requires at { AreAt rows.now next.old }
-    ensures answer { option_map said_as result ≡ next_of (answers_by rows.now) (passed_in next.old) command.now }
+    ensures answer { option_map said_as result
+        ≡ next_of (answers_by rows.now) (passed_in next.old) command.now }
     ensures next { passed_in next.new ≡ passed (passed_in next.old) command.now }
     ensures at { AreAt rows.now next.new }
 {
@@ -109,9 +114,11 @@ pub(crate) fn next_answer<'a>(
 
 // Adds the line of a command that was answered so.
 fn put_answer(lines: &mut Lines, line: u64, command: &Command<'_>, answer: Option<(Kind, &[u8])>)
-    requires pages { (a : Said) → option_map said_as answer ≡ Some a → HasDigits (page_digits_of lines.old) a }
+    requires pages { (a : Said) → option_map said_as answer ≡ Some a
+        → HasDigits (page_digits_of lines.old) a }
     requires room { length (waiting_of lines.old) ≤ PIECE_BYTES }
-    ensures waiting { waiting_of lines.new ≡ waiting_of lines.old ++ line_of line command.now (option_map said_as answer.entry) }
+    ensures waiting { waiting_of lines.new
+        ≡ waiting_of lines.old ++ line_of line command.now (option_map said_as answer.entry) }
     ensures page { page_digits_of lines.new ≡ page_digits_of lines.old }
 {
     match answer {

@@ -47,12 +47,19 @@ impl Desk {
         requires room { length (waiting_of self.old.lines) ≤ PIECE_BYTES }
         requires count { self.old.refused < line }
         ensures page { vec_len self.new.page ≡ vec_len self.old.page }
-        ensures refused { self.new.refused ≡ self.old.refused + (if is_refused (geometry_of ftl.old) (stock_of ftl.old) command.now then 1 else 0) }
-        ensures lines { waiting_of self.new.lines ≡ waiting_of self.old.lines ++ (if wanted then line_by ftl.old line command.now else []) }
+        ensures refused { self.new.refused
+            ≡ self.old.refused +
+            (if is_refused (geometry_of ftl.old) (stock_of ftl.old) command.now then 1 else 0) }
+        ensures lines { waiting_of self.new.lines
+            ≡ waiting_of self.old.lines ++
+            (if wanted then line_by ftl.old line command.now else []) }
         ensures geometry { geometry_of ftl.new ≡ geometry_of ftl.old }
         ensures array { array_of ftl.new
-            ≡ fold step (array_of ftl.old) (calls_of (is_refused (geometry_of ftl.old) (stock_of ftl.old) command.now) command.now) }
-        ensures stock { stock_of ftl.new ≡ stock_after (geometry_of ftl.old) (stock_of ftl.old) command.now }
+            ≡ fold step (array_of ftl.old)
+            (calls_of
+            (is_refused (geometry_of ftl.old) (stock_of ftl.old) command.now) command.now) }
+        ensures stock { stock_of ftl.new
+            ≡ stock_after (geometry_of ftl.old) (stock_of ftl.old) command.now }
     {
         if let Op::Read = command.op {
             if wanted {
@@ -88,7 +95,8 @@ impl Desk {
     pub fn end(&mut self, ftl: &OneFtl)
         requires room { length (waiting_of self.old.lines) ≤ PIECE_BYTES }
         ensures refused { self.new.refused ≡ self.old.refused }
-        ensures lines { waiting_of self.new.lines ≡ waiting_of self.old.lines ++ end_text (stock_of ftl.now) }
+        ensures lines { waiting_of self.new.lines
+            ≡ waiting_of self.old.lines ++ end_text (stock_of ftl.now) }
     {
         let counts = ftl.counts();
         self.lines
@@ -107,7 +115,8 @@ impl Desk {
     pub fn wear(&mut self, ftl: &OneFtl, block: u32)
         requires block { block < blocks_of (geometry_of ftl.now) }
         requires room { length (waiting_of self.old.lines) ≤ PIECE_BYTES }
-        ensures lines { waiting_of self.new.lines ≡ waiting_of self.old.lines ++ block_line (stock_of ftl.now) block }
+        ensures lines { waiting_of self.new.lines
+            ≡ waiting_of self.old.lines ++ block_line (stock_of ftl.now) block }
     {
         let (erases, live, retired) = (ftl.erases(block), ftl.live(block), ftl.retired(block));
         self.lines.wear(block, erases, live, retired);
@@ -115,7 +124,8 @@ impl Desk {
 
     /// Writes the lines that wait.
     pub fn hand_on<W: Write>(&mut self, writer: &mut Watched<W>) -> Result<(), OutputFailed>
-        ensures sent { WritesOut (waiting_of self.old.lines) (over W.contents writer.old writer.new) result }
+        ensures sent { WritesOut (waiting_of self.old.lines)
+            (over W.contents writer.old writer.new) result }
         ensures empty { OnOk result (waiting_of self.new.lines ≡ []) }
         ensures refused { self.new.refused ≡ self.old.refused }
     {
@@ -124,12 +134,15 @@ impl Desk {
 
     /// Writes the lines that wait if there are many, so that there is room for another line.
     pub fn make_room<W: Write>(&mut self, writer: &mut Watched<W>) -> Result<(), OutputFailed>
-        ensures moved { OnOk result (Moves (over W.contents writer.old writer.new) (waiting_of self.new.lines) (waiting_of self.old.lines)) }
+        ensures moved { OnOk result
+            (Moves (over W.contents writer.old writer.new)
+            (waiting_of self.new.lines) (waiting_of self.old.lines)) }
         ensures room { OnOk result (length (waiting_of self.new.lines) ≤ PIECE_BYTES) }
         ensures page { vec_len self.new.page ≡ vec_len self.old.page }
         ensures refused { self.new.refused ≡ self.old.refused }
         ensures unfailed { OnOk result (failures_of writer.new ≡ failures_of writer.old) }
-        ensures part { OnErr result (SendsBeginning (over W.contents writer.old writer.new) (waiting_of self.old.lines)) }
+        ensures part { OnErr result
+            (SendsBeginning (over W.contents writer.old writer.new) (waiting_of self.old.lines)) }
         ensures failed { OnErr result (failures_of writer.new ≢ failures_of writer.old) }
     {
         self.lines.make_room(writer)

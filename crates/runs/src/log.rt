@@ -25,7 +25,9 @@ impl Log {
     /// A log on which the names wait, if one is wanted.
     pub fn new(alloc: Global, geometry: &Geometry, wanted: bool) -> Result<Log, AllocError>
         ensures wanted { IfOk result (λ log. is_wanted log ≡ wanted) }
-        ensures names { IfOk result (λ log. (known : Stream) → IsLogged log (record { before = known; after = known }) collection_names) }
+        ensures names { IfOk result
+            (λ log. (known : Stream)
+            → IsLogged log (record { before = known; after = known }) collection_names) }
     {
         if !wanted {
             return Ok(Log::Unwanted);
@@ -48,7 +50,8 @@ impl Log {
     /// Records the collection that was made for a line of the trace.
     pub fn tell<V: Write>(&mut self, line: u64, made: Option<Collection>, file: &mut Watched<V>)
         ensures wanted { is_wanted self.new ≡ is_wanted self.old }
-        ensures logged { (before : Stream) → (text : List ℕ) → (more : List ℕ) → (IsOpen self.old → more ≡ log_part line made)
+        ensures logged { (before : Stream) → (text : List ℕ)
+            → (more : List ℕ) → (IsOpen self.old → more ≡ log_part line made)
             → IsLogged self.old (record { before = before; after = stream_of V.contents file.old }) text
             → IsLogged self.new (record { before = before; after = stream_of V.contents file.new }) (text ++ more) }
     {

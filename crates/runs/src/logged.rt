@@ -28,16 +28,23 @@ pub fn answer_logged<V: Write>(
     requires room { length (waiting_of desk.old.lines) ≤ PIECE_BYTES }
     requires count { desk.old.refused < line }
     ensures page { vec_len desk.new.page ≡ vec_len desk.old.page }
-    ensures refused { desk.new.refused ≡ desk.old.refused + (if is_refused (geometry_of ftl.old) (stock_of ftl.old) command.now then 1 else 0) }
-    ensures lines { waiting_of desk.new.lines ≡ waiting_of desk.old.lines ++ (if wanted then line_by ftl.old line command.now else []) }
+    ensures refused { desk.new.refused
+        ≡ desk.old.refused +
+        (if is_refused (geometry_of ftl.old) (stock_of ftl.old) command.now then 1 else 0) }
+    ensures lines { waiting_of desk.new.lines
+        ≡ waiting_of desk.old.lines ++ (if wanted then line_by ftl.old line command.now else []) }
     ensures geometry { geometry_of ftl.new ≡ geometry_of ftl.old }
-    ensures array { array_of ftl.new ≡ fold step (array_of ftl.old) (calls_of (is_refused (geometry_of ftl.old) (stock_of ftl.old) command.now) command.now) }
-    ensures stock { stock_of ftl.new ≡ stock_after (geometry_of ftl.old) (stock_of ftl.old) command.now }
+    ensures array { array_of ftl.new
+        ≡ fold step (array_of ftl.old)
+        (calls_of (is_refused (geometry_of ftl.old) (stock_of ftl.old) command.now) command.now) }
+    ensures stock { stock_of ftl.new
+        ≡ stock_after (geometry_of ftl.old) (stock_of ftl.old) command.now }
     ensures wanted { is_wanted log.new ≡ is_wanted log.old }
     ensures logged { (before : Stream) → (text : List ℕ)
         → IsLogged log.old (record { before = before; after = stream_of V.contents file.old }) text
         → IsLogged log.new (record { before = before; after = stream_of V.contents file.new })
-        (text ++ log_part line (collection_between (geometry_of ftl.old) (stock_of ftl.old) (stock_of ftl.new))) }
+        (text ++ log_part line
+        (collection_between (geometry_of ftl.old) (stock_of ftl.old) (stock_of ftl.new))) }
 {
     // If no log is written, nothing is asked about collections.
     let Log::Open(_) = log else {

@@ -44,12 +44,16 @@ pub fn run_shared<T: Threads + Wait + Clock + Sync, R: Read, W: Write, G: Gate +
 
     // The reader was read to its end, what was written is a text of all its bytes, and no call failed.
     ensures end { OnOk result (IsAtEnd (R.remaining (inner_of reader.new))) }
-    ensures text { OnOk result (Tells (IsTextOf geometry.now) (stream_of R.remaining reader.old) (over W.contents writer.old writer.new)) }
+    ensures text { OnOk result
+        (Tells (IsTextOf geometry.now) (stream_of R.remaining reader.old)
+        (over W.contents writer.old writer.new)) }
     ensures reader_unfailed { OnOk result (failures_of reader.new ≡ failures_of reader.old) }
     ensures writer_unfailed { OnOk result (failures_of writer.new ≡ failures_of writer.old) }
 
     // A fault says what happened. Only a failed writer has taken bytes, and those are a beginning of a text.
-    ensures why { IfErr result (ExplainsRun IsTextOf geometry.now (over R.remaining reader.old reader.new) (over W.contents writer.old writer.new)) }
+    ensures why { IfErr result
+        (ExplainsRun IsTextOf geometry.now (over R.remaining reader.old reader.new)
+        (over W.contents writer.old writer.new)) }
 {
     let options = RunOptions {
         patience,
@@ -89,16 +93,20 @@ fn run_logged<T: Threads + Wait + Clock + Sync, R: Read, W: Write, V: Write, G: 
     requires gates { length gates.old ≡ hosts_of geometry.now + brooms_of geometry.now }
     ensures end { OnOk result (IsAtEnd (R.remaining (inner_of reader.new))) }
     ensures text { OnOk result
-        (Tells (IsOutputByWorkers options.answers geometry.now) (stream_of R.remaining reader.old) (over W.contents writer.old writer.new)) }
+        (Tells (IsOutputByWorkers options.answers geometry.now)
+        (stream_of R.remaining reader.old) (over W.contents writer.old writer.new)) }
     ensures reader_unfailed { OnOk result (failures_of reader.new ≡ failures_of reader.old) }
     ensures writer_unfailed { OnOk result (failures_of writer.new ≡ failures_of writer.old) }
     ensures played { IfOk result
-        (WasPlayed geometry.now options (stream_of R.remaining reader.old) (over W.contents writer.old writer.new) (over V.contents file.old file.new)) }
+        (WasPlayed geometry.now options (stream_of R.remaining reader.old)
+        (over W.contents writer.old writer.new) (over V.contents file.old file.new)) }
     ensures log { IfOk result
-        (λ run. EndsFile options.log (IsBroomLogOf options.drains geometry.now) (stream_of R.remaining reader.old)
+        (λ run. EndsFile options.log (IsBroomLogOf options.drains geometry.now)
+        (stream_of R.remaining reader.old)
         (over V.contents file.old file.new) run.log) }
     ensures why { IfErr result
-        (ExplainsRun (IsOutputByWorkers options.answers) geometry.now (over R.remaining reader.old reader.new) (over W.contents writer.old writer.new)) }
+        (ExplainsRun (IsOutputByWorkers options.answers) geometry.now
+        (over R.remaining reader.old reader.new) (over W.contents writer.old writer.new)) }
     ensures no_log { OnErr result (stream_of V.contents file.new ≡ stream_of V.contents file.old) }
 {
     let commands = match read_commands(alloc, reader, geometry) {
@@ -144,22 +152,26 @@ pub fn run_by_workers<T: Threads + Wait + Clock + Sync, R: Read, W: Write, V: Wr
     requires { 0 < hosts_of geometry.now }
     ensures end { OnOk result (IsAtEnd (R.remaining (inner_of reader.new))) }
     ensures text { OnOk result
-        (Tells (IsOutputByWorkers options.answers geometry.now) (stream_of R.remaining reader.old) (over W.contents writer.old writer.new)) }
+        (Tells (IsOutputByWorkers options.answers geometry.now)
+        (stream_of R.remaining reader.old) (over W.contents writer.old writer.new)) }
     ensures reader_unfailed { OnOk result (failures_of reader.new ≡ failures_of reader.old) }
     ensures writer_unfailed { OnOk result (failures_of writer.new ≡ failures_of writer.old) }
 
     // Each line was played, also if its answer isn't wanted: these are the answers, and the output and the log are of the same run.
     ensures played { IfOk result
-        (WasPlayed geometry.now options (stream_of R.remaining reader.old) (over W.contents writer.old writer.new) (over V.contents file.old file.new)) }
+        (WasPlayed geometry.now options (stream_of R.remaining reader.old)
+        (over W.contents writer.old writer.new) (over V.contents file.old file.new)) }
 
     // The log has the counts of each broom, within this limit of drains by one survey. If its writer failed, a beginning was written.
     ensures log { IfOk result
-        (λ run. EndsFile options.log (IsBroomLogOf options.drains geometry.now) (stream_of R.remaining reader.old)
+        (λ run. EndsFile options.log (IsBroomLogOf options.drains geometry.now)
+        (stream_of R.remaining reader.old)
         (over V.contents file.old file.new) run.log) }
 
     // After a fault of the run no log was written.
     ensures why { IfErr result
-        (ExplainsRun (IsOutputByWorkers options.answers) geometry.now (over R.remaining reader.old reader.new) (over W.contents writer.old writer.new)) }
+        (ExplainsRun (IsOutputByWorkers options.answers) geometry.now
+        (over R.remaining reader.old reader.new) (over W.contents writer.old writer.new)) }
     ensures no_log { OnErr result (stream_of V.contents file.new ≡ stream_of V.contents file.old) }
 {
     let mut gates = [NoGate; MAX_THREADS];

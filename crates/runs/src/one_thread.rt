@@ -35,12 +35,16 @@ pub fn run<R: Read, W: Write>(
 
     // The reader was read to its end, what was written is the text of all its bytes, and no call failed.
     ensures end { OnOk result (IsAtEnd (R.remaining (inner_of reader.new))) }
-    ensures text { OnOk result (Tells (IsTextOf geometry.now) (stream_of R.remaining reader.old) (over W.contents writer.old writer.new)) }
+    ensures text { OnOk result
+        (Tells (IsTextOf geometry.now) (stream_of R.remaining reader.old)
+        (over W.contents writer.old writer.new)) }
     ensures reader_unfailed { OnOk result (failures_of reader.new ≡ failures_of reader.old) }
     ensures writer_unfailed { OnOk result (failures_of writer.new ≡ failures_of writer.old) }
 
     // A fault says what happened. Only a failed writer has taken bytes, and those are a beginning of the text.
-    ensures why { IfErr result (ExplainsRun IsTextOf geometry.now (over R.remaining reader.old reader.new) (over W.contents writer.old writer.new)) }
+    ensures why { IfErr result
+        (ExplainsRun IsTextOf geometry.now (over R.remaining reader.old reader.new)
+        (over W.contents writer.old writer.new)) }
 {
     let wanted = Wanted {
         answers: true,
@@ -67,13 +71,16 @@ pub fn run_with_files<R: Read, W: Write, V: Write>(
 ) -> Result<Written, RunFault>
     requires { hosts_of geometry.now ≡ 0 }
     ensures end { OnOk result (IsAtEnd (R.remaining (inner_of reader.new))) }
-    ensures text { OnOk result (Tells (IsOutputOf wanted.answers geometry.now) (stream_of R.remaining reader.old) (over W.contents writer.old writer.new)) }
+    ensures text { OnOk result
+        (Tells (IsOutputOf wanted.answers geometry.now)
+        (stream_of R.remaining reader.old) (over W.contents writer.old writer.new)) }
     ensures reader_unfailed { OnOk result (failures_of reader.new ≡ failures_of reader.old) }
     ensures writer_unfailed { OnOk result (failures_of writer.new ≡ failures_of writer.old) }
 
     // The log is that of the trace, and the wear that of the device after it. Where a writer failed, a beginning was written.
     ensures collections { IfOk result
-        (λ written. EndsFile wanted.collections (IsLogOf geometry.now) (stream_of R.remaining reader.old)
+        (λ written. EndsFile wanted.collections
+        (IsLogOf geometry.now) (stream_of R.remaining reader.old)
         (over V.contents files.old.collections files.new.collections) written.collections) }
     ensures wear { IfOk result
         (λ written. EndsFile wanted.wear (IsWearOf geometry.now) (stream_of R.remaining reader.old)
@@ -81,15 +88,18 @@ pub fn run_with_files<R: Read, W: Write, V: Write>(
 
     // So many writes were refused.
     ensures refused { IfOk result
-        (λ written. IfSome (R.remaining (inner_of reader.old)) (λ bytes. IsRefusedCount geometry.now bytes written.refused)) }
+        (λ written. IfSome (R.remaining (inner_of reader.old))
+        (λ bytes. IsRefusedCount geometry.now bytes written.refused)) }
 
     // After a fault of the run no wear was written, and a part of the log only if the answers could not be written.
     ensures why { IfErr result
-        (ExplainsRun (IsOutputOf wanted.answers) geometry.now (over R.remaining reader.old reader.new) (over W.contents writer.old writer.new)) }
+        (ExplainsRun (IsOutputOf wanted.answers) geometry.now
+        (over R.remaining reader.old reader.new) (over W.contents writer.old writer.new)) }
     ensures log_left { IfErr result
         (λ fault. LeavesLog fault wanted.collections geometry.now (stream_of R.remaining reader.old)
         (over V.contents files.old.collections files.new.collections)) }
-    ensures no_wear { OnErr result (stream_of V.contents files.new.wear ≡ stream_of V.contents files.old.wear) }
+    ensures no_wear { OnErr result
+        (stream_of V.contents files.new.wear ≡ stream_of V.contents files.old.wear) }
 {
     match run_out(
         alloc,
@@ -125,19 +135,28 @@ fn run_out<R: Read, W: Write, V: Write>(
 ) -> Result<Played, RunFault>
     requires { hosts_of geometry.now ≡ 0 }
     ensures end { OnOk result (IsAtEnd (R.remaining (inner_of reader.new))) }
-    ensures text { OnOk result (Tells (IsOutputOf wanted.answers geometry.now) (stream_of R.remaining reader.old) (over W.contents writer.old writer.new)) }
+    ensures text { OnOk result
+        (Tells (IsOutputOf wanted.answers geometry.now)
+        (stream_of R.remaining reader.old) (over W.contents writer.old writer.new)) }
     ensures reader_unfailed { OnOk result (failures_of reader.new ≡ failures_of reader.old) }
     ensures writer_unfailed { OnOk result (failures_of writer.new ≡ failures_of writer.old) }
     ensures geometry { IfOk result (λ played. geometry_of played.ftl ≡ geometry.now) }
     ensures refused { IfOk result
-        (λ played. IfSome (R.remaining (inner_of reader.old)) (λ bytes. IsRefusedCount geometry.now bytes played.desk.refused)) }
-    ensures stock { IfOk result (λ played. IfSome (R.remaining (inner_of reader.old)) (λ bytes. IsStockOf geometry.now bytes (stock_of played.ftl))) }
+        (λ played. IfSome (R.remaining (inner_of reader.old))
+        (λ bytes. IsRefusedCount geometry.now bytes played.desk.refused)) }
+    ensures stock { IfOk result
+        (λ played. IfSome (R.remaining (inner_of reader.old))
+        (λ bytes. IsStockOf geometry.now bytes (stock_of played.ftl))) }
     ensures wanted { IfOk result (λ played. is_wanted played.log ≡ wanted.collections) }
-    ensures logged { IfOk result (λ played. IsLogUnderWay geometry.now (stream_of R.remaining reader.old) played.log (over V.contents file.old file.new)) }
+    ensures logged { IfOk result
+        (λ played. IsLogUnderWay geometry.now (stream_of R.remaining reader.old) played.log
+        (over V.contents file.old file.new)) }
     ensures why { IfErr result
-        (ExplainsRun (IsOutputOf wanted.answers) geometry.now (over R.remaining reader.old reader.new) (over W.contents writer.old writer.new)) }
+        (ExplainsRun (IsOutputOf wanted.answers) geometry.now
+        (over R.remaining reader.old reader.new) (over W.contents writer.old writer.new)) }
     ensures log_left { IfErr result
-        (λ fault. LeavesLog fault wanted.collections geometry.now (stream_of R.remaining reader.old) (over V.contents file.old file.new)) }
+        (λ fault. LeavesLog fault wanted.collections geometry.now
+        (stream_of R.remaining reader.old) (over V.contents file.old file.new)) }
 {
     let commands = match read_commands(alloc, reader, geometry) {
         Ok(commands) => commands,
@@ -178,14 +197,21 @@ fn play<W: Write, V: Write>(
     requires lines { waiting_of desk.old.lines ≡ [] }
     requires names { IsLogged log.old (over V.contents file.old file.old) collection_names }
     requires none_refused { desk.old.refused ≡ 0 }
-    ensures sent { WritesOut (written_of answers (geometry_of ftl.old) commands.now) (over W.contents writer.old writer.new) result }
+    ensures sent { WritesOut (written_of answers (geometry_of ftl.old) commands.now)
+        (over W.contents writer.old writer.new) result }
     ensures geometry { OnOk result (geometry_of ftl.new ≡ geometry_of ftl.old) }
-    ensures refused { OnOk result (desk.new.refused ≡ refused_before (geometry_of ftl.old) commands.now (length commands.now)) }
-    ensures stock { OnOk result (stock_of ftl.new ≡ stock_before (geometry_of ftl.old) commands.now (length commands.now)) }
+    ensures refused { OnOk result (desk.new.refused
+        ≡ refused_before (geometry_of ftl.old) commands.now (length commands.now)) }
+    ensures stock { OnOk result
+        (stock_of ftl.new ≡ stock_before (geometry_of ftl.old) commands.now (length commands.now)) }
     ensures lines_sent { OnOk result (waiting_of desk.new.lines ≡ []) }
     ensures wanted { is_wanted log.new ≡ is_wanted log.old }
-    ensures logged { OnOk result (IsLogged log.new (over V.contents file.old file.new) (log_text (geometry_of ftl.old) commands.now)) }
-    ensures log_left { OnErr result (LeavesText (is_wanted log.old) (log_text (geometry_of ftl.old) commands.now) (over V.contents file.old file.new)) }
+    ensures logged { OnOk result
+        (IsLogged log.new (over V.contents file.old file.new)
+        (log_text (geometry_of ftl.old) commands.now)) }
+    ensures log_left { OnErr result
+        (LeavesText (is_wanted log.old) (log_text (geometry_of ftl.old) commands.now)
+        (over V.contents file.old file.new)) }
 {
     for i in 0..commands.len() {
         desk.make_room(writer)?;

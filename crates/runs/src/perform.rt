@@ -16,10 +16,14 @@ pub fn perform(ftl: &mut OneFtl, command: &Command<'_>, page: &mut [u8]) -> Repl
     requires no_read { command.now.op ≢ ops.Read }
     requires buffer { length page.old ≡ page_bytes_of (geometry_of ftl.old) }
     ensures geometry { geometry_of ftl.new ≡ geometry_of ftl.old }
-    ensures refused { is_worn_reply result ≡ is_refused (geometry_of ftl.old) (stock_of ftl.old) command.now }
+    ensures refused { is_worn_reply result
+        ≡ is_refused (geometry_of ftl.old) (stock_of ftl.old) command.now }
     ensures answer { reply_text result (encode_lower page.new) ≡ answer_by ftl.old command.now }
-    ensures array { array_of ftl.new ≡ fold step (array_of ftl.old) (calls_of (is_refused (geometry_of ftl.old) (stock_of ftl.old) command.now) command.now) }
-    ensures stock { stock_of ftl.new ≡ stock_after (geometry_of ftl.old) (stock_of ftl.old) command.now }
+    ensures array { array_of ftl.new
+        ≡ fold step (array_of ftl.old)
+        (calls_of (is_refused (geometry_of ftl.old) (stock_of ftl.old) command.now) command.now) }
+    ensures stock { stock_of ftl.new
+        ≡ stock_after (geometry_of ftl.old) (stock_of ftl.old) command.now }
 {
     match command.op {
         Op::Read => unreachable!(),

@@ -39,7 +39,8 @@ fn count_refused(commands: &Commands, rows: &[Answers], next: &mut [Cursor]) -> 
 
 // Whether a command's answer refuses it.
 fn is_refusal(answer: Option<(Kind, &[u8])>) -> bool
-    ensures { result ≡ option_map_or (λ (a : Said). is_full a.kind) (option_map said_as answer.entry) false }
+    ensures { result ≡ option_map_or
+        (λ (a : Said). is_full a.kind) (option_map said_as answer.entry) false }
 {
     match answer {
         Some((Kind::Full, _)) => true,

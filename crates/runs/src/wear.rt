@@ -27,7 +27,8 @@ pub fn tell_wear_if<V: Write>(
     wear: &mut Watched<V>,
 ) -> Result<(), OutputFailed>
     requires lines { waiting_of desk.old.lines ≡ [] }
-    ensures { EndsText wanted (wear_text (geometry_of ftl.now) (stock_of ftl.now)) (over V.contents wear.old wear.new) result }
+    ensures { EndsText wanted (wear_text (geometry_of ftl.now) (stock_of ftl.now))
+        (over V.contents wear.old wear.new) result }
 {
     if !wanted {
         return Ok(());
@@ -42,7 +43,8 @@ pub fn tell_wear<V: Write>(
     wear: &mut Watched<V>,
 ) -> Result<(), OutputFailed>
     requires lines { waiting_of desk.old.lines ≡ [] }
-    ensures { WritesOut (wear_text (geometry_of ftl.now) (stock_of ftl.now)) (over V.contents wear.old wear.new) result }
+    ensures { WritesOut (wear_text (geometry_of ftl.now) (stock_of ftl.now))
+        (over V.contents wear.old wear.new) result }
 {
     desk.wear_names();
     for block in 0..ftl.geometry().blocks() {

@@ -132,8 +132,10 @@ impl Commands {
 
 // The digits of a command.
 fn digits_at<'a>(text: &'a [u8], odd: &'a [u8], stored: &Lent) -> &'a [u8]
-    requires within { stored.now.start + stored.now.brief.now.digits ≤ length (text.now ++ odd.now) }
-    requires whole { (stored.now.start + stored.now.brief.now.digits ≤ length text.now) ⊎ (length text.now ≤ stored.now.start) }
+    requires within { stored.now.start + stored.now.brief.now.digits
+        ≤ length (text.now ++ odd.now) }
+    requires whole { (stored.now.start + stored.now.brief.now.digits ≤ length text.now)
+        ⊎ (length text.now ≤ stored.now.start) }
     ensures { result.now ≡ digits_at text.now odd.now (lent_as stored.now) }
 {
     let start = stored.start;

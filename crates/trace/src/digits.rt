@@ -86,7 +86,8 @@ fn far_digits_end(text: &[u8], start: usize) -> usize
 
 /// Whether these are digits, and their number is even.
 pub(crate) fn are_pairs(digits: &[u8]) -> bool
-    ensures { MatchBool result (decode_of digits.now ≡ Ok (bytes_of digits.now)) (IsErr (decode_of digits.now)) }
+    ensures { MatchBool result (decode_of digits.now ≡ Ok (bytes_of digits.now))
+        (IsErr (decode_of digits.now)) }
 {
     digits.len() % 2 == 0 && digits_end(digits, 0) == digits.len()
 }

@@ -54,10 +54,12 @@ impl Draft {
         requires draft { AreKept text.now self.old }
         requires sector { head.sector < 2 ^ 24 }
         requires within { start + digits ≤ length text.now }
-        requires fits { IsData (page_len head.op self.old.page_bytes) (take digits (drop start text.now)) }
+        requires fits { IsData (page_len head.op self.old.page_bytes)
+            (take digits (drop start text.now)) }
         ensures size { OnOk result (self.new.page_bytes ≡ self.old.page_bytes) }
         ensures draft { OnOk result (AreKept text.now self.new) }
-        ensures pushed { OnOk result (Pushes text.now self.old self.new head (take digits (drop start text.now))) }
+        ensures pushed { OnOk result
+            (Pushes text.now self.old self.new head (take digits (drop start text.now))) }
     {
         self.stored.push(Stored::new(head, start, digits))?;
         Ok(())
@@ -74,12 +76,14 @@ impl Draft {
         requires draft { AreKept text.now self.old }
         requires sector { head.sector < 2 ^ 24 }
         requires within { start + digits ≤ length text.now }
-        requires fits { IsData (page_len head.op self.old.page_bytes) (take digits (drop start text.now)) }
+        requires fits { IsData (page_len head.op self.old.page_bytes)
+            (take digits (drop start text.now)) }
         requires short { length text.now < NEAR_BYTES }
         requires near { self.old.stored.far.items ≡ [] }
         ensures size { OnOk result (self.new.page_bytes ≡ self.old.page_bytes) }
         ensures draft { OnOk result (AreKept text.now self.new) }
-        ensures pushed { OnOk result (Pushes text.now self.old self.new head (take digits (drop start text.now))) }
+        ensures pushed { OnOk result
+            (Pushes text.now self.old self.new head (take digits (drop start text.now))) }
         ensures near { OnOk result (self.new.stored.far.items ≡ []) }
     {
         self.stored.push_near(Stored::new(head, start, digits))?;

@@ -52,7 +52,8 @@ pub(crate) fn digit_run(text: &[u8], at: usize) -> usize
 #[inline(always)]
 pub(crate) fn are_digits(text: &[u8], at: usize) -> bool
     requires { at + WIDE ≤ length text.now }
-    ensures { result ≡ true → (k : ℕ) → at ≤ k → k < at + WIDE → is_hex_digit (slice_index text.now k) ≡ true }
+    ensures { result ≡ true → (k : ℕ) → at ≤ k → k < at + WIDE
+        → is_hex_digit (slice_index text.now k) ≡ true }
 {
     digit_run(text, at) == LANES
         && digit_run(text, at + LANES) == LANES

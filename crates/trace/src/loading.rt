@@ -14,14 +14,16 @@ const PIECE_BYTES: usize = 16_384;
 /// Reads a trace to its end. Any error of the reader, also `Interrupted`, ends it: no read is repeated.
 pub fn load<R: Read>(alloc: Global, reader: &mut Watched<R>) -> Result<Vec<u8>, TraceFault>
     // All that the reader held, read to the end, with no read that failed.
-    ensures bytes { IfOk result (λ text. IfSome (R.remaining (inner_of reader.old)) (λ held. text.items ≡ held)) }
+    ensures bytes { IfOk result
+        (λ text. IfSome (R.remaining (inner_of reader.old)) (λ held. text.items ≡ held)) }
     ensures end { OnOk result (IsAtEnd (R.remaining (inner_of reader.new))) }
     ensures within { IfOk result (λ text. vec_len text ≤ most_bytes) }
     ensures unfailed { OnOk result (failures_of reader.new ≡ failures_of reader.old) }
 
     // A refusal has line 0 and its reason.
     ensures line { IfErr result (λ fault. fault.line ≡ 0) }
-    ensures why { IfErr result (λ fault. ExplainsLoad fault.kind (failures_of reader.old) (failures_of reader.new)
+    ensures why { IfErr result
+        (λ fault. ExplainsLoad fault.kind (failures_of reader.old) (failures_of reader.new)
         (R.remaining (inner_of reader.old)) (R.remaining (inner_of reader.new))) }
 {
     let mut text = Vec::new(alloc);

@@ -25,5 +25,6 @@ pub trait NamedFile: Write {
     fn open(&mut self, name: &str) -> Result<(), OpenFault>
         ensures bytes { Self.contents self.new ≡ Self.contents self.old }
         ensures opened { OnOk result (IfSome (opened_as self.new) (λ known. known ≡ name.now)) }
-        ensures refused { IfErr result (λ fault. IfSome (refused_as self.new) (λ known. known ≡ fault)) };
+        ensures refused { IfErr result
+            (λ fault. IfSome (refused_as self.new) (λ known. known ≡ fault)) };
 }

@@ -29,7 +29,9 @@ pub fn parse(alloc: Global, text: &[u8], geometry: &Geometry) -> Result<Commands
     ensures fault { IfErr result (λ fault. MatchBool (is_of_record fault.kind)
         (commands_of text.now geometry.now ≡ Err fault)
         (fault ≡ whole_fault Memory)) }
-    ensures first { IfErr result (λ fault. OnTrue (is_of_record fault.kind) (IsFirstFault (checked geometry.now text.now) fault)) }
+    ensures first { IfErr result
+        (λ fault. OnTrue (is_of_record fault.kind)
+        (IsFirstFault (checked geometry.now text.now) fault)) }
 {
     match text.to_vec(alloc) {
         Ok(copy) => parse_owned(alloc, copy, geometry),
@@ -44,11 +46,14 @@ pub fn parse_owned(
     geometry: &Geometry,
 ) -> Result<Commands, TraceFault>
     ensures commands { IfOk result (λ commands. commands_of text.items geometry.now ≡ Ok commands) }
-    ensures each { IfOk result (λ commands. AreCommands (checked geometry.now text.items) commands) }
+    ensures each { IfOk result
+        (λ commands. AreCommands (checked geometry.now text.items) commands) }
     ensures fault { IfErr result (λ fault. MatchBool (is_of_record fault.kind)
         (commands_of text.items geometry.now ≡ Err fault)
         (fault ≡ whole_fault Memory)) }
-    ensures first { IfErr result (λ fault. OnTrue (is_of_record fault.kind) (IsFirstFault (checked geometry.now text.items) fault)) }
+    ensures first { IfErr result
+        (λ fault. OnTrue (is_of_record fault.kind)
+        (IsFirstFault (checked geometry.now text.items) fault)) }
 {
     match parse_lines(alloc, &text, geometry) {
         Ok(draft) => Ok(Commands::new(text, draft)),
@@ -59,12 +64,16 @@ pub fn parse_owned(
 // The commands of a text, which is kept with them.
 fn parse_lines(alloc: Global, text: &[u8], geometry: &Geometry) -> Result<Draft, TraceFault>
     ensures kept { IfOk result (AreKept text.now) }
-    ensures commands { IfOk result (λ draft. commands_of text.now geometry.now ≡ Ok (drafted text.now draft)) }
-    ensures each { IfOk result (λ draft. AreCommands (checked geometry.now text.now) (drafted text.now draft)) }
+    ensures commands { IfOk result
+        (λ draft. commands_of text.now geometry.now ≡ Ok (drafted text.now draft)) }
+    ensures each { IfOk result
+        (λ draft. AreCommands (checked geometry.now text.now) (drafted text.now draft)) }
     ensures fault { IfErr result (λ fault. MatchBool (is_of_record fault.kind)
         (commands_of text.now geometry.now ≡ Err fault)
         (fault ≡ whole_fault Memory)) }
-    ensures first { IfErr result (λ fault. OnTrue (is_of_record fault.kind) (IsFirstFault (checked geometry.now text.now) fault)) }
+    ensures first { IfErr result
+        (λ fault. OnTrue (is_of_record fault.kind)
+        (IsFirstFault (checked geometry.now text.now) fault)) }
 {
     let mut draft = Draft::new(alloc, page_bytes(geometry));
     let mut at = 0;
@@ -100,7 +109,8 @@ fn add_usual_lines(
     ensures place { IfOk result (λ end. from ≤ end) }
     ensures within { IfOk result (λ end. end ≤ length text.now) }
     ensures draft { OnOk result (IsDraft geometry.now text.now draft.new) }
-    ensures so_far { IfOk result (λ end. AreSoFar geometry.now text.now end (drafted text.now draft.new)) }
+    ensures so_far { IfOk result
+        (λ end. AreSoFar geometry.now text.now end (drafted text.now draft.new)) }
 {
     let mut at = from;
     if !draft.are_near(text) {
@@ -126,12 +136,16 @@ fn parse_rest(
     requires draft { IsDraft geometry.now text.now draft }
     requires so_far { AreSoFar geometry.now text.now start (drafted text.now draft) }
     ensures kept { IfOk result (AreKept text.now) }
-    ensures commands { IfOk result (λ draft. commands_of text.now geometry.now ≡ Ok (drafted text.now draft)) }
-    ensures each { IfOk result (λ draft. AreCommands (checked geometry.now text.now) (drafted text.now draft)) }
+    ensures commands { IfOk result
+        (λ draft. commands_of text.now geometry.now ≡ Ok (drafted text.now draft)) }
+    ensures each { IfOk result
+        (λ draft. AreCommands (checked geometry.now text.now) (drafted text.now draft)) }
     ensures fault { IfErr result (λ fault. MatchBool (is_of_record fault.kind)
         (commands_of text.now geometry.now ≡ Err fault)
         (fault ≡ whole_fault Memory)) }
-    ensures first { IfErr result (λ fault. OnTrue (is_of_record fault.kind) (IsFirstFault (checked geometry.now text.now) fault)) }
+    ensures first { IfErr result
+        (λ fault. OnTrue (is_of_record fault.kind)
+        (IsFirstFault (checked geometry.now text.now) fault)) }
 {
     let mut rows = records(alloc, &text[start..]);
     let mut byte_record = ByteRecord::new(alloc);
@@ -184,7 +198,9 @@ fn add_cut(
     requires within { end ≤ length text.now }
     requires place { StandsBefore text.now end row.now.digits.now }
     ensures draft { OnOk result (IsDraft geometry.now text.now draft.new) }
-    ensures added { OnOk result (Adds (command_of geometry.now (fields_of_row row.now)) (drafted text.now draft.old) (drafted text.now draft.new)) }
+    ensures added { OnOk result
+        (Adds (command_of geometry.now (fields_of_row row.now))
+        (drafted text.now draft.old) (drafted text.now draft.new)) }
     ensures refused { IfErr result (RefusesBy (command_of geometry.now (fields_of_row row.now))) }
 {
     let head = check(row, geometry)?;
@@ -204,7 +220,9 @@ fn add_read(
 ) -> Result<(), TraceFaultKind>
     requires draft { IsDraft geometry.now text.now draft.old }
     ensures draft { OnOk result (IsDraft geometry.now text.now draft.new) }
-    ensures added { OnOk result (Adds (command_of geometry.now (fields_of_row row.now)) (drafted text.now draft.old) (drafted text.now draft.new)) }
+    ensures added { OnOk result
+        (Adds (command_of geometry.now (fields_of_row row.now))
+        (drafted text.now draft.old) (drafted text.now draft.new)) }
     ensures refused { IfErr result (RefusesBy (command_of geometry.now (fields_of_row row.now))) }
 {
     let head = check(row, geometry)?;
@@ -217,7 +235,8 @@ fn add_read(
 // Checks a record, and returns what it says without its digits.
 fn check(row: &Row, geometry: &Geometry) -> Result<Head, TraceFaultKind>
     ensures checked { IfOk result (IsChecked geometry.now row.now) }
-    ensures refused { IfErr result (λ kind. command_of geometry.now (fields_of_row row.now) ≡ Err kind) }
+    ensures refused { IfErr result
+        (λ kind. command_of geometry.now (fields_of_row row.now) ≡ Err kind) }
 {
     let worker = number_below(workers(geometry), TraceFaultKind::Worker, row.worker)?;
     let op = op_named(row.op)?;
@@ -303,7 +322,8 @@ fn check_digits(
     sector: u32,
     digits: &[u8],
 ) -> Result<(), TraceFaultKind>
-    ensures made { OnOk result (MakePage size op digits.now (page_of size op worker sector digits.now)) }
+    ensures made { OnOk result
+        (MakePage size op digits.now (page_of size op worker sector digits.now)) }
     ensures refused { IfErr result (λ kind. page_of size op worker sector digits.now ≡ Err kind) }
 {
     match op {

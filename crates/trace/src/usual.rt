@@ -129,7 +129,8 @@ fn usual_op(text: &[u8], start: usize) -> Option<OpName>
 #[inline(always)]
 fn has_all(text: &[u8], start: usize, bytes: &[u8]) -> bool
     requires { start ≤ length text.now }
-    ensures { IsTrue result → drop start text.now ≡ bytes.now ++ drop (start + length bytes.now) text.now }
+    ensures { IsTrue result
+        → drop start text.now ≡ bytes.now ++ drop (start + length bytes.now) text.now }
 {
     if text.len() - start < bytes.len() {
         return false;

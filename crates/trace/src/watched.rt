@@ -58,7 +58,8 @@ impl<R: Read> Read for Watched<R> {
 
     fn read(&mut self, buf: &mut [u8]) -> io::Result<usize>
         ensures bound { ReadsAtMost result buf.new }
-        ensures bytes { ReadConsumes (R.remaining (inner_of self.old)) (R.remaining (inner_of self.new)) result buf.new }
+        ensures bytes { ReadConsumes (R.remaining (inner_of self.old))
+            (R.remaining (inner_of self.new)) result buf.new }
         ensures count { failures_of self.new ≡ after_call (failures_of self.old) result }
     {
         let result = self.inner.read(buf);
@@ -74,7 +75,8 @@ impl<W: Write> Write for Watched<W> {
 
     fn write(&mut self, buf: &[u8]) -> io::Result<usize>
         ensures bound { WritesAtMost result buf.now }
-        ensures bytes { WriteAppends (W.contents (inner_of self.old)) (W.contents (inner_of self.new)) result buf.now }
+        ensures bytes { WriteAppends (W.contents (inner_of self.old))
+            (W.contents (inner_of self.new)) result buf.now }
         ensures count { failures_of self.new ≡ after_write (failures_of self.old) buf.now result }
     {
         let result = self.inner.write(buf);
@@ -104,8 +106,10 @@ impl<F: NamedFile> NamedFile for Watched<F> {
 
     fn open(&mut self, name: &str) -> Result<(), OpenFault>
         ensures bytes { F.contents (inner_of self.new) ≡ F.contents (inner_of self.old) }
-        ensures opened { OnOk result (IfSome (F.opened_as (inner_of self.new)) (λ known. known ≡ name.now)) }
-        ensures refused { IfErr result (λ fault. IfSome (F.refused_as (inner_of self.new)) (λ known. known ≡ fault)) }
+        ensures opened { OnOk result
+            (IfSome (F.opened_as (inner_of self.new)) (λ known. known ≡ name.now)) }
+        ensures refused { IfErr result
+            (λ fault. IfSome (F.refused_as (inner_of self.new)) (λ known. known ≡ fault)) }
         ensures count { failures_of self.new ≡ after_call (failures_of self.old) result }
     {
         let result = self.inner.open(name);

@@ -19,11 +19,13 @@ pub fn two_writers(
     requires hosts { hosts_of (geometry_of (flash_of volume)) ≡ 2 }
     requires sectors { sectors_of (geometry_of (flash_of volume)) ≡ 2 }
     requires count { length passes.items ≡ 2 }
-    requires new { (t : ℕ) (p : Pass) → slice_get passes.items t ≡ Some p → (view_of p ≡ first_view (device (flash_of volume)) t)
+    requires new { (t : ℕ) (p : Pass) → slice_get passes.items t ≡ Some p
+        → (view_of p ≡ first_view (device (flash_of volume)) t)
         × IsReady (flash_of volume) p }
     requires first { length first.now ≡ page_bytes_of (geometry_of (flash_of volume)) }
     requires second { length second.now ≡ page_bytes_of (geometry_of (flash_of volume)) }
-    ensures both { IfOk result (λ closed. sectors_left closed ≡ Some first.now ∷ Some second.now ∷ []) }
+    ensures both { IfOk result
+        (λ closed. sectors_left closed ≡ Some first.now ∷ Some second.now ∷ []) }
     ensures handed_back { IfErr result (λ back. All (IsReady (flash_of back.0)) back.1.items) }
 {
     let mut passes = passes;

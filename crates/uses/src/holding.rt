@@ -29,7 +29,9 @@ pub fn held_through_collection(
 
     // What was read first is what the sector held at a point of the history that is not before anything the reader had seen.
     ensures later { Begins (view_of reader).seen (view_of result.0).seen }
-    ensures found { Answers (held (sectors_of (geometry_of (flash_of volume.now))) (view_of result.0).seen sector) result.1 before.old before.new }
+    ensures found { Answers
+        (held (sectors_of (geometry_of (flash_of volume.now)))
+        (view_of result.0).seen sector) result.1 before.old before.new }
 
     // And what was read last is the same, whatever was written, drained and erased in between, here and by other threads.
     ensures same { result.1 ≡ got.Data → after.new ≡ before.new }

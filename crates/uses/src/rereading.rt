@@ -23,7 +23,8 @@ pub fn write_and_read(
     // What is read is what the sector held when the value was written, or later.
     ensures behind { IfOk result
         (λ got. (t : ℕ) → HasNumber t pass.old
-        → IsReadBehind (sectors_of (geometry_of (flash_of volume.now))) t sector value.now (view_of pass.old) got out.old out.new) }
+        → IsReadBehind (sectors_of (geometry_of (flash_of volume.now))) t sector value.now
+        (view_of pass.old) got out.old out.new) }
     ensures pass { IsReady (flash_of volume.now) pass.new }
 {
     volume.write(pass, sector, value)?;

@@ -23,7 +23,8 @@ pub struct Writer<'a> {
 impl Writer<'_> {
     // Whether the value was written: it isn't if no block is free.
     fn write(&mut self) -> bool
-        ensures stored { IsStored self.old.sector self.old.value.now (view_of self.old.pass) result (view_of self.new.pass) }
+        ensures stored { IsStored self.old.sector self.old.value.now
+            (view_of self.old.pass) result (view_of self.new.pass) }
         ensures volume { self.new.volume ≡ self.old.volume }
     {
         self.volume
@@ -53,7 +54,8 @@ impl Sweeper<'_> {
 
 // A writer's turn and a broom's, each in its own thread. Returns the writer's answer.
 fn write_beside_broom<R: Threads + Sync>(rt: &R, writer: &mut Writer, sweeper: &mut Sweeper) -> bool
-    ensures stored { IsStored writer.old.sector writer.old.value.now (view_of writer.old.pass) result (view_of writer.new.pass) }
+    ensures stored { IsStored writer.old.sector writer.old.value.now
+        (view_of writer.old.pass) result (view_of writer.new.pass) }
     ensures volume { writer.new.volume ≡ writer.old.volume }
 {
     join_mut(rt, &mut || writer.write(), &mut || sweeper.sweep()).0
@@ -70,8 +72,10 @@ pub fn two_writers_and_a_broom<R: Threads + Sync>(
     requires { second.old.volume.now ≡ first.old.volume.now }
 
     // Each has made its own write, or none, whatever the broom and other threads did in between.
-    ensures first { IsStored first.old.sector first.old.value.now (view_of first.old.pass) result.0 (view_of first.new.pass) }
-    ensures second { IsStored second.old.sector second.old.value.now (view_of second.old.pass) result.1 (view_of second.new.pass) }
+    ensures first { IsStored first.old.sector first.old.value.now
+        (view_of first.old.pass) result.0 (view_of first.new.pass) }
+    ensures second { IsStored second.old.sector second.old.value.now
+        (view_of second.old.pass) result.1 (view_of second.new.pass) }
 
     // And the first has seen what the second has written, so that it reads no older value from now on.
     ensures heard { HasHeard (view_of second.new.pass) (view_of first.new.pass) }

@@ -19,7 +19,8 @@ pub fn held_beside_a_broom(volume: &Volume, held: Held, broom: &mut Broom) -> He
 
     // The same page is held, with the same value.
     ensures page { page_of result ≡ page_of held }
-    ensures holds { (value : List ℕ) → Holds (flash_of volume.now) held value → Holds (flash_of volume.now) result value }
+    ensures holds { (value : List ℕ) → Holds (flash_of volume.now) held value
+        → Holds (flash_of volume.now) result value }
     ensures broom { IsBroomReady volume.now broom.new }
 {
     volume.drain(broom, &mut NoGate);
@@ -48,7 +49,8 @@ pub fn held_beside_a_writer(
 
     // The same page is held, with the same value.
     ensures page { page_of result ≡ page_of held }
-    ensures holds { (value : List ℕ) → Holds (flash_of volume.now) held value → Holds (flash_of volume.now) result value }
+    ensures holds { (value : List ℕ) → Holds (flash_of volume.now) held value
+        → Holds (flash_of volume.now) result value }
     ensures writer { IsReady (flash_of volume.now) writer.new }
 {
     let _ = volume.write(writer, sector, fresh);

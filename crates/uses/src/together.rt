@@ -7,7 +7,10 @@ ghost use Rattle.uses.specs.Together.{read_by, trim_by};
 /// Which sectors the lines of a round may share, for programs that make traces: all workers may read a sector that is only read, and no other
 /// worker may name a sector that one of them changes.
 pub fn reads_may_be_shared()
-    ensures round { (round : List Command) → All (λ c. c.op ≡ op.Read) round → AreDisjointCommands round }
-    ensures shared { (first second sector : ℕ) → IsDisjointTrace (read_by first sector ∷ read_by second sector ∷ []) }
-    ensures changed { (first second sector : ℕ) → IsDisjointTrace (trim_by first sector ∷ read_by second sector ∷ []) → first ≡ second }
+    ensures round { (round : List Command)
+        → All (λ c. c.op ≡ op.Read) round → AreDisjointCommands round }
+    ensures shared { (first second sector : ℕ)
+        → IsDisjointTrace (read_by first sector ∷ read_by second sector ∷ []) }
+    ensures changed { (first second sector : ℕ)
+        → IsDisjointTrace (trim_by first sector ∷ read_by second sector ∷ []) → first ≡ second }
 {}

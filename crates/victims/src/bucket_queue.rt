@@ -25,7 +25,8 @@ impl BucketQueue {
     pub fn new(alloc: Global, items: u32, buckets: usize) -> Result<Self, AllocError>
         requires some { 0 < buckets }
         requires narrow { buckets ≤ 2 ^ 16 }
-        ensures { IfOk result (λ q. (q.keys.items ≡ replicate items 0) × (length q.starts.items ≡ buckets)) }
+        ensures { IfOk result
+            (λ q. (q.keys.items ≡ replicate items 0) × (length q.starts.items ≡ buckets)) }
     {
         let mut starts = vec![in alloc; items; buckets]?;
         starts[0] = 0;
@@ -40,7 +41,8 @@ impl BucketQueue {
     pub fn raise(&mut self, item: u32)
         requires item { item < length self.old.keys.items }
         requires room { slice_index self.old.keys.items item + 1 < length self.old.starts.items }
-        ensures keys { self.new.keys.items ≡ slice_set self.old.keys.items item (slice_index self.old.keys.items item + 1) }
+        ensures keys { self.new.keys.items
+            ≡ slice_set self.old.keys.items item (slice_index self.old.keys.items item + 1) }
         ensures buckets { length self.new.starts.items ≡ length self.old.starts.items }
     {
         let key = self.keys[item as usize] + 1;
@@ -54,7 +56,8 @@ impl BucketQueue {
     pub fn lower(&mut self, item: u32)
         requires item { item < length self.old.keys.items }
         requires some { 0 < slice_index self.old.keys.items item }
-        ensures keys { self.new.keys.items ≡ slice_set self.old.keys.items item (slice_index self.old.keys.items item - 1) }
+        ensures keys { self.new.keys.items
+            ≡ slice_set self.old.keys.items item (slice_index self.old.keys.items item - 1) }
         ensures buckets { length self.new.starts.items ≡ length self.old.starts.items }
     {
         let key = self.keys[item as usize];
@@ -94,7 +97,8 @@ impl BucketQueue {
         requires key { key < length self.now.starts.items }
         requires weights { length weights.now ≡ length self.now.keys.items }
         ensures some { IfSome result (HasLeastKey self.now.keys.items key) }
-        ensures none { IfNone result ((i : ℕ) → i < length self.now.keys.items → slice_index self.now.keys.items i < key) }
+        ensures none { IfNone result ((i : ℕ) → i < length self.now.keys.items
+            → slice_index self.now.keys.items i < key) }
     {
         let start = self.starts[key as usize] as usize;
         let order = &self.sorted.order;
@@ -117,7 +121,8 @@ impl BucketQueue {
     /// An item with the least key of all beside one, if there is one.
     pub fn least_beside(&self, avoided: u32) -> u32
         ensures { (i : ℕ) → i < length self.now.keys.items → i ≢ avoided
-            → (result < length self.now.keys.items) × (result ≢ avoided) × (slice_index self.now.keys.items result ≤ slice_index self.now.keys.items i) }
+            → (result < length self.now.keys.items) × (result ≢ avoided)
+            × (slice_index self.now.keys.items result ≤ slice_index self.now.keys.items i) }
     {
         let order = &self.sorted.order;
         for place in 0..order.len() {

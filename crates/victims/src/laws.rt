@@ -9,31 +9,42 @@ pub fn four_blocks()
     ensures count { (s : Blocks) → s.kept ≡ 3 ∷ 0 ∷ 1 ∷ 1 ∷ [] → block_count s ≡ 4 }
     ensures kept { (s : Blocks) → s.kept ≡ 3 ∷ 0 ∷ 1 ∷ 1 ∷ [] → kept_pages s 0 ≡ 3 }
     ensures erases { (s : Blocks) → s.erases ≡ 5 ∷ 6 ∷ 7 ∷ 8 ∷ [] → erase_count s 3 ≡ 8 }
-    ensures closed { (s : Blocks) → s.kept ≡ 3 ∷ 0 ∷ 1 ∷ 1 ∷ [] → s.eligible ≡ true ∷ false ∷ true ∷ true ∷ [] → IsEligible s 0 }
-    ensures open { (s : Blocks) → s.eligible ≡ true ∷ false ∷ true ∷ true ∷ [] → ¬ (IsEligible s 1) }
+    ensures closed { (s : Blocks) → s.kept ≡ 3 ∷ 0 ∷ 1 ∷ 1 ∷ []
+        → s.eligible ≡ true ∷ false ∷ true ∷ true ∷ [] → IsEligible s 0 }
+    ensures open { (s : Blocks)
+        → s.eligible ≡ true ∷ false ∷ true ∷ true ∷ [] → ¬ (IsEligible s 1) }
     ensures beyond { (s : Blocks) → s.kept ≡ 3 ∷ 0 ∷ 1 ∷ 1 ∷ [] → ¬ (IsEligible s 4) }
-    ensures fullest { (s : Blocks) → s.kept ≡ 3 ∷ 0 ∷ 1 ∷ 1 ∷ [] → s.eligible ≡ true ∷ false ∷ true ∷ true ∷ [] → ¬ (IsBestVictim s 0) }
-    ensures emptiest { (s : Blocks) → s.eligible ≡ true ∷ false ∷ true ∷ true ∷ [] → ¬ (IsBestVictim s 1) }
-    ensures fewest { (s : Blocks) → s.kept ≡ 3 ∷ 0 ∷ 1 ∷ 1 ∷ [] → s.eligible ≡ true ∷ false ∷ true ∷ true ∷ [] → IsBestVictim s 2 }
-    ensures last { (s : Blocks) → s.kept ≡ 3 ∷ 0 ∷ 1 ∷ 1 ∷ [] → s.eligible ≡ true ∷ false ∷ true ∷ true ∷ [] → IsBestVictim s 3 }
+    ensures fullest { (s : Blocks) → s.kept ≡ 3 ∷ 0 ∷ 1 ∷ 1 ∷ []
+        → s.eligible ≡ true ∷ false ∷ true ∷ true ∷ [] → ¬ (IsBestVictim s 0) }
+    ensures emptiest { (s : Blocks)
+        → s.eligible ≡ true ∷ false ∷ true ∷ true ∷ [] → ¬ (IsBestVictim s 1) }
+    ensures fewest { (s : Blocks) → s.kept ≡ 3 ∷ 0 ∷ 1 ∷ 1 ∷ []
+        → s.eligible ≡ true ∷ false ∷ true ∷ true ∷ [] → IsBestVictim s 2 }
+    ensures last { (s : Blocks) → s.kept ≡ 3 ∷ 0 ∷ 1 ∷ 1 ∷ []
+        → s.eligible ≡ true ∷ false ∷ true ∷ true ∷ [] → IsBestVictim s 3 }
 {}
 
 /// Each block has its counts.
 pub fn counted_blocks()
     ensures counted { AreCounted (record { pages = 4; kept = 4 ∷ 0 ∷ []; erases = 5 ∷ 6 ∷ []; eligible = true ∷ false ∷ [] }) }
-    ensures few_erases { ¬ (AreCounted (record { pages = 4; kept = 4 ∷ 0 ∷ []; erases = 5 ∷ []; eligible = true ∷ false ∷ [] })) }
-    ensures few_marks { ¬ (AreCounted (record { pages = 4; kept = 4 ∷ 0 ∷ []; erases = 5 ∷ 6 ∷ []; eligible = true ∷ [] })) }
+    ensures few_erases { ¬ (AreCounted
+        (record { pages = 4; kept = 4 ∷ 0 ∷ []; erases = 5 ∷ []; eligible = true ∷ false ∷ [] })) }
+    ensures few_marks { ¬ (AreCounted
+        (record { pages = 4; kept = 4 ∷ 0 ∷ []; erases = 5 ∷ 6 ∷ []; eligible = true ∷ [] })) }
     ensures too_many { (s : Blocks) → block_count s ≡ 2 ^ 32 → ¬ (AreCounted s) }
     ensures too_full { ¬ (AreCounted (record { pages = 4; kept = 5 ∷ 0 ∷ []; erases = 5 ∷ 6 ∷ []; eligible = true ∷ false ∷ [] })) }
 {}
 
 /// Spares are eligible and keep nothing.
 pub fn spares()
-    ensures one { (s : Blocks) → s.kept ≡ 0 ∷ 0 ∷ 1 ∷ [] → s.eligible ≡ true ∷ false ∷ true ∷ [] → IsSpareBlock s 0 }
+    ensures one { (s : Blocks) → s.kept ≡ 0 ∷ 0 ∷ 1 ∷ []
+        → s.eligible ≡ true ∷ false ∷ true ∷ [] → IsSpareBlock s 0 }
     ensures open { (s : Blocks) → s.eligible ≡ true ∷ false ∷ true ∷ [] → ¬ (IsSpareBlock s 1) }
     ensures used { (s : Blocks) → s.kept ≡ 0 ∷ 0 ∷ 1 ∷ [] → ¬ (IsSpareBlock s 2) }
-    ensures count { (s : Blocks) → s.kept ≡ 0 ∷ 0 ∷ 1 ∷ [] → s.eligible ≡ true ∷ false ∷ true ∷ [] → spare_count s ≡ 1 }
-    ensures two { (s : Blocks) → s.kept ≡ 0 ∷ 0 ∷ 1 ∷ [] → s.eligible ≡ true ∷ true ∷ true ∷ [] → spare_count s ≡ 2 }
+    ensures count { (s : Blocks) → s.kept ≡ 0 ∷ 0 ∷ 1 ∷ []
+        → s.eligible ≡ true ∷ false ∷ true ∷ [] → spare_count s ≡ 1 }
+    ensures two { (s : Blocks) → s.kept ≡ 0 ∷ 0 ∷ 1 ∷ []
+        → s.eligible ≡ true ∷ true ∷ true ∷ [] → spare_count s ≡ 2 }
 {}
 
 /// The keys of blocks: 0 of those that are not eligible, and one more than the kept pages of the others.

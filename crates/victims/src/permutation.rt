@@ -44,7 +44,8 @@ impl Permutation {
 // The numbers below a number, in turn.
 fn in_turn(alloc: Global, below: u32) -> Result<Vec<u32>, AllocError>
     ensures length { IfOk result (λ numbers. length numbers.items ≡ below) }
-    ensures numbers { IfOk result (λ numbers. EachIndex numbers.items (λ i. slice_index numbers.items i ≡ i)) }
+    ensures numbers { IfOk result
+        (λ numbers. EachIndex numbers.items (λ i. slice_index numbers.items i ≡ i)) }
 {
     let mut numbers = vec![in alloc; 0; below as usize]?;
     for i in 0..below {

@@ -169,7 +169,8 @@ impl Victims {
     /// A block may not be collected: it is open, or bad.
     pub fn exclude(&mut self, block: u32)
         requires { block < block_count self.old }
-        ensures { self.new ≡ record self.old { eligible = slice_set self.old.eligible block false } }
+        ensures { self.new
+            ≡ record self.old { eligible = slice_set self.old.eligible block false } }
     {
         self.queue.lower_to(block, EXCLUDED);
     }

@@ -45,7 +45,9 @@ fn read_sector(
     requires pass { IsReady flash.now pass.old }
     requires sector { sector < sectors_of (geometry_of flash.now) }
     ensures looked { HasLooked (view_of pass.old) (view_of pass.new) }
-    ensures value { IfOk result (λ value. option_map (λ x. x.items) value ≡ held (sectors_of (geometry_of flash.now)) (view_of pass.new).seen sector) }
+    ensures value { IfOk result
+        (λ value. option_map (λ x. x.items) value
+        ≡ held (sectors_of (geometry_of flash.now)) (view_of pass.new).seen sector) }
     ensures pass { IsReady flash.now pass.new }
 {
     let mut page = vec![in alloc; 0u8; flash.geometry().page_bytes()]?;
@@ -64,8 +66,11 @@ fn read_all(
     requires { IsReady flash.now pass.old }
     ensures pass { IsReady flash.now pass.new }
     ensures looked { HasLooked (view_of pass.old) (view_of pass.new) }
-    ensures long { IfOk result (λ sectors. length (array_of sectors.items) ≡ sectors_of (geometry_of flash.now)) }
-    ensures read { IfOk result (λ sectors. HasRead (sectors_of (geometry_of flash.now)) (view_of pass.old) (array_of sectors.items) (view_of pass.new)) }
+    ensures long { IfOk result
+        (λ sectors. length (array_of sectors.items) ≡ sectors_of (geometry_of flash.now)) }
+    ensures read { IfOk result
+        (λ sectors. HasRead (sectors_of (geometry_of flash.now))
+        (view_of pass.old) (array_of sectors.items) (view_of pass.new)) }
 {
     let count = flash.geometry().sectors();
     let mut sectors = Vec::with_capacity(alloc, count as usize)?;
@@ -85,7 +90,8 @@ fn gather(
     requires some { 0 < length passes.old }
     requires passes { All (IsReady flash.now) passes.old }
     ensures read { IfOk result (λ sectors. IsReadBy flash.now passes.old passes.new sectors.items) }
-    ensures one_history { IfOk result (λ sectors. IsFinalBy flash.now passes.old passes.new sectors.items) }
+    ensures one_history { IfOk result
+        (λ sectors. IsFinalBy flash.now passes.old passes.new sectors.items) }
     ensures looked { HaveLooked passes.old passes.new }
     ensures passes { All (IsReady flash.now) passes.new }
 {
@@ -120,9 +126,14 @@ impl Volume {
 
         // Where all passes are given, the sectors are those after one history; else each is what it is after a history that grows.
         ensures one_history { IfOk result
-            (λ closed. AreAll (hosts_of (geometry_of (flash_of self))) passes.items → IsFinal (flash_of self) passes.items closed) }
-        ensures read { IfOk result (λ closed. AreRead (device (flash_of self)) passes.items (last_view closed).seen (sectors_left closed)) }
-        ensures first { IfOk result (λ closed. (p : Pass) → slice_get passes.items 0 ≡ Some p → HasLeft (view_of p) (last_view closed)) }
+            (λ closed. AreAll (hosts_of (geometry_of (flash_of self))) passes.items
+            → IsFinal (flash_of self) passes.items closed) }
+        ensures read { IfOk result
+            (λ closed. AreRead (device (flash_of self)) passes.items
+            (last_view closed).seen (sectors_left closed)) }
+        ensures first { IfOk result
+            (λ closed. (p : Pass) → slice_get passes.items 0 ≡ Some p
+            → HasLeft (view_of p) (last_view closed)) }
 
         // Everything is returned unchanged, except that the passes have looked.
         ensures volume { IfErr result (λ back. back.0 ≡ self) }

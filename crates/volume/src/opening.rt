@@ -43,7 +43,8 @@ pub(crate) fn make_brooms(
     requires seats { All (IsRested flash.now) seats.items }
     requires places { All (IsNewPass queue.now) places.items }
     requires count { length places.items ≡ length seats.items }
-    ensures same { IfOk result (λ brooms. map known_by_broom brooms.items ≡ map known_by_seat seats.items) }
+    ensures same { IfOk result
+        (λ brooms. map known_by_broom brooms.items ≡ map known_by_seat seats.items) }
     ensures fresh { IfOk result (λ brooms. All (IsFresh flash.now queue.now) brooms.items) }
 {
     let mut seats = seats.into_iter();

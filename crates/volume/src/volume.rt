@@ -64,12 +64,19 @@ impl Volume {
     ) -> Result<(Volume, Vec<Pass>, Vec<Broom>), AllocError>
         requires hosts { 0 < hosts_of geometry.now }
         ensures geometry { IfOk result (λ r. geometry_of (flash_of r.0) ≡ geometry.now) }
-        ensures count { IfOk result (λ r. (length r.1.items ≡ hosts_of geometry.now) × (length r.2.items ≡ brooms_of geometry.now)) }
-        ensures passes { IfOk result (λ r. (t : ℕ) (p : Pass) → slice_get r.1.items t ≡ Some p → view_of p ≡ first_view (device (flash_of r.0)) t) }
+        ensures count { IfOk result
+            (λ r. (length r.1.items ≡ hosts_of geometry.now)
+            × (length r.2.items ≡ brooms_of geometry.now)) }
+        ensures passes { IfOk result
+            (λ r. (t : ℕ) (p : Pass) → slice_get r.1.items t ≡ Some p
+            → view_of p ≡ first_view (device (flash_of r.0)) t) }
         ensures ready { IfOk result (λ r. All (IsReady (flash_of r.0)) r.1.items) }
-        ensures brooms { IfOk result (λ r. (i : ℕ) (b : Broom) → slice_get r.2.items i ≡ Some b → IsUnused (flash_of r.0) i b) }
+        ensures brooms { IfOk result
+            (λ r. (i : ℕ) (b : Broom) → slice_get r.2.items i ≡ Some b
+            → IsUnused (flash_of r.0) i b) }
         ensures brooms_ready { IfOk result (λ r. All (IsBroomReady r.0) r.2.items) }
-        ensures brooms_fresh { IfOk result (λ r. All (IsFresh (flash_of r.0) (queue_of r.0)) r.2.items) }
+        ensures brooms_fresh { IfOk result
+            (λ r. All (IsFresh (flash_of r.0) (queue_of r.0)) r.2.items) }
     {
         let blocks = geometry.blocks() as usize;
         let (queue, places) = EraseQueue::new(alloc, blocks, geometry.brooms() as usize)?;
@@ -88,12 +95,19 @@ impl Volume {
         requires places { All (IsNewPass queue) places.items }
         requires count { length places.items ≡ brooms_of geometry.now }
         ensures geometry { IfOk result (λ r. geometry_of (flash_of r.0) ≡ geometry.now) }
-        ensures count { IfOk result (λ r. (length r.1.items ≡ hosts_of geometry.now) × (length r.2.items ≡ brooms_of geometry.now)) }
-        ensures passes { IfOk result (λ r. (t : ℕ) (p : Pass) → slice_get r.1.items t ≡ Some p → view_of p ≡ first_view (device (flash_of r.0)) t) }
+        ensures count { IfOk result
+            (λ r. (length r.1.items ≡ hosts_of geometry.now)
+            × (length r.2.items ≡ brooms_of geometry.now)) }
+        ensures passes { IfOk result
+            (λ r. (t : ℕ) (p : Pass) → slice_get r.1.items t ≡ Some p
+            → view_of p ≡ first_view (device (flash_of r.0)) t) }
         ensures ready { IfOk result (λ r. All (IsReady (flash_of r.0)) r.1.items) }
-        ensures brooms { IfOk result (λ r. (i : ℕ) (b : Broom) → slice_get r.2.items i ≡ Some b → IsUnused (flash_of r.0) i b) }
+        ensures brooms { IfOk result
+            (λ r. (i : ℕ) (b : Broom) → slice_get r.2.items i ≡ Some b
+            → IsUnused (flash_of r.0) i b) }
         ensures brooms_ready { IfOk result (λ r. All (IsBroomReady r.0) r.2.items) }
-        ensures brooms_fresh { IfOk result (λ r. All (IsFresh (flash_of r.0) (queue_of r.0)) r.2.items) }
+        ensures brooms_fresh { IfOk result
+            (λ r. All (IsFresh (flash_of r.0) (queue_of r.0)) r.2.items) }
     {
         let (flash, passes, seats) = Flash::open(alloc, geometry)?;
         match make_brooms(&flash, &queue, alloc, seats, places) {
@@ -117,9 +131,12 @@ impl Volume {
         requires pass { IsReady (flash_of self.now) pass.old }
         requires sector { sector < sectors_of (geometry_of (flash_of self.now)) }
         requires page { length out.old ≡ page_bytes_of (geometry_of (flash_of self.now)) }
-        ensures correct { Does self.now pass.old (Read sector) (Got result.got out.old out.new) pass.new }
+        ensures correct { Does self.now pass.old (Read sector)
+            (Got result.got out.old out.new) pass.new }
         ensures searched { Searched (view_of pass.old) result.tries (view_of pass.new) }
-        ensures answer { Answers (held (sectors_of (geometry_of (flash_of self.now))) (view_of pass.new).seen sector) result.got out.old out.new }
+        ensures answer { Answers
+            (held (sectors_of (geometry_of (flash_of self.now)))
+            (view_of pass.new).seen sector) result.got out.old out.new }
         ensures pass { IsReady (flash_of self.now) pass.new }
         ensures opened { opened_of pass.new ≡ opened_of pass.old }
     {
@@ -137,9 +154,12 @@ impl Volume {
         requires pass { IsReady (flash_of self.now) pass.old }
         requires sector { sector < sectors_of (geometry_of (flash_of self.now)) }
         requires page { length out.old ≡ page_bytes_of (geometry_of (flash_of self.now)) }
-        ensures correct { Does self.now pass.old (Read sector) (Got result.got out.old out.new) pass.new }
+        ensures correct { Does self.now pass.old (Read sector)
+            (Got result.got out.old out.new) pass.new }
         ensures searched { Searched (view_of pass.old) result.tries (view_of pass.new) }
-        ensures answer { Answers (held (sectors_of (geometry_of (flash_of self.now))) (view_of pass.new).seen sector) result.got out.old out.new }
+        ensures answer { Answers
+            (held (sectors_of (geometry_of (flash_of self.now)))
+            (view_of pass.new).seen sector) result.got out.old out.new }
         ensures pass { IsReady (flash_of self.now) pass.new }
         ensures opened { opened_of pass.new ≡ opened_of pass.old }
     {
@@ -152,7 +172,9 @@ impl Volume {
         requires sector { sector < sectors_of (geometry_of (flash_of self.now)) }
         ensures correct { Does self.now pass.old (Look sector) (IsWritten result) pass.new }
         ensures searched { Searched (view_of pass.old) 1 (view_of pass.new) }
-        ensures answer { result ≡ is_some (held (sectors_of (geometry_of (flash_of self.now))) (view_of pass.new).seen sector) }
+        ensures answer { result
+            ≡ is_some
+            (held (sectors_of (geometry_of (flash_of self.now))) (view_of pass.new).seen sector) }
         ensures pass { IsReady (flash_of self.now) pass.new }
         ensures opened { opened_of pass.new ≡ opened_of pass.old }
     {
@@ -164,8 +186,11 @@ impl Volume {
         requires pass { IsReady (flash_of self.now) pass.old }
         requires sector { sector < sectors_of (geometry_of (flash_of self.now)) }
         requires page { length bytes.now ≡ page_bytes_of (geometry_of (flash_of self.now)) }
-        ensures correct { IfOk result (λ was. Does self.now pass.old (Write sector bytes.now) (Replaced was) pass.new) }
-        ensures wrote { IfOk result (λ was. (t : ℕ) → HasNumber t pass.old → Wrote (view_of pass.old) t sector bytes.now was (view_of pass.new)) }
+        ensures correct { IfOk result
+            (λ was. Does self.now pass.old (Write sector bytes.now) (Replaced was) pass.new) }
+        ensures wrote { IfOk result
+            (λ was. (t : ℕ) → HasNumber t pass.old
+            → Wrote (view_of pass.old) t sector bytes.now was (view_of pass.new)) }
         ensures refused { OnErr result (Refused (view_of pass.old) (view_of pass.new)) }
         ensures pass { IsReady (flash_of self.now) pass.new }
     {
@@ -183,8 +208,11 @@ impl Volume {
         requires pass { IsReady (flash_of self.now) pass.old }
         requires sector { sector < sectors_of (geometry_of (flash_of self.now)) }
         requires page { length bytes.now ≡ page_bytes_of (geometry_of (flash_of self.now)) }
-        ensures correct { IfOk result (λ was. Does self.now pass.old (Write sector bytes.now) (Replaced was) pass.new) }
-        ensures wrote { IfOk result (λ was. (t : ℕ) → HasNumber t pass.old → Wrote (view_of pass.old) t sector bytes.now was (view_of pass.new)) }
+        ensures correct { IfOk result
+            (λ was. Does self.now pass.old (Write sector bytes.now) (Replaced was) pass.new) }
+        ensures wrote { IfOk result
+            (λ was. (t : ℕ) → HasNumber t pass.old
+            → Wrote (view_of pass.old) t sector bytes.now was (view_of pass.new)) }
         ensures refused { OnErr result (Refused (view_of pass.old) (view_of pass.new)) }
         ensures pass { IsReady (flash_of self.now) pass.new }
     {
@@ -197,10 +225,13 @@ impl Volume {
         requires pass { IsReady (flash_of self.now) pass.old }
         requires sector { sector < sectors_of (geometry_of (flash_of self.now)) }
         requires page { length bytes.now ≡ page_bytes_of (geometry_of (flash_of self.now)) }
-        ensures correct { IfSome (was_found result) (λ was. Does self.now pass.old (WriteNew sector bytes.now) (Replaced was) pass.new) }
+        ensures correct { IfSome (was_found result)
+            (λ was. Does self.now pass.old (WriteNew sector bytes.now) (Replaced was) pass.new) }
         ensures wrote { IfSome (was_found result)
-            (λ was. (t : ℕ) → HasNumber t pass.old → WroteNew (view_of pass.old) t sector bytes.now was (view_of pass.new)) }
-        ensures refused { result ≡ Err fault.NoBlock → Refused (view_of pass.old) (view_of pass.new) }
+            (λ was. (t : ℕ) → HasNumber t pass.old
+            → WroteNew (view_of pass.old) t sector bytes.now was (view_of pass.new)) }
+        ensures refused { result ≡ Err fault.NoBlock
+            → Refused (view_of pass.old) (view_of pass.new) }
         ensures pass { IsReady (flash_of self.now) pass.new }
     {
         host::write_new(&self.flash, pass, sector, bytes)
@@ -217,10 +248,13 @@ impl Volume {
         requires pass { IsReady (flash_of self.now) pass.old }
         requires sector { sector < sectors_of (geometry_of (flash_of self.now)) }
         requires page { length bytes.now ≡ page_bytes_of (geometry_of (flash_of self.now)) }
-        ensures correct { IfSome (was_found result) (λ was. Does self.now pass.old (WriteNew sector bytes.now) (Replaced was) pass.new) }
+        ensures correct { IfSome (was_found result)
+            (λ was. Does self.now pass.old (WriteNew sector bytes.now) (Replaced was) pass.new) }
         ensures wrote { IfSome (was_found result)
-            (λ was. (t : ℕ) → HasNumber t pass.old → WroteNew (view_of pass.old) t sector bytes.now was (view_of pass.new)) }
-        ensures refused { result ≡ Err fault.NoBlock → Refused (view_of pass.old) (view_of pass.new) }
+            (λ was. (t : ℕ) → HasNumber t pass.old
+            → WroteNew (view_of pass.old) t sector bytes.now was (view_of pass.new)) }
+        ensures refused { result ≡ Err fault.NoBlock
+            → Refused (view_of pass.old) (view_of pass.new) }
         ensures pass { IsReady (flash_of self.now) pass.new }
     {
         host::write_new_gated(&self.flash, pass, sector, bytes, gate)
@@ -231,7 +265,8 @@ impl Volume {
         requires pass { IsReady (flash_of self.now) pass.old }
         requires sector { sector < sectors_of (geometry_of (flash_of self.now)) }
         ensures correct { Does self.now pass.old (Trim sector) (Replaced result) pass.new }
-        ensures called { (t : ℕ) → HasNumber t pass.old → HasCalled pass.old (call.Trim t sector) sector result pass.new }
+        ensures called { (t : ℕ) → HasNumber t pass.old
+            → HasCalled pass.old (call.Trim t sector) sector result pass.new }
         ensures pass { IsReady (flash_of self.now) pass.new }
         ensures opened { opened_of pass.new ≡ opened_of pass.old }
     {
@@ -251,8 +286,10 @@ impl Volume {
     pub fn copy_into(&self, held: &mut Held, out: &mut [u8])
         requires held { (value : List ℕ) × Holds (flash_of self.now) held.old value }
         requires page { length out.old ≡ page_bytes_of (geometry_of (flash_of self.now)) }
-        ensures value { (value : List ℕ) → Holds (flash_of self.now) held.old value → (out.new ≡ value) × Holds (flash_of self.now) held.new value }
-        ensures undisturbed { IsUndisturbed (flash_of self.now) held.old (view_of (pass_of held.old)).copy held.new }
+        ensures value { (value : List ℕ) → Holds (flash_of self.now) held.old value
+            → (out.new ≡ value) × Holds (flash_of self.now) held.new value }
+        ensures undisturbed { IsUndisturbed (flash_of self.now) held.old
+            (view_of (pass_of held.old)).copy held.new }
         ensures same { view_of (pass_of held.new) ≡ view_of (pass_of held.old) }
         ensures page { page_of held.new ≡ page_of held.old }
     {
@@ -263,8 +300,10 @@ impl Volume {
     pub fn word(&self, held: &mut Held, i: u32) -> u64
         requires held { (value : List ℕ) × Holds (flash_of self.now) held.old value }
         requires word { i < words_of (geometry_of (flash_of self.now)) }
-        ensures value { (value : List ℕ) → Holds (flash_of self.now) held.old value → (result ≡ data_word value i) × Holds (flash_of self.now) held.new value }
-        ensures undisturbed { IsUndisturbed (flash_of self.now) held.old (view_of (pass_of held.old)).copy held.new }
+        ensures value { (value : List ℕ) → Holds (flash_of self.now) held.old value
+            → (result ≡ data_word value i) × Holds (flash_of self.now) held.new value }
+        ensures undisturbed { IsUndisturbed (flash_of self.now) held.old
+            (view_of (pass_of held.old)).copy held.new }
         ensures same { view_of (pass_of held.new) ≡ view_of (pass_of held.old) }
         ensures page { page_of held.new ≡ page_of held.old }
     {
@@ -285,7 +324,8 @@ impl Volume {
     pub fn meet(&self, first: &mut Pass, second: &mut Pass)
         requires first { IsReady (flash_of self.now) first.old }
         requires second { IsReady (flash_of self.now) second.old }
-        ensures met { MetTold (view_of first.old) (view_of second.old) (view_of first.new) (view_of second.new) }
+        ensures met { MetTold (view_of first.old) (view_of second.old)
+            (view_of first.new) (view_of second.new) }
         ensures first { IsReady (flash_of self.now) first.new }
         ensures second { IsReady (flash_of self.now) second.new }
         ensures first_opened { opened_of first.new ≡ opened_of first.old }
@@ -299,7 +339,8 @@ impl Volume {
     pub fn meet_brooms(&self, first: &mut Broom, second: &mut Broom)
         requires first { IsBroomReady self.now first.old }
         requires second { IsBroomReady self.now second.old }
-        ensures met_brooms { BroomsMet (view_of_broom first.old) (view_of_broom second.old) (view_of_broom first.new) (view_of_broom second.new) }
+        ensures met_brooms { BroomsMet (view_of_broom first.old) (view_of_broom second.old)
+            (view_of_broom first.new) (view_of_broom second.new) }
         ensures first { IsBroomReady self.now first.new }
         ensures second { IsBroomReady self.now second.new }
         ensures first_array { LeavesArray (view_of_broom first.old) (view_of_broom first.new) }
@@ -319,8 +360,10 @@ impl Volume {
     pub fn stand(&self, held: Held, broom: &mut Broom) -> Held
         requires held { (value : List ℕ) × Holds (flash_of self.now) held value }
         requires broom { IsBroomReady self.now broom.old }
-        ensures undisturbed { IsUndisturbed (flash_of self.now) held (Some (carried (view_of_broom broom.old))) result }
-        ensures stood { StoodTold (view_of (pass_of held)) (view_of_broom broom.old) (page_of held) (view_of (pass_of result)) (view_of_broom broom.new) }
+        ensures undisturbed { IsUndisturbed (flash_of self.now) held
+            (Some (carried (view_of_broom broom.old))) result }
+        ensures stood { StoodTold (view_of (pass_of held)) (view_of_broom broom.old)
+            (page_of held) (view_of (pass_of result)) (view_of_broom broom.new) }
         ensures opened { opened_of (pass_of result) ≡ opened_of (pass_of held) }
         ensures broom { IsBroomReady self.now broom.new }
         ensures blocks { blocks_of_broom broom.new ≡ blocks_of_broom broom.old }
@@ -337,8 +380,10 @@ impl Volume {
     pub fn meet_holding(&self, held: Held, other: &mut Pass) -> Held
         requires held { (value : List ℕ) × Holds (flash_of self.now) held value }
         requires other { IsReady (flash_of self.now) other.old }
-        ensures undisturbed { IsUndisturbed (flash_of self.now) held (Some (carried (view_of other.old))) result }
-        ensures met_holding { MetHolding (view_of (pass_of held)) (view_of other.old) (page_of held) (view_of (pass_of result)) (view_of other.new) }
+        ensures undisturbed { IsUndisturbed (flash_of self.now) held
+            (Some (carried (view_of other.old))) result }
+        ensures met_holding { MetHolding (view_of (pass_of held)) (view_of other.old)
+            (page_of held) (view_of (pass_of result)) (view_of other.new) }
         ensures opened { opened_of (pass_of result) ≡ opened_of (pass_of held) }
         ensures other { IsReady (flash_of self.now) other.new }
         ensures other_opened { opened_of other.new ≡ opened_of other.old }
@@ -442,7 +487,9 @@ impl Volume {
     #[tactic(auto, using(crate::proofs::Queued::still_ready))]
     pub fn count_blocks(&self, broom: &mut Broom) -> BlockCounts
         requires { IsBroomReady self.now broom.old }
-        ensures all_loaded { (states : List PinWord) × AllLoaded (device (flash_of self.now)) broom.old states broom.new × (result ≡ counts_in states) }
+        ensures all_loaded { (states : List PinWord)
+            × AllLoaded (device (flash_of self.now)) broom.old states broom.new
+            × (result ≡ counts_in states) }
         ensures ready { IsBroomReady self.now broom.new }
         ensures array { LeavesArray (view_of_broom broom.old) (view_of_broom broom.new) }
         ensures queue { HandsNothing broom.old broom.new }
@@ -454,7 +501,8 @@ impl Volume {
     /// first; if there is no room for it, nothing is drained.
     pub fn drain_one<G: Gate>(&self, rt: &impl Wait, broom: &mut Broom, gate: &mut G) -> Drain
         requires { IsBroomReady self.now broom.old }
-        ensures drained_one { DrainOneTold (limit_of (queue_of self.now)) broom.old result broom.new }
+        ensures drained_one { DrainOneTold
+            (limit_of (queue_of self.now)) broom.old result broom.new }
         ensures ready { IsBroomReady self.now broom.new }
         ensures array { LeavesArray (view_of_broom broom.old) (view_of_broom broom.new) }
     {
@@ -464,7 +512,8 @@ impl Volume {
     /// Drains the next block by the survey that the broom made last, and puts it into the queue or sets it aside as `drain_one` does.
     pub fn drain_next_one<G: Gate>(&self, rt: &impl Wait, broom: &mut Broom, gate: &mut G) -> Drain
         requires { IsBroomReady self.now broom.old }
-        ensures drained_next_one { DrainNextOneTold (limit_of (queue_of self.now)) broom.old result broom.new }
+        ensures drained_next_one { DrainNextOneTold
+            (limit_of (queue_of self.now)) broom.old result broom.new }
         ensures ready { IsBroomReady self.now broom.new }
         ensures array { LeavesArray (view_of_broom broom.old) (view_of_broom broom.new) }
     {
@@ -474,7 +523,8 @@ impl Volume {
     /// Drains a block without live pages as `drain_dead` does, and puts it into the queue or sets it aside as `drain_one` does.
     pub fn drain_dead_one<G: Gate>(&self, rt: &impl Wait, broom: &mut Broom, gate: &mut G) -> Drain
         requires { IsBroomReady self.now broom.old }
-        ensures drained_dead_one { DrainDeadOneTold (limit_of (queue_of self.now)) broom.old result broom.new }
+        ensures drained_dead_one { DrainDeadOneTold
+            (limit_of (queue_of self.now)) broom.old result broom.new }
         ensures ready { IsBroomReady self.now broom.new }
         ensures array { LeavesArray (view_of_broom broom.old) (view_of_broom broom.new) }
     {
@@ -485,7 +535,8 @@ impl Volume {
     /// queue.
     pub fn erase_one<G: Gate>(&self, rt: &impl Wait, broom: &mut Broom, gate: &mut G) -> Erase
         requires { IsBroomReady self.now broom.old }
-        ensures erased_one { EraseOneTold (limit_of (queue_of self.now)) broom.old result broom.new }
+        ensures erased_one { EraseOneTold
+            (limit_of (queue_of self.now)) broom.old result broom.new }
         ensures ready { IsBroomReady self.now broom.new }
         ensures array { LeavesArray (view_of_broom broom.old) (view_of_broom broom.new) }
     {
@@ -496,7 +547,8 @@ impl Volume {
     /// full, the block stays drained, and nobody erases it.
     pub fn fold(&self, rt: &impl Wait, broom: Broom) -> Folded
         requires { IsBroomReady self.now broom }
-        ensures view { folded_view result ≡ closed_broom (view_of_broom broom) (blocks_of_broom broom) }
+        ensures view { folded_view result
+            ≡ closed_broom (view_of_broom broom) (blocks_of_broom broom) }
         ensures array { LeavesArray (view_of_broom broom) (folded_view result) }
         ensures place { LeftAt (limit_of (queue_of self.now)) broom (folded_place result) }
     {
@@ -507,7 +559,8 @@ impl Volume {
     pub fn fold_new(&self, broom: Broom) -> Folded
         requires ready { IsBroomReady self.now broom }
         requires aside { aside_of broom ≡ None }
-        ensures view { folded_view result ≡ closed_broom (view_of_broom broom) (blocks_of_broom broom) }
+        ensures view { folded_view result
+            ≡ closed_broom (view_of_broom broom) (blocks_of_broom broom) }
         ensures place { folded_place result ≡ place_of broom }
     {
         broom::fold_new(&self.flash, broom)
@@ -517,7 +570,8 @@ impl Volume {
     /// drained, and nobody erases it.
     pub fn retire_broom(&self, broom: Broom) -> Folded
         requires { IsBroomReady self.now broom }
-        ensures view { folded_view result ≡ closed_broom (view_of_broom broom) (blocks_of_broom broom) }
+        ensures view { folded_view result
+            ≡ closed_broom (view_of_broom broom) (blocks_of_broom broom) }
         ensures place { folded_place result ≡ place_of broom }
     {
         broom::retire_broom(&self.flash, broom)

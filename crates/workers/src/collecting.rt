@@ -65,13 +65,17 @@ fn have_gained(drain: Drain, erase: Erase) -> bool
 impl Collector {
     // How many pages the broom has room for in its blocks.
     fn room(&self) -> u64
-        ensures { result ≡ length (pages_to_fill (pages_of (geometry_of (flash_of (arc_value self.now.volume)))) (blocks_of_broom self.now.broom)) }
+        ensures { result
+            ≡ length
+            (pages_to_fill (pages_of (geometry_of (flash_of (arc_value self.now.volume))))
+            (blocks_of_broom self.now.broom)) }
     {
         self.broom.room(self.volume.geometry().pages())
     }
 
     fn drain<G: Gate>(&mut self, rt: &impl Wait, gate: &mut G) -> Drain
-        ensures { (programmed : ℕ) × HasCollectedBy self.old (by.Drain result programmed ∷ []) self.new }
+        ensures { (programmed : ℕ)
+            × HasCollectedBy self.old (by.Drain result programmed ∷ []) self.new }
     {
         let room = self.room();
         let drain = self.volume.drain_one(rt, &mut self.broom, gate);
@@ -83,7 +87,8 @@ impl Collector {
     }
 
     fn drain_next<G: Gate>(&mut self, rt: &impl Wait, gate: &mut G) -> Drain
-        ensures { (programmed : ℕ) × HasCollectedBy self.old (by.DrainNext result programmed ∷ []) self.new }
+        ensures { (programmed : ℕ)
+            × HasCollectedBy self.old (by.DrainNext result programmed ∷ []) self.new }
     {
         let room = self.room();
         let drain = self.volume.drain_next_one(rt, &mut self.broom, gate);

@@ -41,8 +41,10 @@ impl Collector {
     // Gives up the broom. A block that it has set aside goes to the queue.
     pub(crate) fn fold<R: Wait>(self, rt: &R) -> CollectorEnd
         ensures tally { result.tally ≡ self.tally }
-        ensures view { folded_view result.folded ≡ closed_broom (view_of_broom self.broom) (blocks_of_broom self.broom) }
-        ensures place { LeftAt (limit_of (queue_of (arc_value self.volume))) self.broom (folded_place result.folded) }
+        ensures view { folded_view result.folded
+            ≡ closed_broom (view_of_broom self.broom) (blocks_of_broom self.broom) }
+        ensures place { LeftAt (limit_of (queue_of (arc_value self.volume))) self.broom
+            (folded_place result.folded) }
     {
         let Collector {
             volume,

@@ -39,8 +39,10 @@ pub fn play_commands<R: Threads + Wait + Clock + Sync, G: Gate + Send>(
     requires playable { All (IsPlayable geometry.now) (arc_value commands.now) }
     requires gates { length gates.old ≡ hosts_of geometry.now + brooms_of geometry.now }
     ensures rows { IfOk result (λ end. length end.rows.items ≡ hosts_of geometry.now) }
-    ensures pages { IfOk result (λ end. All (λ row. page_size_of row ≡ page_bytes_of geometry.now) end.rows.items) }
-    ensures played { IfOk result (λ end. ArePlayed geometry.now (arc_value commands.now) (answers_by end.rows.items)) }
+    ensures pages { IfOk result
+        (λ end. All (λ row. page_size_of row ≡ page_bytes_of geometry.now) end.rows.items) }
+    ensures played { IfOk result
+        (λ end. ArePlayed geometry.now (arc_value commands.now) (answers_by end.rows.items)) }
     ensures brooms { IfOk result (λ end. AllHaveServed geometry.now drains end.brooms.items) }
 {
     let Plan { rows: places, ends } = Plan::new(alloc, commands, geometry.hosts())?;

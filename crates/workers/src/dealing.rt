@@ -131,9 +131,12 @@ pub(crate) fn deal(
 ) -> Result<(Arc<Volume, Global>, Team), AllocError>
     requires hosts { 0 < hosts_of geometry.now }
     requires playable { All (IsPlayable geometry.now) (arc_value commands.now) }
-    requires rows { map items_of rows.items ≡ rows_for (hosts_of geometry.now) (arc_value commands.now) }
+    requires rows { map items_of rows.items
+        ≡ rows_for (hosts_of geometry.now) (arc_value commands.now) }
     ensures geometry { IfOk result (λ r. geometry_of (flash_of (arc_value r.0)) ≡ geometry.now) }
-    ensures begun { IfOk result (λ r. HasBegun (arc_value r.0) (arc_value commands.now) (ends_of (arc_value commands.now)) r.1.workers.items) }
+    ensures begun { IfOk result
+        (λ r. HasBegun (arc_value r.0) (arc_value commands.now)
+        (ends_of (arc_value commands.now)) r.1.workers.items) }
     ensures manned { IfOk result (λ r. AreManned (arc_value r.0) r.1.workers.items) }
     ensures collectors { IfOk result (λ r. length r.1.collectors.items ≡ brooms_of geometry.now) }
     ensures first { IfOk result (λ r. AreAtRunStart (arc_value r.0) drains 0 r.1.collectors.items) }

@@ -15,7 +15,8 @@ use volume::Volume;
 fn meet_two(volume: &Volume, first: &mut Worker, second: &mut Worker)
     requires first { IsAt volume.now first.old }
     requires second { IsAt volume.now second.old }
-    ensures met { MetTold (view_of first.old.pass) (view_of second.old.pass) (view_of first.new.pass) (view_of second.new.pass) }
+    ensures met { MetTold (view_of first.old.pass) (view_of second.old.pass)
+        (view_of first.new.pass) (view_of second.new.pass) }
     ensures first { rest_of first.new ≡ rest_of first.old }
     ensures second { rest_of second.new ≡ rest_of second.old }
 {
@@ -26,7 +27,8 @@ fn meet_two(volume: &Volume, first: &mut Worker, second: &mut Worker)
 fn meet_others(volume: &Volume, first: &mut Worker, others: &mut [Worker])
     requires first { IsAt volume.now first.old }
     requires others { All (IsAt volume.now) others.old }
-    ensures met { MetEach (view_of first.old.pass) (passes_of others.old) (view_of first.new.pass) (passes_of others.new) }
+    ensures met { MetEach (view_of first.old.pass) (passes_of others.old)
+        (view_of first.new.pass) (passes_of others.new) }
     ensures first { rest_of first.new ≡ rest_of first.old }
     ensures others { map rest_of others.new ≡ map rest_of others.old }
 {

@@ -14,7 +14,8 @@ use volume::Volume;
 // A new device. `Err` is out of memory, and then its passes and brooms are retired.
 pub(crate) fn open_shared(alloc: Global, geometry: &Geometry) -> Result<Unseated, AllocError>
     requires { 0 < hosts_of geometry.now }
-    ensures { IfOk result (λ u. AreNew geometry.now (arc_value u.volume) u.passes.items u.brooms.items) }
+    ensures { IfOk result
+        (λ u. AreNew geometry.now (arc_value u.volume) u.passes.items u.brooms.items) }
 {
     let (volume, passes, brooms) = Volume::open(alloc, geometry)?;
     match Arc::new(alloc, volume) {
@@ -37,7 +38,8 @@ pub(crate) fn more_owners(
     count: usize,
 ) -> Result<Vec<Arc<Volume, Global>>, AllocError>
     ensures count { IfOk result (λ owners. length owners.items ≡ count) }
-    ensures same { IfOk result (λ owners. All (λ owner. arc_value owner ≡ arc_value volume.now) owners.items) }
+    ensures same { IfOk result
+        (λ owners. All (λ owner. arc_value owner ≡ arc_value volume.now) owners.items) }
 {
     let mut owners = Vec::with_capacity(alloc, count)?;
     for _ in 0..count {

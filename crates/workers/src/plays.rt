@@ -155,11 +155,13 @@ pub fn play_at<G: Gate>(
 )
     requires pass { IsReady (flash_of volume.now) pass.old }
     requires there { All (λ p. p < length commands.now) places.now }
-    requires lines { All (IsLine (geometry_of (flash_of volume.now))) (lines_at commands.now places.now) }
+    requires lines { All (IsLine (geometry_of (flash_of volume.now)))
+        (lines_at commands.now places.now) }
     requires buffer { length buffer.old ≡ page_bytes_of (geometry_of (flash_of volume.now)) }
     requires page { page_size_of answers.old ≡ page_bytes_of (geometry_of (flash_of volume.now)) }
     requires space { HasSpaceFor answers.old (lines_at commands.now places.now) }
-    ensures played { HasPlayedLines patience pass.old (lines_at commands.now places.now) (added answers.old answers.new) pass.new }
+    ensures played { HasPlayedLines patience pass.old
+        (lines_at commands.now places.now) (added answers.old answers.new) pass.new }
     ensures answered { HasAnswered (lines_at commands.now places.now) answers.old answers.new }
     ensures pass { IsReady (flash_of volume.now) pass.new }
 {

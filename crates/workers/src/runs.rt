@@ -40,7 +40,8 @@ fn play_team<R: Threads + Wait + Clock + Sync, G: Gate + Send>(
     requires gates { length team.workers.items + length team.collectors.items ≡ length gates.old }
     ensures idle { All (IsIdle limits.end) team.workers.items → result ≡ Ok team }
     ensures played { IfOk result (λ back. HavePlayed limits team.workers.items back.workers.items) }
-    ensures collected { IfOk result (λ back. HaveCollected team.collectors.items back.collectors.items) }
+    ensures collected { IfOk result
+        (λ back. HaveCollected team.collectors.items back.collectors.items) }
 {
     if have_no_line(&team.workers, limits.end) {
         return Ok(team);
@@ -60,10 +61,12 @@ pub fn play_round<R: Threads + Wait + Clock + Sync, G: Gate + Send>(
 ) -> Result<Team, RoundFault>
     requires gates { length team.workers.items + length team.collectors.items ≡ length gates.old }
     requires manned { AreManned volume.now team.workers.items }
-    ensures played { IfOk result (λ back. RoundPlayed volume.now patience end team.workers.items back.workers.items) }
+    ensures played { IfOk result
+        (λ back. RoundPlayed volume.now patience end team.workers.items back.workers.items) }
     ensures manned { IfOk result (λ back. AreManned volume.now back.workers.items) }
     ensures count { IfOk result (λ back. length back.workers.items ≡ length team.workers.items) }
-    ensures collected { IfOk result (λ back. HaveCollected team.collectors.items back.collectors.items) }
+    ensures collected { IfOk result
+        (λ back. HaveCollected team.collectors.items back.collectors.items) }
 {
     let mut team = play_team(rt, team, RoundLimits { end, patience }, gates)?;
     meet_all(volume, &mut team.workers);
@@ -81,9 +84,11 @@ pub fn play_rounds<R: Threads + Wait + Clock + Sync, G: Gate + Send>(
 ) -> Result<Team, RoundFault>
     requires gates { length team.workers.items + length team.collectors.items ≡ length gates.old }
     requires manned { AreManned volume.now team.workers.items }
-    ensures run { IfOk result (λ back. EndsRun volume.now patience ends.now team.workers.items back.workers.items) }
+    ensures run { IfOk result
+        (λ back. EndsRun volume.now patience ends.now team.workers.items back.workers.items) }
     ensures manned { IfOk result (λ back. AreManned volume.now back.workers.items) }
-    ensures collected { IfOk result (λ back. HaveCollected team.collectors.items back.collectors.items) }
+    ensures collected { IfOk result
+        (λ back. HaveCollected team.collectors.items back.collectors.items) }
 {
     let mut team = team;
     for i in 0..ends.len() {

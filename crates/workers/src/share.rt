@@ -65,9 +65,12 @@ pub(crate) fn make_shares(
     commands: &Arc<Commands, Global>,
     rows: Vec<Vec<usize>>,
 ) -> Result<Vec<Share>, AllocError>
-    requires { All (λ row. AreDoable geometry.now (arc_value commands.now) (items_of row)) rows.items }
+    requires { All (λ row. AreDoable geometry.now
+        (arc_value commands.now) (items_of row)) rows.items }
     ensures fit { IfOk result (λ shares. All (HasFitShare geometry.now) shares.items) }
-    ensures work { IfOk result (λ shares. map work_in shares.items ≡ map (with_commands (arc_value commands.now)) rows.items) }
+    ensures work { IfOk result
+        (λ shares. map work_in shares.items
+        ≡ map (with_commands (arc_value commands.now)) rows.items) }
 {
     let mut shares = Vec::with_capacity(alloc, rows.len())?;
     let mut rows = VecDeque::from_vec(rows);

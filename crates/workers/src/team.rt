@@ -74,8 +74,10 @@ fn start_collectors<'s, E, R: Threads + Wait + Clock + Sync, G: Gate + Send>(
     collecting: &mut VecDeque<BroomThread>,
 ) -> Result<(), RoundFault>
     requires gates { deque_len collectors.old ≡ length gates.old }
-    requires room { deque_len collecting.old + deque_len collectors.old ≤ deque_capacity collecting.old }
-    ensures started { OnOk result (map given_to collecting.new.items ≡ map given_to collecting.old.items ++ collectors.old.items) }
+    requires room { deque_len collecting.old + deque_len collectors.old
+        ≤ deque_capacity collecting.old }
+    ensures started { OnOk result (map given_to collecting.new.items
+        ≡ map given_to collecting.old.items ++ collectors.old.items) }
     ensures none { OnOk result (deque_len collectors.new ≡ 0) }
     ensures gone { HaveGone collectors.old collectors.new collecting.old collecting.new }
 {
@@ -98,7 +100,8 @@ fn start_workers<'s, E, G: Gate + Send>(
 ) -> Result<(), RoundFault>
     requires gates { deque_len workers.old ≡ length gates.old }
     requires room { deque_len tasks.old + deque_len workers.old ≤ deque_capacity tasks.old }
-    ensures started { OnOk result (HaveSetOut limits tasks.old.items workers.old.items tasks.new.items) }
+    ensures started { OnOk result
+        (HaveSetOut limits tasks.old.items workers.old.items tasks.new.items) }
     ensures none { OnOk result (deque_len workers.new ≡ 0) }
     ensures gone { HaveGone workers.old workers.new tasks.old tasks.new }
 {
@@ -119,7 +122,8 @@ fn join_workers<R: Threads>(
     workers: &mut VecDeque<Worker>,
 )
     requires { deque_len workers.old + deque_len tasks.old ≤ deque_capacity workers.old }
-    ensures played { deque_len workers.old ≡ 0 → WerePlayed (map (asked limits) tasks.old.items) workers.new.items }
+    ensures played { deque_len workers.old ≡ 0
+        → WerePlayed (map (asked limits) tasks.old.items) workers.new.items }
     ensures none { deque_len tasks.new ≡ 0 }
     ensures gone { HaveGone tasks.old tasks.new workers.old workers.new }
 {
@@ -135,7 +139,8 @@ fn join_collectors<R: Threads>(
     collectors: &mut VecDeque<Collector>,
 )
     requires { deque_len collectors.old + deque_len collecting.old ≤ deque_capacity collectors.old }
-    ensures collected { deque_len collectors.old ≡ 0 → HaveCollected (map given_to collecting.old.items) collectors.new.items }
+    ensures collected { deque_len collectors.old ≡ 0
+        → HaveCollected (map given_to collecting.old.items) collectors.new.items }
     ensures none { deque_len collecting.new ≡ 0 }
     ensures gone { HaveGone collecting.old collecting.new collectors.old collectors.new }
 {
@@ -152,8 +157,10 @@ fn run_all<'s, E, R: Threads + Wait + Clock + Sync, G: Gate + Send>(
 ) -> Result<Team, RoundFault>
     requires workers { length round.team.workers.items ≡ length round.worker_gates.now }
     requires collectors { length round.team.collectors.items ≡ length round.collector_gates.now }
-    ensures played { IfOk result (λ team. HavePlayed round.entry.limits round.entry.team.workers.items team.workers.items) }
-    ensures collected { IfOk result (λ team. HaveCollected round.entry.team.collectors.items team.collectors.items) }
+    ensures played { IfOk result
+        (λ team. HavePlayed round.entry.limits round.entry.team.workers.items team.workers.items) }
+    ensures collected { IfOk result
+        (λ team. HaveCollected round.entry.team.collectors.items team.collectors.items) }
 {
     let Round {
         team,
@@ -200,17 +207,21 @@ fn shift<'a, R: Threads + Wait + Clock + Sync, G: Gate + Send>(
 ) -> Result<Team, RoundFault>
     requires workers { length round.team.workers.items ≡ length round.worker_gates.now }
     requires collectors { length round.team.collectors.items ≡ length round.collector_gates.now }
-    ensures played { IfOk result (λ team. HavePlayed round.entry.limits round.entry.team.workers.items team.workers.items) }
-    ensures collected { IfOk result (λ team. HaveCollected round.entry.team.collectors.items team.collectors.items) }
+    ensures played { IfOk result
+        (λ team. HavePlayed round.entry.limits round.entry.team.workers.items team.workers.items) }
+    ensures collected { IfOk result
+        (λ team. HaveCollected round.entry.team.collectors.items team.collectors.items) }
 {
     thread::scope(
         thread::scope_env(),
         rt,
         move |scope| -> Result<Team, RoundFault>
             requires workers { length round.team.workers.items ≡ length round.worker_gates.now }
-            requires collectors { length round.team.collectors.items ≡ length round.collector_gates.now }
+            requires collectors { length round.team.collectors.items
+                ≡ length round.collector_gates.now }
             ensures played { IfOk result (λ team. HavePlayed round.entry.limits round.entry.team.workers.items team.workers.items) }
-            ensures collected { IfOk result (λ team. HaveCollected round.entry.team.collectors.items team.collectors.items) }
+            ensures collected { IfOk result
+                (λ team. HaveCollected round.entry.team.collectors.items team.collectors.items) }
         { run_all(scope, rt, round) },
     )
 }
