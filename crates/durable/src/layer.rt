@@ -92,6 +92,7 @@ impl Core {
             Command::Erase(block) => {
                 self.owners.look_through(&self.map, &self.counts, block);
                 self.hand = 0;
+                self.turn = self.turn.wrapping_add(1);
                 self.next_page = Some(PageAddr { block, page: 0 });
                 self.chosen = self.decide();
             }
@@ -129,13 +130,10 @@ impl Core {
                     None => Command::Refused,
                 }
             }
-            None => {
-                let block = self.counts.fewest(self.blocks);
-                if self.is_free_beside(block, self.blocks) {
-                    return Command::Erase(block);
-                }
-                Command::Refused
-            }
+            None => match self.counts.empty(self.turn) {
+                Some(block) => Command::Erase(block),
+                None => Command::Refused,
+            },
         }
     }
 

@@ -165,6 +165,7 @@ impl Mount {
             counts,
             owners,
             hand: 0,
+            turn: 0,
             next_page: None,
             next_number: self.next_number,
             chosen: Command::Refused,

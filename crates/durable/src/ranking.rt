@@ -1,4 +1,4 @@
-ghost use Rattle.std.specs.Prelude.{◌≡◌, ◌≢◌, ◌<◌, ◌≤◌, ◌+◌, ◌-◌, ◌^◌, ℕ, length, replicate, slice_set, slice_index, slice_index_or, IfOk};
+ghost use Rattle.std.specs.Prelude.{◌≡◌, ◌≢◌, ◌<◌, ◌≤◌, ◌+◌, ◌-◌, ◌^◌, ℕ, length, replicate, slice_set, slice_index, slice_index_or, IfOk, IfSome, IfNone};
 
 use crate::search::fewest;
 use std::alloc::{AllocError, Global};
@@ -23,7 +23,7 @@ impl Model for Counts {
     ghost invariant = { λ s. record {
       same : length s.queue.keys.items ≡ length s.counts.items;
       few : length s.counts.items < 2 ^ 32;
-      some : 0 < length s.queue.starts.items;
+      some : 1 < length s.queue.starts.items;
       at_most : (b : ℕ) → b < length s.counts.items → slice_index s.queue.keys.items b ≤ slice_index s.counts.items b;
       exact : (b : ℕ) → b < length s.counts.items → slice_index s.queue.keys.items b + 1 < length s.queue.starts.items
           → slice_index s.queue.keys.items b ≡ slice_index s.counts.items b;
@@ -37,7 +37,7 @@ impl Counts {
     {
         Ok(Counts {
             counts: vec![in alloc; 0; blocks as usize]?,
-            queue: BucketQueue::new(alloc, blocks, (pages as usize).min(65535) + 1)?,
+            queue: BucketQueue::new(alloc, blocks, (pages as usize).min(65534) + 2)?,
         })
     }
 
@@ -78,6 +78,16 @@ impl Counts {
             self.queue.lower(block);
         }
         self.counts[block as usize] -= 1;
+    }
+
+    /// A block without live pages, if there is one. In each turn it is another of them, so that blocks wear evenly.
+    pub fn empty(&self, turn: u32) -> Option<u32>
+        ensures some { IfSome result (λ b. (b < length self.now)
+            × (slice_index_or self.now b 0 ≡ 0)) }
+        ensures none { IfNone result ((b : ℕ) → b < length self.now
+            → 0 < slice_index_or self.now b 0) }
+    {
+        self.queue.in_turn(0, turn)
     }
 
     /// The block with the fewest live pages, beside one.

@@ -203,3 +203,24 @@ fn a_trim_of_many_sectors_programs_one_page(rt: HostRuntime) -> Result<(), Fail>
     }
     Ok(())
 }
+
+// Ten blocks of four pages, of which one is in reserve. A client that writes four sectors in order opens 90 blocks, each of the nine some ten times.
+#[test]
+fn free_blocks_are_erased_in_turn(rt: HostRuntime) -> Result<(), Fail> {
+    let Some(mut layer) = open(&rt, chip(rt.alloc(), 10, 4)?, 4) else {
+        return Ok(());
+    };
+    for round in 0..90u8 {
+        for sector in 0..4 {
+            let written = make(&rt, &mut layer, Call::Write(sector, round), None);
+            expect(&rt, written.is_ok(), &(round, sector));
+        }
+    }
+    let chip = layer.into_nand();
+    assert!(rt; chip.erases(9) == 0);
+    for block in 0..9 {
+        let erases = chip.erases(block);
+        expect(&rt, erases >= 7 && erases <= 13, &(block, erases));
+    }
+    Ok(())
+}

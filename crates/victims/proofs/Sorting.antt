@@ -119,3 +119,13 @@ in_key_order keys order places starts p i inverse sorted i_in inside le =
     (λ less. grind (arith, sorted.in_range item, sorted.behind (get_or keys item 0) i, sorted.before (get_or keys item 0) item))
     (λ enough. enough)
     (cases_lt (get_or keys i 0) (get_or keys item 0))
+
+-- an item in the places of a bucket has its key
+pub key_there : (keys order places starts : List ℕ) (key place : ℕ) → AreInverse order places → AreSorted keys places starts → key + 1 < length starts
+    → get_or starts key 0 ≤ place → place < get_or starts (key + 1) 0 → place < length order
+    → (get_or order place 0 < length keys) × (get_or keys (get_or order place 0) 0 ≡ key)
+key_there keys order places starts key place inverse sorted fits from before inside =
+    let item : ℕ = get_or order place 0 in
+    let there : get_or places item 0 ≡ place = inverse.item_at place inside in
+    let item_in : item < length keys = grind (arith, inverse.item_in place, sorted.same) in
+    (item_in, grind (arith, sorted.behind key item, sorted.before (key + 1) item))

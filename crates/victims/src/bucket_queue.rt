@@ -133,6 +133,22 @@ impl BucketQueue {
         avoided
     }
 
+    /// An item with a key, if there is one. In each turn it is another of them.
+    pub fn in_turn(&self, key: u16, turn: u32) -> Option<u32>
+        requires { key + 1 < length self.now.starts.items }
+        ensures some { IfSome result (λ i. (i < length self.now.keys.items)
+            × (slice_index self.now.keys.items i ≡ key)) }
+        ensures none { IfNone result ((i : ℕ) → i < length self.now.keys.items
+            → slice_index self.now.keys.items i ≢ key) }
+    {
+        let items = self.count(key);
+        if items == 0 {
+            return None;
+        }
+        let place = self.starts[key as usize] + turn % items;
+        Some(self.sorted.order[place as usize])
+    }
+
     /// How many items have a key.
     pub fn count(&self, key: u16) -> u32
         requires { key + 1 < length self.now.starts.items }
