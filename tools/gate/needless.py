@@ -55,9 +55,9 @@ def tried(room, name):
 def of_edits(name):
     """The goals that refuse the wrong bodies of a crate, each as the name of its function and its own."""
     goals = gallery.goals_on_page()
-    for path in tree.edits(name):
-        for place in gallery.places_of(tree.folder(name), path):
-            yield from ((place and place.name, goal) for goal in re.findall(r"`([\w-]+)`", goals.get((name, gallery.in_words(path)), ""))[:1])
+    for edit in tree.edits(name):
+        for place in gallery.places_of(edit):
+            yield from ((place and place.name, goal) for goal in re.findall(r"`([\w-]+)`", goals.get((name, gallery.in_words(edit.name)), ""))[:1])
 
 
 def is_needed(function, goal, needed):

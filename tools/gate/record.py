@@ -64,11 +64,17 @@ def meaning(path):
     return text.encode()
 
 
-def sum_of_files(folders, more=()):
-    """A sum of what the files of some folders and further files mean."""
-    total, files = hashlib.sha256(), [path for folder in folders for path in sorted((tree.TOP / folder).rglob("*")) if path.is_file()]
-    for path in dict.fromkeys([*files, *more]):
-        total.update(f"{tree.relative(path)}\n".encode() + hashlib.sha256(meaning(path)).digest())
+def files_of(name, *parts):
+    """The files of some folders of a crate."""
+    return [path for part in parts for path in sorted((tree.folder(name) / part).rglob("*")) if path.is_file()]
+
+
+def sum_of(parts):
+    """A sum of what some files and edits mean. An edit counts as a file of its own, whichever file it is in."""
+    total = hashlib.sha256()
+    for it in dict.fromkeys(parts):
+        name, text = (f"crates/{it.crate}/{it.kind}/{it.name}.edit", it.text.encode()) if isinstance(it, tree.Edit) else (tree.relative(it), meaning(it))
+        total.update(f"{name}\n".encode() + hashlib.sha256(text).digest())
     return total.hexdigest()
 
 
@@ -105,8 +111,8 @@ class Record:
 
     def sum_of(self, name):
         """A sum of the text that a result depends on: the crate with its edits, and the definitions of the crates below."""
-        folders = [f"crates/{name}/{part}" for part in ("src", "specs", "proofs", self.kind)]
-        return sum_of_files([*folders, *(f"crates/{it}/specs" for it in sorted(tree.below(name, self.used)))])
+        below = [path for it in sorted(tree.below(name, self.used)) for path in files_of(it, "specs")]
+        return sum_of([*files_of(name, "src", "specs", "proofs"), *tree.edits(name, self.kind), *below])
 
     def entries(self):
         """Each entry, as its crate, the sum of its text, and the version."""
@@ -133,7 +139,7 @@ class Record:
         having = self.having()
         names = {("--all",): having, ("--missing",): self.lacking()}.get(tuple(words), words)
         if not words or set(names) - set(having):
-            print(f"name crates that have {self.kind}/, or --all: {', '.join(having)}", file=sys.stderr)
+            print(f"name crates that have {self.kind}, or --all: {', '.join(having)}", file=sys.stderr)
             raise SystemExit(2)
         return names
 

@@ -24,6 +24,8 @@ USE = re.compile(r"^\s*(?:ghost |pub )?use Rattle\.(\w+)\.specs\.(\w+)(?:\.\{([^
 WORD = re.compile(r"[^\s(){}\[\],;.]+(?:\.[^\s(){}\[\],;.]+)*")
 # The head of a public definition of specs/.
 DEFINITION = re.compile(r"(?:abbrev |unfoldable )?pub (?:record |data )?(\S+) ")
+# An edit in a file of several: its name, and its lines.
+EDIT = re.compile(r"edit: (\w+)\n((?:(?:file|old|new|law|definition|twin):.*\n)+)\n*")
 
 
 @dataclass(frozen=True)
@@ -41,6 +43,31 @@ class Function:
     @property
     def called(self):
         return f"{self.type}::{self.name}" if self.type else self.name
+
+
+@dataclass(frozen=True)
+class Edit:
+    """A wrong body of a crate, the twin of one, or a wrong definition."""
+
+    crate: str
+    kind: str
+    name: str
+    text: str
+
+    @property
+    def place(self):
+        return f"crates/{self.crate}/" + (f"must-fail/{self.name}.edit" if self.kind == "must-fail" else f"{self.kind}.edits: {self.name}")
+
+    def changes(self):
+        """Each change: the file, the old text and the new one."""
+        file, old = "", ""
+        for line in self.text.splitlines():
+            if line.startswith("file: "):
+                file = line[6:].strip()
+            elif line.startswith("old: "):
+                old = line[5:]
+            elif line.startswith("new:"):
+                yield file, old, line[4:].removeprefix(" ")
 
 
 def relative(path):
@@ -143,27 +170,23 @@ def cited(text, local, alias):
 
 
 def edits(name, kind="must-fail"):
-    """The wrong bodies of a crate, or their twins, as files."""
-    return sorted((folder(name) / kind).glob("*.edit"))
+    """The edits of a crate by their names: the wrong bodies, which `rt` reads as a file each, or those of a file crates/NAME/KIND.edits."""
+    files, file = folder(name) / kind, folder(name) / f"{kind}.edits"
+    its, text, end = [(it.stem, it.read_text()) for it in files.glob("*.edit")], file.read_text() if file.exists() else "", 0
+    if kind != "must-fail" and its:
+        raise SystemExit(f"{relative(files)}: its edits belong into {relative(file)}, each below a line `edit: NAME`")
+    while (found := EDIT.match(text, end)) and found[1] not in dict(its):
+        its, end = [*its, found.groups()], found.end()
+    if end < len(text):
+        raise SystemExit(f"{relative(file)}:{text.count(chr(10), 0, end) + 1}: not an edit, or one whose name an earlier one has")
+    return [Edit(name, kind, *it) for it in sorted(its)]
 
 
-def changes(path):
-    """The changes of an edit, each as the file, the old text and the new one."""
-    file, old = "", ""
-    for line in path.read_text().splitlines():
-        if line.startswith("file: "):
-            file = line[6:].strip()
-        elif line.startswith("old: "):
-            old = line[5:]
-        elif line.startswith("new:"):
-            yield file, old, line[4:].removeprefix(" ")
-
-
-def edited(crate, texts, path):
+def edited(texts, edit):
     """The texts of a crate's files with one more edit, or None if one of its old texts isn't there exactly once."""
     texts = dict(texts)
-    for file, old, new in changes(path):
-        text = texts.get(file) or (crate / file).read_text()
+    for file, old, new in edit.changes():
+        text = texts.get(file) or (folder(edit.crate) / file).read_text()
         if text.count(old) != 1:
             return None
         texts[file] = text.replace(old, new)

@@ -15,14 +15,14 @@ def proved_twins():
     return record.Record("proved-twins", "twins")
 
 
-def together(crate, paths):
+def together(edits):
     """As many of these edits as fit together, as texts of the crate's files, and the edits left over."""
     texts, left = {}, []
-    for path in paths:
-        more = tree.edited(crate, texts, path)
-        if more is None and tree.edited(crate, {}, path) is None:
-            raise SystemExit(f"{tree.relative(path)} changes a text that doesn't stand there exactly once")
-        texts, left = (texts, [*left, path]) if more is None else (more, left)
+    for it in edits:
+        more = tree.edited(texts, it)
+        if more is None and tree.edited({}, it) is None:
+            raise SystemExit(f"{it.place} changes a text that doesn't stand there exactly once")
+        texts, left = (texts, [*left, it]) if more is None else (more, left)
     return texts, left
 
 
@@ -41,8 +41,8 @@ def are_proved(room, name):
     """Whether all twins of a crate are proved in copies of it."""
     left = tree.edits(name, "twins")
     while left:
-        texts, behind = together(tree.folder(name), left)
-        names = [it.stem for it in left if it not in behind]
+        texts, behind = together(left)
+        names = [it.name for it in left if it not in behind]
         well, said = checked(room / "crates" / name, texts)
         if not well:
             print("\n".join(it for it in said.splitlines() if UNPROVED.search(it)))
@@ -57,12 +57,12 @@ def check():
     """Whether each twin has its edit. Names the edits without a twin, and the crates without an entry, which the gate proves later."""
     book = proved_twins()
     names = {(name, kind): {it.name for it in tree.edits(name, kind)} for name in book.used for kind in ("twins", "must-fail")}
-    alone = [f"crates/{name}/twins/{it} is the twin of no edit" for name in book.used for it in sorted(names[name, "twins"] - names[name, "must-fail"])]
+    alone = [f"crates/{name}/twins.edits: {it} is the twin of no edit" for name in book.used for it in sorted(names[name, "twins"] - names[name, "must-fail"])]
     if alone:
         return tree.verdict(alone, "")
     for name in book.used:
         for it in sorted(names[name, "must-fail"] - names[name, "twins"]):
-            print(f"crates/{name}/must-fail/{it} has no twin")
+            print(f"crates/{name}/must-fail/{it}.edit has no twin")
     book.tell("wrong bodies have a twin that was proved", "prove: the twins of")
     return 0
 

@@ -17,7 +17,7 @@ from gate import gallery, record, tree, twins
 ALWAYS = ("uses",)
 # An edit that is refused, and the goal that is left open: at an answer, or at code without an answer.
 REFUSED = re.compile(
-    r"rt: must-fail (\w+)/([\w.-]+): refused, as it must be(?!.*says little of the contract)(?:.*?(?:\d: error: `|\(`)([\w-]+)`)?"
+    r"rt: must-fail (\w+)/(\w+)\.edit: refused, as it must be(?!.*says little of the contract)(?:.*?(?:\d: error: `|\(`)([\w-]+)`)?"
 )
 
 
@@ -55,9 +55,9 @@ def put_aside():
     that refused them."""
     put_back()
     book = refused()
-    misfits = [it for name in book.used for it in tree.edits(name) if tree.edited(tree.folder(name), {}, it) is None]
+    misfits = [it for name in book.used for it in tree.edits(name) if tree.edited({}, it) is None]
     if misfits:
-        return tree.verdict((f"{tree.relative(it)} changes a text that isn't there exactly once" for it in misfits), "")
+        return tree.verdict((f"{it.place} changes a text that isn't there exactly once" for it in misfits), "")
     if not (tree.TOP / ".git").is_dir():
         return 0
     # An empty folder also says that a run has begun.

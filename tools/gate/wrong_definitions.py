@@ -23,19 +23,19 @@ WORD = re.compile(r"[^\s(){}\[\],;.]+")
 DEFINED = re.compile(r"^(?:(?:abbrev |unfoldable )?(?:pub )?(?:record |data )?|  )([^\s:(){}]+)(?= [:({])", re.M)
 
 
-def edit_of(path):
+def wrong_definition(edit):
     """A wrong definition: its crate and name, the law and the clause that refuse it, the law's crate, modules and function, and the definition
     with its text, a wrong one and a right one."""
-    fields = dict(line.split(": ", 1) for line in path.read_text().splitlines())
+    fields = dict(line.split(": ", 1) for line in edit.text.splitlines())
     law, clause = fields.pop("law").split()
     home, *modules, function = law.split("::")
-    its = {"crate": path.parent.parent.name, "name": path.stem, "law": law, "clause": clause, "home": home, "modules": modules, "function": function}
+    its = {"crate": edit.crate, "name": edit.name, "place": edit.place, "law": law, "clause": clause, "home": home, "modules": modules, "function": function}
     return SimpleNamespace(**its, **fields)
 
 
 def edits(name):
     """The wrong definitions of a crate."""
-    return [edit_of(path) for path in tree.edits(name, "wrong-definitions")]
+    return [wrong_definition(it) for it in tree.edits(name, "wrong-definitions")]
 
 
 def sources(used):
@@ -68,11 +68,10 @@ def law_of(edit):
 def misfits(all_edits, texts):
     """What is wrong with these edits."""
     for it in all_edits:
-        path = f"crates/{it.crate}/wrong-definitions/{it.name}.edit"
         if place_of(it, texts) is None:
-            yield f"{path} changes a text that isn't in {it.definition} of {it.crate} exactly once"
+            yield f"{it.place} changes a text that isn't in {it.definition} of {it.crate} exactly once"
         if law_of(it) is None:
-            yield f"{path} names {it.law} {it.clause}, which is no clause of a law"
+            yield f"{it.place} names {it.law} {it.clause}, which is no clause of a law"
 
 
 def between(text, target, texts):
@@ -208,13 +207,12 @@ class Refused(record.Record):
         """A sum of the text that the refusals of a crate depend on: its edits, the definitions that a law reads, and the laws."""
         named = {it.law: it for it in edits(name)}
         specs = sorted({name, *tree.below(name, self.used), *(it.home for it in named.values())})
-        folders = [f"crates/{name}/{self.kind}", *(f"crates/{it}/specs" for it in specs)]
-        files = []
+        files = [path for it in specs for path in record.files_of(it, "specs")]
         for it in named.values():
             crate = tree.folder(it.home)
             files += [crate.joinpath("src", *it.modules).with_suffix(".rt"), *sorted(crate.glob("proofs/*.antt"))]
             files += crate.joinpath("proofs", *it.modules, it.function).glob("*.antt")
-        return record.sum_of_files(folders, files)
+        return record.sum_of([*tree.edits(name, self.kind), *files])
 
 
 def main(words):

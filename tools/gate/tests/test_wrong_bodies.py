@@ -68,7 +68,7 @@ class Refused(Small):
         (self.top / ".git").mkdir()
         for name in ("uses", "low", "high"):
             self.write(f"crates/{name}/src/lib.rt", f"// {name}\n")
-            self.edit(name, f"must-fail/{name}_errs.edit")
+            self.edit(name, f"{name}_errs")
         self.version(OLD)
         self.run_main(wrong_bodies, "--all")
 
@@ -148,7 +148,7 @@ class Refused(Small):
             self.assertEqual(self.gate()[1], ["low", "uses"], old)
 
     def test_an_edit_has_to_fit_its_file(self):
-        self.edit("low", "must-fail/low_errs.edit", ("// low", "// high"))
+        self.edit("low", "low_errs", ("// low", "// high"))
         self.run_main(wrong_bodies, "low")
         self.run_main(wrong_bodies, "--aside")
         self.run_main(wrong_bodies, "--back")

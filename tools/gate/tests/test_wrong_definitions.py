@@ -54,8 +54,8 @@ class WrongDefinitions(Small):
         self.wrong("WRONG")
 
     def wrong(self, new, twin="also_right", law="laws::numbers::small held", old="right"):
-        text = f"law: {law}\ndefinition: number\nold: {old}\nnew: {new}\ntwin: {twin}\n"
-        self.write("crates/low/wrong-definitions/number_is_any.edit", text)
+        text = f"edit: number_is_any\nlaw: {law}\ndefinition: number\nold: {old}\nnew: {new}\ntwin: {twin}\n"
+        self.write("crates/low/wrong-definitions.edits", text)
 
     def run_here(self, *words, status=0):
         return self.run_main(wrong_definitions, *words, status=status)
