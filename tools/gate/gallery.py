@@ -5,7 +5,7 @@ import re
 from pathlib import Path
 
 from gate import tree
-from gate.sentences import beginning
+from gate.pages import beginning, differing
 
 
 def page_file():
@@ -50,7 +50,7 @@ def row(edit, twin, goals):
 
 
 def page(goals):
-    text = beginning(page_file())
+    text = beginning("docs/GALLERY.md")
     for name in tree.crates():
         if edits := tree.edits(name):
             text += f"## `{name}`\n\n| Misdeed | In | Change | Refused by the goals | Twin that is proved |\n|---|---|---|---|---|\n"
@@ -68,10 +68,8 @@ def put(refused):
 
 def main(words):
     made = page(goals_on_page())
-    if words == ["--write"]:
-        page_file().write_text(made)
-    elif page_file().read_text() != made:
-        return tree.verdict(["docs/GALLERY.md differs from the wrong bodies in must-fail/ and their twins: run .ci/gallery --write"], "")
+    if wrong := [*differing(words, "gallery", GALLERY=made)]:
+        return tree.verdict(wrong, "")
     rows = [line for line in made.splitlines() if line.startswith("| ") and not line.startswith("| Misdeed")]
     alone = sum(line.endswith(" | none |") for line in rows)
     print(f"docs/GALLERY.md has the {len(rows)} wrong bodies, {len(rows) - alone} of them with a twin")

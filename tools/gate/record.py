@@ -3,11 +3,11 @@ a sum of the text that the result depends on, and the version of the toolchain t
 
 import hashlib
 import os
-import queue
 import re
 import subprocess
 import sys
 import tempfile
+import threading
 from concurrent.futures import ThreadPoolExecutor
 from pathlib import Path
 
@@ -81,22 +81,14 @@ def sum_of(parts):
 def in_copies(names, work):
     """What `work` returns for each of these crates, given a folder with a copy of it: with as many crates at a time as there are pairs
     of processors, each in a copy of its own, since a check locks the crates below."""
-    at_once = max(1, min(len(names), len(os.sched_getaffinity(0)) // 2))
-    with tempfile.TemporaryDirectory(prefix="gate-") as top, ThreadPoolExecutor(at_once) as pool:
-        rooms = queue.Queue()
-        for room in (Path(top) / str(number) for number in range(at_once)):
-            room.mkdir()
-            tree.copy_to(room, names, tree.crates())
-            rooms.put(room)
+    here, at_once = threading.local(), max(1, len(os.sched_getaffinity(0)) // 2)
 
-        def worked(name):
-            room = rooms.get()
-            try:
-                return work(room, name)
-            finally:
-                rooms.put(room)
+    def enter():
+        here.room = Path(tempfile.mkdtemp(dir=top))
+        tree.copy_to(here.room, names, tree.crates())
 
-        yield from pool.map(worked, names)
+    with tempfile.TemporaryDirectory(prefix="gate-") as top, ThreadPoolExecutor(at_once, initializer=enter) as pool:
+        yield from pool.map(lambda name: work(here.room, name), names)
 
 
 class Record:
@@ -129,10 +121,11 @@ class Record:
         return [name for name, its in self.versions().items() if not its]
 
     def tell(self, said, still):
-        """Prints how many edits have an entry, and the crates that lack one."""
+        """Prints how many edits have an entry, and the crates that lack one. Returns 0."""
         lacking = self.lacking()
         print(f"{sum(len(tree.edits(name, self.kind)) for name in self.having() if name not in lacking)} {said} on the present text")
         print(f"still to {still} {', '.join(lacking)}\n" if lacking else "", end="")
+        return 0
 
     def asked(self, words):
         """The crates that words ask for: those named, all that have edits of this kind, or those without an entry."""
@@ -142,6 +135,12 @@ class Record:
             print(f"name crates that have {self.kind}, or --all: {', '.join(having)}", file=sys.stderr)
             raise SystemExit(2)
         return names
+
+    def main(self, words, work, fault):
+        """Records what `work` says of the crates that words ask for: of each whether all was well."""
+        names = self.asked(words)
+        sums = [self.sum_of(name) for name in names]
+        return max((self.note([its], fault) for its in zip(names, sums, work(names))), default=0)
 
     def note(self, tried, fault):
         """Records this version's results: for each crate that it tried, the sum of the text and whether all was well. Returns 1 if it wasn't

@@ -4,6 +4,7 @@ import re
 import shutil
 import subprocess
 import sys
+from collections import namedtuple
 from dataclasses import dataclass
 from functools import cache
 from pathlib import Path
@@ -22,8 +23,13 @@ WITHIN = re.compile(r"((?:\w+\.)*)(\S.*)")
 # How a file imports definitions: several of a module, one of it, or the module under another name.
 USE = re.compile(r"^\s*(?:ghost |pub )?use Rattle\.(\w+)\.specs\.(\w+)(?:\.\{([^}]*)\}|\.(\S+?))?(?: as (\w+))?;?\s*$", re.M)
 WORD = re.compile(r"[^\s(){}\[\],;.]+(?:\.[^\s(){}\[\],;.]+)*")
-# The head of a public definition of specs/.
-DEFINITION = re.compile(r"(?:abbrev |unfoldable )?pub (?:record |data )?(\S+) ")
+# A public definition of specs/ and a type of src/, each with the comment above it.
+DEFINITION = re.compile(
+    r"(?P<comment>(?:^--.*\n)*)(?:^infix.*\n)*^(?P<head>(?!pub mod|pub use)(?:abbrev |unfoldable )?pub (?:record |data )?(?P<name>\S+) )", re.M
+)
+TYPE = re.compile(r"(?P<comment>(?:^///.*\n)*)(?:^#\[.*\n)*^pub (?:struct|enum|trait) (?P<name>\w+)", re.M)
+# A clause with the comment above it, or a proof in the code.
+CLAUSE = re.compile(r"(?P<comment>(?:^ *//(?!/).*\n)*)^\s*(?:pub )?(?P<kind>requires|ensures|ghost)\b(?! use )(?P<label>[^{;]*)\{|\bby \{", re.M)
 # An edit in a file of several: its name, and its lines.
 EDIT = re.compile(r"edit: (\w+)\n((?:(?:file|old|new|law|definition|twin):.*\n)+)\n*")
 
@@ -68,6 +74,9 @@ class Edit:
                 old = line[5:]
             elif line.startswith("new:"):
                 yield file, old, line[4:].removeprefix(" ")
+
+
+Definition = namedtuple("Definition", "sentence text names")
 
 
 def relative(path):
@@ -125,13 +134,34 @@ def function_at(text, place):
     return next((it for it in functions(text) if it.start <= place <= it.end), None)
 
 
-def inside(text, at):
-    """The text between the brace that ends at a place and the one that closes it."""
-    depth, end = 1, at
-    while depth and end < len(text):
-        depth += {"{": 1, "}": -1}.get(text[end], 0)
-        end += 1
-    return text[at:end]
+@dataclass(frozen=True)
+class Clause:
+    """A clause of a file, or a proof in its code, which has no kind: its places, its label, the comment above it, and its text."""
+
+    start: int
+    end: int
+    kind: str
+    label: str
+    comment: str
+    text: str
+
+
+@cache
+def clauses(text):
+    """The clauses of a file and the proofs in its code, in their order."""
+    found = []
+    for it in CLAUSE.finditer(text):
+        depth, end = 1, it.end()
+        while depth and end < len(text):
+            depth += {"{": 1, "}": -1}.get(text[end], 0)
+            end += 1
+        found.append(Clause(it.start(), end, it["kind"], (it["label"] or "").strip(), it["comment"] or "", text[it.end() : end - 1]))
+    return found
+
+
+def head_clauses(text, function):
+    """The clauses of a function."""
+    return [it for it in clauses(text) if it.kind in ("requires", "ensures") and function.start <= it.start < function.body]
 
 
 def by_module(text):
@@ -160,13 +190,46 @@ def imports(text):
 
 
 def cited(text, local, alias):
-    """The definitions that a text names."""
+    """The definitions that a text names, in the order of their places."""
+    found = {}
     for word in WORD.findall(text):
         head, _, rest = word.partition(".")
         if head in local:
-            yield local[head]
+            found[local[head]] = None
         if head in alias and rest:
-            yield *alias[head], rest.split(".")[0]
+            found[*alias[head], rest.split(".")[0]] = None
+    return found
+
+
+def sentence(comment):
+    """A comment as sentences: with a capital and a full stop."""
+    text = " ".join(filter(None, (line.strip().lstrip("/-").strip() for line in comment.splitlines())))
+    return text and text[0].upper() + text[1:] + ("" if text.endswith((".", ":")) else ".")
+
+
+def definitions(crate):
+    """The definitions of a crate's specs/, each by its crate, module and name: its sentence, its text, and the definitions that it names."""
+    found = {}
+    for path in sorted(folder(crate).glob("specs/*.antt")):
+        text = path.read_text()
+        local, alias = imports(text)
+        its = [*DEFINITION.finditer(text)]
+        local |= {it["name"]: (crate, path.stem, it["name"]) for it in its}
+        for it, end in zip(its, [*(it.start("head") for it in its[1:]), len(text)]):
+            its_text = text[it.start("head") : end]
+            found[local[it["name"]]] = Definition(sentence(it["comment"]), its_text, cited(its_text, local, alias))
+    return found
+
+
+def reached(found, names):
+    """The things that are among these, or that these name directly or through others."""
+    found, left = set(), list(found)
+    while left:
+        it = left.pop()
+        if it not in found:
+            found.add(it)
+            left += names.get(it, ())
+    return found
 
 
 def edits(name, kind="must-fail"):
@@ -203,12 +266,19 @@ def copy_to(room, names, used):
         shutil.copytree(folder(name), room / "crates" / name, ignore=left_out)
 
 
-def said_by(folder, *command):
-    """The status of a command that runs in a folder, and what it prints."""
-    run = subprocess.run(
-        command, cwd=folder, stdin=subprocess.DEVNULL, stdout=subprocess.PIPE, stderr=subprocess.STDOUT, text=True, errors="replace", check=False
-    )
-    return run.returncode, run.stdout
+def said_by(folder, *command, shown=False):
+    """The status of a command that runs in a folder, and what it prints. It is also printed here if it is to be shown."""
+    said = ""
+    errors = None if shown else subprocess.STDOUT
+    with subprocess.Popen(command, cwd=folder, stdin=subprocess.DEVNULL, stdout=subprocess.PIPE, stderr=errors, text=True, errors="replace") as run:
+        try:
+            for line in run.stdout:
+                print(line if shown else "", end="", flush=True)
+                said += line
+        except BaseException:
+            run.terminate()
+            raise
+    return run.returncode, said
 
 
 def verdict(wrong, well):

@@ -1,7 +1,7 @@
 """twins CRATE.. | --all | --missing: shows that this machine's toolchain proves the twins of the wrong bodies of these crates, of
 all crates, or of those without an entry. The twins of a crate that change different places are put into one copy of it, which has to be proved
 as it is; those that change the same place are put into further copies. For each crate whose copies are all proved .ci/proved-twins gets an
-entry. `twins --check` fails if a twin has no edit, and names the edits without a twin and the crates without an entry."""
+entry. `twins --check` fails if a wrong body has no twin or a twin has no wrong body, and names the crates without an entry."""
 
 import re
 
@@ -9,10 +9,6 @@ from gate import record, tree
 
 # What a check prints for a goal that it doesn't prove, and for a text that it can't read.
 UNPROVED = re.compile(r": error|\berror\[|it is not proved|^logic=not")
-
-
-def proved_twins():
-    return record.Record("proved-twins", "twins")
 
 
 def together(edits):
@@ -53,26 +49,17 @@ def are_proved(room, name):
     return True
 
 
-def check():
-    """Whether each twin has its edit. Names the edits without a twin, and the crates without an entry, which the gate proves later."""
-    book = proved_twins()
-    names = {(name, kind): {it.name for it in tree.edits(name, kind)} for name in book.used for kind in ("twins", "must-fail")}
-    alone = [f"crates/{name}/twins.edits: {it} is the twin of no edit" for name in book.used for it in sorted(names[name, "twins"] - names[name, "must-fail"])]
-    if alone:
-        return tree.verdict(alone, "")
+def check(book):
+    """Names the wrong bodies without a twin, the twins of none, and the crates without an entry, which the gate proves later."""
+    wrong = []
     for name in book.used:
-        for it in sorted(names[name, "must-fail"] - names[name, "twins"]):
-            print(f"crates/{name}/must-fail/{it}.edit has no twin")
-    book.tell("wrong bodies have a twin that was proved", "prove: the twins of")
-    return 0
+        bodies, twins = ({it.name: it.place for it in tree.edits(name, kind)} for kind in ("must-fail", "twins"))
+        wrong += [f"{bodies[it]} has no twin" if it in bodies else f"{twins[it]} is the twin of no edit" for it in sorted(bodies.keys() ^ twins.keys())]
+    return tree.verdict(wrong, "") if wrong else book.tell("wrong bodies have a twin that was proved", "prove: the twins of")
 
 
 def main(words):
+    book = record.Record("proved-twins", "twins")
     if words == ["--check"]:
-        return check()
-    book, status = proved_twins(), 0
-    names = book.asked(words)
-    texts = [(name, book.sum_of(name)) for name in names]
-    for (name, text), well in zip(texts, record.in_copies(names, are_proved)):
-        status |= book.note([(name, text, well)], "twins of {} were not proved")
-    return status
+        return check(book)
+    return book.main(words, lambda names: record.in_copies(names, are_proved), "twins of {} were not proved")

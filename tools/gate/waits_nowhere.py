@@ -9,7 +9,7 @@ import re
 from collections import Counter
 from functools import cache, partial
 
-from gate import laws, tree
+from gate import tree
 
 CRATES = ("geometry", "flash_rule", "flash_table", "host", "broom", "erase_queue", "volume", "handles", "exports")
 # Each loop, as its file, its function, its head with the values that its bound has there, and why it ends after a number of turns that no
@@ -84,9 +84,8 @@ def code_of(text):
         return re.sub(r"[^\n]", " ", found[0])
 
     text = NO_CODE.sub(blank, text)
-    for clause in (it for it in laws.CLAUSE.finditer(text) if not re.search(r"\bfn\b", it[0])):
-        end = clause.end() + len(tree.inside(text, clause.end()))
-        text = text[: clause.start()] + re.sub(r"[^\n]", " ", text[clause.start() : end]) + text[end:]
+    for it in (it for it in tree.clauses(text) if not re.search(r"\bfn\b", it.label)):
+        text = text[: it.start] + re.sub(r"[^\n]", " ", text[it.start : it.end]) + text[it.end :]
     return text
 
 
@@ -200,7 +199,7 @@ def wrong_cycles(files):
         for path, name, macro, place in calls(file.code):
             if (owner := file.owner(place)) and not macro:
                 steps.setdefault((file.name, owner.called), set()).update((other.name, it.called) for other, it in callees(file, place, path, name, files))
-    yield from (f"crates/{start[0]}: {start[1]} calls itself" for start in steps if start in laws.reached(steps[start], steps))
+    yield from (f"crates/{start[0]}: {start[1]} calls itself" for start in steps if start in tree.reached(steps[start], steps))
 
 
 def main(_):

@@ -14,7 +14,7 @@ import tempfile
 from pathlib import Path
 from types import SimpleNamespace
 
-from gate import laws, record, tree
+from gate import record, tree
 
 # How a text names a file of specs/ or proofs/: by its crate, its folder and its name.
 NAMED = re.compile(r"\bRattle\.(\w+)\.(specs|proofs)\.(\w+)")
@@ -81,7 +81,7 @@ def between(text, target, texts):
     for it, others in names.items():
         for other in others:
             users.setdefault(other, set()).add(it)
-    return laws.reached(set(NAMED.findall(text)) & texts.keys(), names) & laws.reached([target], users)
+    return tree.reached(set(NAMED.findall(text)) & texts.keys(), names) & tree.reached([target], users)
 
 
 def part_of(text, wanted):
@@ -124,25 +124,17 @@ def put_copy(room, edit, tag, new, texts):
         (folder / "Answers.antt").write_text(redirected(own))
 
 
-def prover():
-    """The module behind the rt command, which knows how the prover is called with the crates below as sources."""
-    loader = importlib.machinery.SourceFileLoader("rt_main", str(Path(shutil.which("rt") or "rt").resolve()))
-    rt = importlib.util.module_from_spec(importlib.util.spec_from_loader("rt_main", loader))
-    sys.modules["rt_main"] = rt
-    loader.exec_module(rt)
-    if not hasattr(getattr(rt, "rtlib", None), "crates_below"):
-        raise SystemExit("wrong-definitions needs the toolchain's rt on the path, with its module rtlib beside it")
-    return rt.rtlib
-
-
 def checked(room, name):
-    """What the prover prints of the copied laws of a crate."""
-    rtlib = prover()
-    crate = {it.name: it for it in rtlib.crates_below(str(room))}[name]
+    """What the prover prints of the copied laws of a crate: the module behind the rt command knows how it is called with the crates below as
+    sources."""
+    loader = importlib.machinery.SourceFileLoader("rtlib", str(Path(shutil.which("rt") or "rt").resolve().with_name("rtlib.py")))
     try:
+        rtlib = importlib.util.module_from_spec(importlib.util.spec_from_loader("rtlib", loader))
+        loader.exec_module(rtlib)
+        crate = next(it for it in rtlib.crates_below(str(room)) if it.name == name)
         words = [*crate.words(["--jobs", "1"], keeps=False, as_source=True), "--only", f"{name}::wrong"]
-    except TypeError as error:
-        raise SystemExit(f"wrong-definitions needs an rt that can give the prover the crates below as sources: {error}") from error
+    except (OSError, AttributeError, TypeError) as error:
+        raise SystemExit(f"wrong-definitions needs the toolchain's rt on the path, with a rtlib beside it that gives crates as sources: {error}") from error
     return tree.said_by(crate.folder, rtlib.RATTLE, "check", *words)[1]
 
 
@@ -184,10 +176,9 @@ def fault_of(edit, wrong, twin, said):
     return ""
 
 
-def faulty(names, used):
-    """The crates of these that have an edit that isn't refused as it has to be. Prints each edit."""
-    lost = set()
-    every = [it for name in names for it in edits(name)]
+def refused(names, used):
+    """Of each of these crates whether its edits are refused as they have to be. Prints each edit."""
+    lost, every = set(), [it for name in names for it in edits(name)]
     for home in sorted({it.home for it in every}):
         mine = [it for it in every if it.home == home]
         said = said_by(mine, used)
@@ -197,7 +188,7 @@ def faulty(names, used):
             lost |= {it.crate} if fault else set()
         if not re.search(r"^only=\d+ ", said, re.M):
             print(said[-2000:])
-    return lost
+    return [name not in lost for name in names]
 
 
 class Refused(record.Record):
@@ -220,9 +211,5 @@ def main(words):
     if wrong := list(misfits([it for name in book.having() for it in edits(name)], sources(book.used))):
         return tree.verdict(wrong, "")
     if words == ["--check"]:
-        book.tell("wrong definitions were refused", "try: those of")
-        return 0
-    names = book.asked(words)
-    sums = {name: book.sum_of(name) for name in names}
-    lost = faulty(names, book.used)
-    return book.note([(name, mine, name not in lost) for name, mine in sums.items()], "wrong definitions of {} were not refused")
+        return book.tell("wrong definitions were refused", "try: those of")
+    return book.main(words, lambda names: refused(names, book.used), "wrong definitions of {} were not refused")

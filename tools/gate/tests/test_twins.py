@@ -53,7 +53,7 @@ class Twins(Small):
         self.assertIn("is the twin of no edit", self.run_main(twins, "--check", status=1))
         self.twins("high")
         self.edit("low", "two", ("second", "WRONG"))
-        self.assertIn("low/must-fail/two.edit has no twin", self.run_main(twins, "--check"))
+        self.assertIn("low/must-fail/two.edit has no twin", self.run_main(twins, "--check", status=1))
 
     def test_an_edit_counts_for_itself_wherever_it_stands(self):
         self.twins("low", ("one", ("first", "FIRST")), ("two", ("second", "SECOND")))
@@ -62,8 +62,8 @@ class Twins(Small):
         self.twins("low", ("two", ("second", "SECOND")), ("one", ("first", "FIRST")))
         self.assertNotIn("still to prove", self.run_main(twins, "--check"))
         for name, new in (("two", "2nd"), ("three", "SECOND")):
+            (self.top / "crates/low/must-fail/two.edit").rename(self.top / f"crates/low/must-fail/{name}.edit")
             self.twins("low", ("one", ("first", "FIRST")), (name, ("second", new)))
-            self.edit("low", name, ("second", "WRONG"))
             self.assertIn("still to prove: the twins of low", self.run_main(twins, "--check"))
 
     def test_a_file_of_edits_has_nothing_else(self):
