@@ -19,17 +19,19 @@ LONGEST = 200
 COMMENT = re.compile(r"((?:^ *///.*\n)*)(?:^ *#\[.*\n)*\Z", re.M)
 
 
-def public(crate):
-    """The public functions of a crate, each with its file and the file's text."""
+def exported(crate):
+    """The names that a crate's root file exports, and its public modules."""
     root = tree.folder(crate) / "src/lib.rt"
     text = root.read_text() if root.exists() else ""
-    named = {word for items in re.findall(r"pub use (.*?);", text, re.S) for word in re.findall(r"\w+", items)}
-    open_modules = re.findall(r"^pub mod (\w+);", text, re.M)
-    for path in tree.sources(crate):
-        text = path.read_text()
-        for it in tree.functions(text):
-            if it.public and (path == root or (it.type or it.name) in named or path.stem in open_modules):
-                yield it, path, text
+    return set(re.findall(r"\w+", " ".join(re.findall(r"pub use ([^;]*);", text)))), re.findall(r"^pub mod (\w+);", text, re.M)
+
+
+def public(crate):
+    """The public functions of a crate, each with its file and the file's text."""
+    names, modules = exported(crate)
+    for path, text in ((path, path.read_text()) for path in tree.sources(crate)):
+        is_open = path.stem in modules or path == tree.folder(crate) / "src/lib.rt"
+        yield from ((it, path, text) for it in tree.functions(text) if it.public and (is_open or (it.type or it.name) in names))
 
 
 def meaning(it, known, told, within=True):

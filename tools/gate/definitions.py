@@ -21,15 +21,6 @@ def table(rows, kind="Definition"):
     return f"| {kind} | In one sentence |\n|---|---|\n{cells}\n"
 
 
-def cited(names):
-    """The definitions that promises name, and those that any clause names, directly or through other definitions."""
-    promises, all_clauses = set(), set()
-    for clause, _, named in (it for crate in tree.crates() for path in tree.sources(crate) for it in laws.named_by(path)):
-        all_clauses |= named.keys()
-        promises |= named.keys() if clause.kind != "requires" else set()
-    return tree.reached(promises, names), tree.reached(all_clauses, names)
-
-
 def modules(crate):
     """The files of specs/ in the order of Lib.antt, each with whether it is internal."""
     internal = False
@@ -42,7 +33,7 @@ def modules(crate):
 
 def handed_out(crate):
     """The types that a crate's root file exports, with their sentences."""
-    names = set(re.findall(r"\w+", " ".join(re.findall(r"pub use [^;]*;", (tree.folder(crate) / "src/lib.rt").read_text()))))
+    names, _ = calls.exported(crate)
     types = (it for path in tree.sources(crate) for it in tree.TYPE.finditer(path.read_text()))
     return [(it["name"], tree.sentence(it["comment"])) for it in types if it["name"] in names]
 
@@ -67,15 +58,17 @@ def listed(names):
 
 def made(known):
     """The page, and what is wrong with the definitions."""
-    names, shown_as = {it: its.names for it, its in known.items()}, laws.shown_by_laws(known)
-    promised, everywhere = cited(names)
+    names, clauses = {it: its.names for it, its in known.items()}, list(laws.named_by_clauses())
+    shown_as = laws.shown_by_laws(known, clauses)
+    # What promises name, and what any clause names, directly or through other definitions.
+    promised, everywhere = (tree.reached(set().union(*(it.names for it in clauses if it.kind != kind)), names) for kind in ("requires", ""))
     premises = [it for it in names if it in everywhere - promised]
     crates = [name for name in tree.crates() if (tree.folder(name) / "specs/Lib.antt").exists()]
     about = SHOWN.format(listed(premises), listed(it for it in names if it not in everywhere), laws.counted(shown_as))
     page = beginning("docs/DEFINITIONS.md") + about + "".join(part(name, known) for name in crates).rstrip("\n") + "\n"
     bare = [f"crates/{crate}/specs/{module}.antt: {name}" for (crate, module, name), its in known.items() if not its.sentence]
     bare += [f"crates/{crate}: {name}" for crate in crates for name, sentence in handed_out(crate) if not sentence]
-    return page, [*(f"{it} has no sentence above it" for it in bare), *laws.idle(premises, names), *laws.without(shown_as)]
+    return page, [*(f"{it} has no sentence above it" for it in bare), *laws.idle(premises, names, clauses), *laws.without(shown_as)]
 
 
 def main(words):

@@ -1,6 +1,7 @@
 """How each definition that a public clause names is shown to say what its sentence says."""
 
 import re
+from collections import namedtuple
 
 from gate import tree
 
@@ -23,16 +24,17 @@ WITHOUT = {
 }
 
 
-def named_by(path):
-    """The clauses of a file, each with the function that it is of and the definitions that it names."""
-    text = path.read_text()
-    local, alias = tree.imports(text)
-    return [(it, tree.function_at(text, it.start), tree.cited(text[it.start : it.end], local, alias)) for it in tree.clauses(text)]
+Named = namedtuple("Named", "crate file kind function names")
 
 
-def is_public(function):
-    """Whether the clauses of a function, or those outside of all, are public: also those of a method of a trait or of its implementation."""
-    return not function or function.public or function.of_trait
+def named_by_clauses():
+    """Each clause of the crates: its crate and file, its kind, the function that it is of, and the definitions that it names."""
+    for crate in tree.crates():
+        for path in tree.sources(crate):
+            text = path.read_text()
+            local, alias = tree.imports(text)
+            for it in tree.clauses(text):
+                yield Named(crate, path.name, it.kind, tree.function_at(text, it.start), tree.cited(text[it.start : it.end], local, alias))
 
 
 def is_fact(text):
@@ -46,22 +48,20 @@ def is_fact(text):
     return text.startswith("pub ") or re.search(r"(?<!\S): (.*)", text)[1].startswith(("Coded ", "Type "))
 
 
-def shown_by_laws(known):
-    """How each definition that a public clause names is shown: its group, or "" if it has neither a law nor a caller."""
-    laws, public = set(), set()
-    for crate in tree.crates():
-        for path in tree.sources(crate):
-            if crate in LAWS or path.name == "laws.rt":
-                laws = laws.union(*(named for *_, named in named_by(path)))
-            elif crate not in CALLERS:
-                public = public.union(*(named for _, function, named in named_by(path) if is_public(function)))
-    names = {it: known[it].names for it in known}
+def shown_by_laws(known, clauses):
+    """How each definition that a public clause names is shown: its group, or "" if it has neither a law nor a caller. Public are the clauses of
+    a public function, of a method of a trait or of its implementation, and those outside of all functions."""
+    names = {it: its.names for it, its in known.items()}
+    of_laws = [it for it in clauses if it.crate in LAWS or it.file == "laws.rt"]
+    others = [it for it in clauses if it.crate not in (*LAWS, *CALLERS) and it.file != "laws.rt"]
+    public = set().union(*(it.names for it in others if not it.function or it.function.public or it.function.of_trait))
+    laws = set().union(*(it.names for it in of_laws))
     laws |= tree.reached((it for it in laws if it[0] in LAWS), {it: its for it, its in names.items() if it[0] in LAWS})
     through = tree.reached(laws, names)
     return {
         it: "named" if it in laws else "facts" if is_fact(its.text.strip()) else "reached" if it in through else ""
         for it, its in known.items() if it in public and it[0] not in (*LAWS, *CALLERS)
-    }
+    }  # fmt: skip
 
 
 def counted(shown):
@@ -86,13 +86,12 @@ def is_called(name, home, used):
     return any(call.search(path.read_text()) for it in used if it == home or home in tree.below(it, used) for path in tree.sources(it))
 
 
-def idle(premises, names):
+def idle(premises, names, clauses):
     """The definitions of these that only functions need that nobody calls."""
     needed, used = {}, tree.crates()
-    for crate, path in ((crate, path) for crate in used for path in tree.sources(crate)):
-        for clause, function, named in named_by(path):
-            for it in tree.reached(named, names) & set(premises) if clause.kind == "requires" else ():
-                needed.setdefault(it, set()).add((function.name, crate))
+    for clause in (it for it in clauses if it.kind == "requires"):
+        for it in tree.reached(clause.names, names) & set(premises):
+            needed.setdefault(it, set()).add((clause.function.name, clause.crate))
     for it in premises:
         if not any(is_called(name, crate, used) for name, crate in needed.get(it, ())):
             yield f"only premises name {it[2]} of {it[0]}, and no function that needs it is called"
