@@ -61,8 +61,10 @@ def of_edits(name):
 
 
 def is_needed(function, goal, needed):
-    """Whether a goal stays open without its answer. Of the clauses of an invariant the check may name the invariant alone."""
-    return bool({(function, goal), (function, goal.split("-clause-")[0])} & needed)
+    """Whether a goal stays open without its answer. Of the clauses of an invariant the check may name the invariant alone, and an answer to all
+    clauses of a contract is needed if one of them stays open."""
+    wholes = {(other, clause.split("-clause-")[0]) for other, clause in needed}
+    return bool({(function, goal), (function, goal.split("-clause-")[0])} & needed) or (function, goal) in wholes
 
 
 def cut(name, needed):
