@@ -1,10 +1,8 @@
 """check: proves, tests and tries everything that has to hold before a merge. The last line is `rt ci`'s count of what passed and failed.
 
-It begins with the checks of the sources and pages. Then `rt ci` proves everything, tries the wrong bodies of each crate that has no entry
-in .ci/refused for its present text, and runs the tests; the twins and the wrong definitions of changed crates follow. Then
-come the program, what the compiler has to refuse, the bench's programs, the tools, the examples, the program on a system that refuses
-memory and streams, the launcher, the bindings, the block device, the drivers for flash of Linux, images on machines that lose power, and, if
-CI=true, the package on a system without the toolchain.
+It begins with the checks of the sources and pages (BEFORE). Then `rt ci` proves everything, tries the wrong bodies of each crate that has no
+entry in .ci/refused for its present text, and runs the tests. The twins and the wrong definitions of changed crates follow, the program and
+the library (AFTER), and what is built from them (ROWS); if CI=true, also the package on a system without the toolchain.
 
 What the checks need of Debian is installed if CI=true. Otherwise what is missing is named, and nothing is begun."""
 

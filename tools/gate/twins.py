@@ -22,28 +22,21 @@ def together(edits):
     return texts, left
 
 
-def checked(crate, texts):
-    """Whether a copy of a crate is proved with these texts in place of its own, which are put back afterwards, and what the check printed."""
-    before = {file: (crate / file).read_text() for file in texts}
-    for file, text in texts.items():
-        (crate / file).write_text(text)
-    status, said = tree.said_by(crate, "rt", "check", "--jobs", "1")
-    for file, text in before.items():
-        (crate / file).write_text(text)
-    return status == 0, said
-
-
 def are_proved(room, name):
-    """Whether all twins of a crate are proved in copies of it."""
-    left = tree.edits(name, "twins")
+    """Whether all twins of a crate are proved in copies of it, by putting their texts in place of its own for a check."""
+    crate, left = room / "crates" / name, tree.edits(name, "twins")
     while left:
         texts, behind = together(left)
-        names = [it.name for it in left if it not in behind]
-        well, said = checked(room / "crates" / name, texts)
-        if not well:
+        before = {file: (crate / file).read_text() for file in texts}
+        for file, text in texts.items():
+            (crate / file).write_text(text)
+        status, said = tree.said_by(crate, "rt", "check", "--jobs", "1")
+        for file, text in before.items():
+            (crate / file).write_text(text)
+        if status:
             print("\n".join(it for it in said.splitlines() if UNPROVED.search(it)))
-        print(f"twins {name}: {'proved' if well else 'NOT PROVED'}: {', '.join(names)}", flush=True)
-        if not well:
+        print(f"twins {name}: {'NOT PROVED' if status else 'proved'}: {', '.join(it.name for it in left if it not in behind)}", flush=True)
+        if status:
             return False
         left = behind
     return True
