@@ -6,10 +6,9 @@ import os
 import re
 import subprocess
 import sys
-import tempfile
 import threading
 from concurrent.futures import ThreadPoolExecutor
-from pathlib import Path
+from contextlib import ExitStack
 
 from gate import tree
 
@@ -84,10 +83,9 @@ def in_copies(names, work):
     here, at_once = threading.local(), max(1, len(os.sched_getaffinity(0)) // 2)
 
     def enter():
-        here.room = Path(tempfile.mkdtemp(dir=top))
-        tree.copy_to(here.room, names, tree.crates())
+        here.room = rooms.enter_context(tree.copied(names))
 
-    with tempfile.TemporaryDirectory(prefix="gate-") as top, ThreadPoolExecutor(at_once, initializer=enter) as pool:
+    with ExitStack() as rooms, ThreadPoolExecutor(at_once, initializer=enter) as pool:
         yield from pool.map(lambda name: work(here.room, name), names)
 
 

@@ -5,9 +5,11 @@ import shutil
 import subprocess
 import sys
 from collections import namedtuple
+from contextlib import contextmanager
 from dataclasses import dataclass
 from functools import cache
 from pathlib import Path
+from tempfile import TemporaryDirectory
 
 TOP = Path(__file__).resolve().parents[2]
 # The parts of a file of Rattle that tell which functions it has: the end of an item, the type that methods are of, and a function.
@@ -256,14 +258,18 @@ def edited(texts, edit):
     return texts
 
 
-def copy_to(room, names, used):
-    """Copies these crates and those below them, with the edits of these crates alone, and with what earlier checks have proved."""
-    needed = set(names).union(*(below(it, used) for it in names))
-    shutil.copy(TOP / "HANDLES", room)
-    (room / "crates.txt").write_text("".join(f"{line}\n" for name, line in crate_lines().items() if name in needed))
-    for name in needed:
-        left_out = shutil.ignore_patterns(*([] if name in names else ["must-fail"]))
-        shutil.copytree(folder(name), room / "crates" / name, ignore=left_out)
+@contextmanager
+def copied(names):
+    """A folder with a copy of these crates and those below them, with the edits of these crates alone, and with what earlier checks have proved."""
+    used = crates()
+    with TemporaryDirectory(prefix="gate-") as room:
+        needed = set(names).union(*(below(it, used) for it in names))
+        shutil.copy(TOP / "HANDLES", room)
+        Path(room, "crates.txt").write_text("".join(f"{line}\n" for name, line in crate_lines().items() if name in needed))
+        for name in needed:
+            left_out = shutil.ignore_patterns(*([] if name in names else ["must-fail"]))
+            shutil.copytree(folder(name), Path(room, "crates", name), ignore=left_out)
+        yield Path(room)
 
 
 def said_by(folder, *command, shown=False):

@@ -7,8 +7,6 @@ import re
 import shutil
 import subprocess
 import sys
-import tempfile
-from pathlib import Path
 
 from gate import gallery, record, tree, twins
 
@@ -80,7 +78,6 @@ def main(words):
         put_back()
         return 0
     names = refused().asked(words)
-    with tempfile.TemporaryDirectory(prefix="wrong-bodies-") as room:
-        tree.copy_to(Path(room), names, tree.crates())
+    with tree.copied(names) as room:
         _, said = tree.said_by(room, "rt", "ci", shown=True)
     return note(names, set(REFUSED.findall(said))) | (twins.main(["--all"]) if words == ["--all"] else 0)

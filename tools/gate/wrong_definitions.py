@@ -8,7 +8,6 @@ without one, and fails if an edit doesn't fit its definition or names no law."""
 import importlib.util
 import re
 import shutil
-import tempfile
 from itertools import starmap
 from pathlib import Path
 
@@ -133,9 +132,8 @@ def said_by(all_edits, used):
     """What the prover prints of copies of the laws of these edits, which are in one crate. The module behind the rt command knows how it is called
     with the crates below as sources."""
     home = all_edits[0].home
-    with tempfile.TemporaryDirectory(prefix="wrong-definitions-") as top:
-        room, texts = Path(top), sources(used)
-        tree.copy_to(room, [home], used)
+    with tree.copied([home]) as room:
+        texts = sources(used)
         (room / "crates" / home / "src/wrong").mkdir()
         with (room / "crates" / home / "src/lib.rt").open("a") as lib:
             lib.write("mod wrong;\n")
@@ -146,7 +144,7 @@ def said_by(all_edits, used):
         try:
             rtlib = importlib.util.module_from_spec(spec)
             spec.loader.exec_module(rtlib)
-            crate = next(it for it in rtlib.crates_below(top) if it.name == home)
+            crate = next(it for it in rtlib.crates_below(str(room)) if it.name == home)
             words = [*crate.words(["--jobs", "1"], keeps=False, as_source=True), "--only", f"{home}::wrong"]
         except (OSError, AttributeError, TypeError) as error:
             raise SystemExit(f"wrong-definitions needs the toolchain's rt on the path, and a rtlib that gives crates as sources: {error}") from error
