@@ -1,4 +1,4 @@
-"""The repository as the checks read it: its crates, the functions of a file, what a file imports, and the edits of a crate."""
+"""The repository as the checks read it: its crates, the functions, clauses and imports of a file, and the definitions and edits of a crate."""
 
 import re
 import shutil
@@ -199,7 +199,7 @@ def cited(text, local, alias):
         if head in local:
             found[local[head]] = None
         if head in alias and rest:
-            found[*alias[head], rest.split(".")[0]] = None
+            found[(*alias[head], rest.split(".")[0])] = None
     return found
 
 
