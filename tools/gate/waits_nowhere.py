@@ -4,7 +4,7 @@ nothing by which it could wait for another thread that isn't listed here with a 
 word a few thousand million times, until another thread has changed it, meets every clause. This check takes each listed loop to run as its
 reason says, and doesn't see code that runs without a call, as the destructor of a value, or a function that calls itself through a trait
 of another crate. Two things it leaves to the toolchain: functions that call each other have `#[cycle]`, which is no listed call here; and a
-function that calls itself has a measure in a folder `+NAME`, unless it goes down a value of a type that contains itself."""
+function that calls itself has a measure in a folder `+NAME`, unless it goes down a value of a type that contains itself, which none may here."""
 
 import re
 from collections import Counter
@@ -70,6 +70,7 @@ NO_CODE = re.compile(r"""//[^\n]*|b?"(?:[^"\\]|\\.)*"|b?'(?:[^'\\\n]|\\[^\n]+?)'
 LOOP = re.compile(r"\b(?:for(?!<)|while|loop)\b[^\n{]*")
 # Texts in which a quote may begin or end something else than code_of takes it for.
 UNREADABLE = re.compile(r'/\*|\br#*"')
+TYPE = re.compile(r"\b(?:struct|enum) (\w+)\b([^;{(]*(?:\([^;]*;|\{.*?^\s*\}))", re.M | re.S)
 IMPL = re.compile(r"^(?:unsafe )?impl\b[^{\n]* for\b", re.M)
 CALL = re.compile(r"(?<!fn )(?<![\w.:#])((?:\w+::)+|)(\w+)(!?)(?:::<[^>()]*>)?(?:\(|(?<=!)[\[{ ])|\.(\w+)(?:::<[^>()]*>)?\(")
 # Words before a parenthesis that call nothing: of the language, and of attributes.
@@ -148,8 +149,10 @@ def wrong_calls(files):
 
 
 def wrong_cycles(files):
-    """The functions that call themselves by a path or on `self`, and those that have a measure."""
+    """The functions that call themselves by a path or on `self`, those that have a measure, and the types that contain themselves."""
     for file in files:
+        recursive = (name for name, text in TYPE.findall(file.code) if re.search(rf"\b(?:Self|{name})\b", text))
+        yield from (f"crates/{file.name}: {name} contains itself" for name in recursive)
         for path, name, macro, place in calls(file.code):
             owner = file.owner(place)
             if owner and owner.name == name and not macro:

@@ -39,6 +39,9 @@ SPINS = (
     (HOST, 'let one = 1; /* " */ loop {} /* " */', "can't read `/*`", 'let one = 1; // " */ loop {} /x " x/'),
     (HOST, f"if {FOUND} {{ super::writing::trim(flash, pass, sector); }}", "trim calls itself", f"if {FOUND} {{ broom::trim(flash, pass, sector); }}"),
     (TABLE, f"if {EMPTY} {{ self\n    .place_trim(pass, sector); }}", "Flash::place_trim calls itself", f"if {EMPTY} {{ self.a.place_trim(pass, 0); }}"),
+    ("host/src/lib.rt", "struct Node {\n    next: Option<Box<Node>>,\n}", "Node contains itself", "struct Node {\n    next: Option<Box<u8>>,\n}"),
+    ("host/src/lib.rt", "enum Node {\n    Last,\n    More(Box<Self>),\n}", "Node contains itself", "enum Node {\n    Last,\n    More(Box<Last>),\n}"),
+    ("host/src/lib.rt", "pub struct Node(u8, Box<Node>);", "Node contains itself", "pub struct Node(u8, Box<Nodes>);"),
     ("host/src/lib.rt", "#[cycle(spins)]", CALL + "cycle", "#[inline]"),
     ("host/src/lib.rt", "macro_rules! spin { () => { loop {} } }", LOOP, "// macro_rules! spin { () => { loop {} } }"),
 )
