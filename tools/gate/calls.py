@@ -1,10 +1,9 @@
 """docs/CALLS.md: each public call with the sentence above it, each of its clauses with what it says, and each law."""
 
 import re
-from collections import namedtuple
 
 from gate import laws, tree
-from gate.sentences import beginning, comment_above, modules, sentences, shown
+from gate.pages import beginning, shown
 
 LAWS = """## Laws of the definitions
 
@@ -16,35 +15,23 @@ and where it doesn't.
 """
 # A longer clause is left to the source.
 LONGEST = 200
-CLAUSE = re.compile(r"((?:^ *//(?!/).*\n)*)^ *(requires|ensures)(?: (\w+))? \{", re.M)
-Known = namedtuple("Known", "sentence names")
+# The comment right above the head of a function, or above its attributes.
+COMMENT = re.compile(r"((?:^ *///.*\n)*)(?:^ *#\[.*\n)*\Z", re.M)
+
+
+def exported(crate):
+    """The names that a crate's root file exports, and its public modules."""
+    root = tree.folder(crate) / "src/lib.rt"
+    text = root.read_text() if root.exists() else ""
+    return set(re.findall(r"\w+", " ".join(re.findall(r"pub use ([^;]*);", text)))), re.findall(r"^pub mod (\w+);", text, re.M)
 
 
 def public(crate):
     """The public functions of a crate, each with its file and the file's text."""
-    root = tree.folder(crate) / "src/lib.rt"
-    text = root.read_text() if root.exists() else ""
-    named = {word for items in re.findall(r"pub use (.*?);", text, re.S) for word in re.findall(r"\w+", items)}
-    open_modules = re.findall(r"^pub mod (\w+);", text, re.M)
-    for path in tree.sources(crate):
-        text = path.read_text()
-        for it in tree.functions(text):
-            if it.public and (path == root or (it.type or it.name) in named or path.stem in open_modules):
-                yield it, path, text
-
-
-def clauses(text, function):
-    """The clauses of a function, each as its kind, label, comment and text."""
-    head = text[function.start : function.body]
-    for found in CLAUSE.finditer(head):
-        comment = " ".join(line.strip().lstrip("/ ") for line in found[1].splitlines())
-        yield found[2], found[3], comment, " ".join(tree.inside(head, found.end())[:-1].split())
-
-
-def predicates(clause, path_text, known):
-    """The definitions that a clause names and that have a sentence."""
-    named = dict.fromkeys(tree.cited(clause, *tree.imports(path_text)))
-    return [it for it in named if it in known]
+    names, modules = exported(crate)
+    for path, text in ((path, path.read_text()) for path in tree.sources(crate)):
+        is_open = path.stem in modules or path == tree.folder(crate) / "src/lib.rt"
+        yield from ((it, path, text) for it in tree.functions(text) if it.public and (is_open or (it.type or it.name) in names))
 
 
 def meaning(it, known, told, within=True):
@@ -59,42 +46,38 @@ def meaning(it, known, told, within=True):
 
 def rows(function, path, text, known, told):
     """The rows of a call: the call, and each clause with what it says. The definitions that were told are added to `told`."""
-    lines = [line.strip() for line in text[: function.start].splitlines()]
-    lines = [line for line in lines if not line.startswith("/// |")]
-    yield f"[`{function.called}`](../{tree.relative(path)})", "", shown(comment_above(lines, len(lines), "///"))
-    for kind, label, comment, clause in clauses(text, function):
-        named = [it for it in predicates(clause, text, known) if it[2][0].isupper()]
-        says = shown(comment)
+    comment = "".join(line for line in COMMENT.search(text[: function.start])[1].splitlines(True) if "/// |" not in line)
+    yield f"[`{function.called}`](../{tree.relative(path)})", "", shown(tree.sentence(comment))
+    for it in tree.head_clauses(text, function):
+        named = [other for other in tree.cited(it.text, *tree.imports(text)) if other in known and other[2][0].isupper()]
+        says, clause = shown(" ".join(line.strip().lstrip("/ ") for line in it.comment.splitlines())), " ".join(it.text.split())
         if not says and named:
             says = " ".join(meaning(it, known, told) for it in named)
         elif not says:
             says = shown(f"`{clause}`") if len(clause) <= LONGEST else "In the source."
-        yield "", ("requires " if kind == "requires" else "") + (f"`{label}`" if label else "unnamed"), says
+        yield "", ("requires " if it.kind == "requires" else "") + (f"`{it.label}`" if it.label else "unnamed"), says
 
 
 def part(crate, known):
     told, text = set(), ""
-    for function, path, source in public(crate):
-        text += "".join(f"| {' | '.join(cells)} |\n" for cells in rows(function, path, source, known, told))
+    for call in public(crate):
+        text += "".join(f"| {' | '.join(cells)} |\n" for cells in rows(*call, known, told))
     return f"## `{crate}`\n\n| Call | Clause | What it says |\n|---|---|---|\n{text}\n" if text else ""
 
 
 def law(function, path, text, known):
     """The row of a law."""
     name, _, says = next(rows(function, path, text, known, set()))
-    named = dict.fromkeys(it[2] for *_, clause in clauses(text, function) for it in predicates(clause, text, known))
-    return f"| {name} | {says} | {', '.join(f'`{it}`' for it in named)} |\n"
+    cited = tree.cited(" ".join(it.text for it in tree.head_clauses(text, function)), *tree.imports(text))
+    return f"| {name} | {says} | {', '.join(dict.fromkeys(f'`{it[2]}`' for it in cited if it in known))} |\n"
 
 
-def page():
+def page(known):
     """The page, and what is wrong with the sources."""
     used = [name for name in tree.crates() if name not in laws.CALLERS]
-    specs = [(name, path) for name in used if (tree.folder(name) / "specs/Lib.antt").exists() for path, _ in modules(tree.folder(name))]
-    told = {(name, path.stem, it): sentence for name, path in specs for it, sentence in sentences(path, tree.DEFINITION, "--") if sentence}
-    known = {it: Known(told[it], dict.fromkeys(tree.cited(text, local, alias))) for name in used for it, text, local, alias in laws.defined(name) if it in told}
-    text = beginning(tree.TOP / "docs/CALLS.md") + "".join(part(name, known) for name in used if name != "laws")
-    laws_of = [it for name in used for it in public(name) if name == "laws"]
+    known = {it: its for it, its in known.items() if its.sentence and it[0] in used}
+    text = beginning("docs/CALLS.md") + "".join(part(name, known) for name in used if name != "laws") + LAWS
     files = [path for name in used if (path := tree.folder(name) / "src/laws.rt").exists()]
-    laws_of += [(it, path, path.read_text()) for path in files for it in tree.functions(path.read_text())]
-    page = text + LAWS + "".join(law(*it, known) for it in laws_of)
-    return page, [f"{name} has no sentence above it" for name in re.findall(r"^\| \[`([^`]*)`\]\(\S*\) \|(?:  \|)+$", page, re.M)]
+    its = [*public("laws"), *((it, path, path.read_text()) for path in files for it in tree.functions(path.read_text()))]
+    text += "".join(law(*it, known) for it in its)
+    return text, [f"{name} has no sentence above it" for name in re.findall(r"^\| \[`([^`]*)`\]\(\S*\) \|(?:  \|)+$", text, re.M)]

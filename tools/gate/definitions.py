@@ -3,15 +3,11 @@ and above each type that a crate exports, with what cites each; and docs/CALLS.m
 nothing, and fails if a page differs; if a definition or a public call has no comment, or is needed only by functions that nobody calls; or if a
 definition that a public clause names has neither a law nor a caller, and is not one of the few that laws.py lists with a reason."""
 
-import difflib
 import re
-import sys
 
-from gate import laws, tree
-from gate.calls import page as page_of_calls
-from gate.sentences import beginning, modules, said, sentences, shown
+from gate import calls, laws, tree
+from gate.pages import beginning, differing, shown
 
-TYPE = re.compile(r"pub (?:struct|enum|trait) (\w+)")
 SHOWN = """- Only premises name these, directly or through other definitions, so no promise shows what they say; each caller has to prove them:
 {}.
 - No clause names these, directly or through other definitions. They are used in proofs: {}.
@@ -25,38 +21,34 @@ def table(rows, kind="Definition"):
     return f"| {kind} | In one sentence |\n|---|---|\n{cells}\n"
 
 
-def cited(names):
-    """The definitions that promises name, and those that any clause names, directly or through other definitions."""
-    promises, all_clauses = set(), set()
-    for crate in tree.crates():
-        for path in tree.sources(crate):
-            for _, kind, named in laws.clauses(path.read_text()):
-                all_clauses |= named
-                promises |= named if kind != "requires" else set()
-    return laws.reached(promises, names), laws.reached(all_clauses, names)
+def modules(crate):
+    """The files of specs/ in the order of Lib.antt, each with whether it is internal."""
+    internal = False
+    for line in (tree.folder(crate) / "specs/Lib.antt").read_text().splitlines():
+        if line.startswith("--"):
+            internal = "internal" in line.lower()
+        elif line.startswith("pub mod "):
+            yield tree.folder(crate) / f"specs/{line.split()[2]}.antt", internal
 
 
 def handed_out(crate):
     """The types that a crate's root file exports, with their sentences."""
-    names = set(re.findall(r"\w+", " ".join(re.findall(r"pub use [^;]*;", (crate / "src/lib.rt").read_text()))))
-    for path in sorted(crate.glob("src/**/*.rt")):
-        yield from ((name, text) for name, text in sentences(path, TYPE, "///") if name in names)
+    names, _ = calls.exported(crate)
+    types = (it for path in tree.sources(crate) for it in tree.TYPE.finditer(path.read_text()))
+    return [(it["name"], tree.sentence(it["comment"])) for it in types if it["name"] in names]
 
 
-def part(crate, bare):
-    """The page's text about a crate. Names without a sentence are added to `bare`."""
-    text = f"## `{crate.name}`\n\n"
+def part(crate, known):
+    """The page's text about a crate."""
+    text = f"## `{crate}`\n\n"
     for path, internal in modules(crate):
-        rows = list(sentences(path, tree.DEFINITION, "--"))
-        bare += [f"{tree.relative(path)}: {name} has no sentence above it" for name, sentence in rows if not sentence]
-        lines = path.read_text().splitlines()
-        title = said([line[2:].strip() for line in lines[:next(i for i, line in enumerate(lines) if line[:2] != "--")]])
+        rows = [(name, its.sentence) for (home, module, name), its in known.items() if (home, module) == (crate, path.stem)]
+        title = tree.sentence(re.match(r"(?:--.*\n)*", path.read_text())[0])
         if internal:
             text += f"<details><summary>Internal: {path.name}. {shown(title)}</summary>\n\n{table(rows)}</details>\n\n"
         else:
             text += f"**[`{path.name}`](../{tree.relative(path)})** {title}\n\n{table(rows)}"
-    types = list(handed_out(crate))
-    bare += [f"{tree.relative(crate)}: {name} has no sentence above it" for name, sentence in types if not sentence]
+    types = handed_out(crate)
     return text + (f"**Types**\n\n{table(types, 'Type')}" if types else "")
 
 
@@ -64,27 +56,23 @@ def listed(names):
     return ", ".join(f"`{name}` of `{crate}`" for crate, _, name in names) or "none"
 
 
-def made(shown_as):
+def made(known):
     """The page, and what is wrong with the definitions."""
-    wrong, names = [], laws.names_in()
-    promised, everywhere = cited(names)
+    names, clauses = {it: its.names for it, its in known.items()}, list(laws.named_by_clauses())
+    shown_as = laws.shown_by_laws(known, clauses)
+    # What promises name, and what any clause names, directly or through other definitions.
+    promised, everywhere = (tree.reached(set().union(*(it.names for it in clauses if it.kind != kind)), names) for kind in ("requires", ""))
     premises = [it for it in names if it in everywhere - promised]
-    parts = "".join(part(tree.folder(name), wrong) for name in tree.crates() if (tree.folder(name) / "specs/Lib.antt").exists())
+    crates = [name for name in tree.crates() if (tree.folder(name) / "specs/Lib.antt").exists()]
     about = SHOWN.format(listed(premises), listed(it for it in names if it not in everywhere), laws.counted(shown_as))
-    return beginning(tree.TOP / "docs/DEFINITIONS.md") + about + parts.rstrip("\n") + "\n", [*wrong, *laws.idle(premises, names), *laws.without(shown_as)]
+    page = beginning("docs/DEFINITIONS.md") + about + "".join(part(name, known) for name in crates).rstrip("\n") + "\n"
+    bare = [f"crates/{crate}/specs/{module}.antt: {name}" for (crate, module, name), its in known.items() if not its.sentence]
+    bare += [f"crates/{crate}: {name}" for crate in crates for name, sentence in handed_out(crate) if not sentence]
+    return page, [*(f"{it} has no sentence above it" for it in bare), *laws.idle(premises, names, clauses), *laws.without(shown_as)]
 
 
 def main(words):
-    shown_as = laws.shown_by_laws()
-    page, wrong = made(shown_as)
-    calls, bare = page_of_calls()
-    wrong += bare
-    for file, text in {"docs/DEFINITIONS.md": page, "docs/CALLS.md": calls}.items() if not wrong else ():
-        path = tree.TOP / file
-        if words == ["--write"]:
-            path.write_text(text)
-        before = path.read_text() if path.exists() else ""
-        if before != text:
-            sys.stderr.writelines(list(difflib.unified_diff(before.splitlines(True), text.splitlines(True), file, "the sources"))[:40])
-            wrong.append(f"{file} differs from the sources: run .ci/definitions --write")
+    known = {it: its for crate in tree.crates() for it, its in tree.definitions(crate).items()}
+    (page, wrong), (calls_page, bare) = made(known), calls.page(known)
+    wrong = [*wrong, *bare] or [*differing(words, "definitions", DEFINITIONS=page, CALLS=calls_page)]
     return tree.verdict(wrong, f"docs/DEFINITIONS.md has the {page[page.index(chr(10) + '## '):].count(chr(10) + '| `')} definitions of the sources")

@@ -5,7 +5,7 @@ import re
 from pathlib import Path
 
 from gate import tree
-from gate.sentences import beginning
+from gate.pages import beginning, differing
 
 
 def page_file():
@@ -24,15 +24,15 @@ def goals_on_page():
     return goals
 
 
-def in_words(path):
-    words = path.stem.replace("_", " ")
+def in_words(name):
+    words = name.replace("_", " ")
     return words[0].upper() + words[1:]
 
 
-def places_of(crate, path):
+def places_of(edit):
     """What each change of an edit is in: a function, or None outside of all."""
-    for file, old, _ in tree.changes(path):
-        text = (crate / file).read_text()
+    for file, old, _ in edit.changes():
+        text = (tree.folder(edit.crate) / file).read_text()
         yield tree.function_at(text, text.find(old) + len(old)) if old in text else None
 
 
@@ -41,37 +41,35 @@ def code(text):
     return f"`{text}`" if text else "nothing"
 
 
-def row(path, goals):
-    """An edit as a row of its crate's table."""
-    crate, twin = path.parent.parent, path.parent.parent / "twins" / path.name
-    changes = "; ".join(f"{code(old)} becomes {code(new)}" for _, old, new in tree.changes(path))
-    place, file = next(places_of(crate, path)), next(tree.changes(path))[0]
-    harmless = "; ".join(code(new) for _, _, new in tree.changes(twin)) if twin.exists() else "none"
-    return f"| {in_words(path)} | `{place.called if place else Path(file).stem}` | {changes} | {goals.get((crate.name, in_words(path)), '')} | {harmless} |\n"
+def row(edit, twin, goals):
+    """A wrong body, with its twin or None, as a row of its crate's table."""
+    words, place, file = in_words(edit.name), next(places_of(edit)), next(edit.changes())[0]
+    changes = "; ".join(f"{code(old)} becomes {code(new)}" for _, old, new in edit.changes())
+    harmless = "; ".join(code(new) for _, _, new in twin.changes()) if twin else "none"
+    return f"| {words} | `{place.called if place else Path(file).stem}` | {changes} | {goals.get((edit.crate, words), '')} | {harmless} |\n"
 
 
 def page(goals):
-    text = beginning(page_file())
+    text = beginning("docs/GALLERY.md")
     for name in tree.crates():
         if edits := tree.edits(name):
             text += f"## `{name}`\n\n| Misdeed | In | Change | Refused by the goals | Twin that is proved |\n|---|---|---|---|---|\n"
-            text += "".join(row(path, goals) for path in edits) + "\n"
+            twins = {it.name: it for it in tree.edits(name, "twins")}
+            text += "".join(row(it, twins.get(it.name), goals) for it in edits) + "\n"
     return text.rstrip("\n") + "\n"
 
 
 def put(refused):
-    """Puts on the page what refused these edits, each as its crate, its file and its goal."""
-    goals = {(name, in_words(Path(file))): f"**`{goal}`**" for name, file, goal in refused if goal}
+    """Puts on the page what refused these edits, each as its crate, its name and its goal."""
+    goals = {(name, in_words(edit)): f"**`{goal}`**" for name, edit, goal in refused if goal}
     if goals:
         page_file().write_text(page({**goals_on_page(), **goals}))
 
 
 def main(words):
     made = page(goals_on_page())
-    if words == ["--write"]:
-        page_file().write_text(made)
-    elif page_file().read_text() != made:
-        return tree.verdict(["docs/GALLERY.md differs from the wrong bodies in must-fail/ and their twins: run .ci/gallery --write"], "")
+    if wrong := [*differing(words, "gallery", GALLERY=made)]:
+        return tree.verdict(wrong, "")
     rows = [line for line in made.splitlines() if line.startswith("| ") and not line.startswith("| Misdeed")]
     alone = sum(line.endswith(" | none |") for line in rows)
     print(f"docs/GALLERY.md has the {len(rows)} wrong bodies, {len(rows) - alone} of them with a twin")

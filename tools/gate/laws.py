@@ -1,6 +1,7 @@
 """How each definition that a public clause names is shown to say what its sentence says."""
 
 import re
+from collections import namedtuple
 
 from gate import tree
 
@@ -21,49 +22,19 @@ WITHOUT = {
     "state_of of exports": "another name",
     "kept of handles": "a formula of what a value owns: what makes such a value refuses a stronger one, and what ends it a weaker one",
 }
-CLAUSE = re.compile(r"(?:^\s*(?:pub )?(requires|ensures|ghost)\b(?! use )[^{;]*|\bby )\{", re.M)
 
 
-def clauses(text):
-    """Each clause of a file: its place, its kind, and the definitions that it names."""
-    local, alias = tree.imports(text)
-    for clause in CLAUSE.finditer(text):
-        yield clause.start(), clause[1], set(tree.cited(clause[0] + tree.inside(text, clause.end()), local, alias))
+Named = namedtuple("Named", "crate file kind function names")
 
 
-def public_clauses(text):
-    """Those of a public function, of a method of a trait or of its implementation, and the conditions of a type."""
-    for place, _, named in clauses(text):
-        function = tree.function_at(text, place)
-        if not function or function.public or function.of_trait:
-            yield named
-
-
-def defined(crate):
-    """Each definition of a crate's specs/, as its crate, module and name, with its text, and what its file imports and defines."""
-    for path in sorted((tree.folder(crate) / "specs").glob("*.antt")):
-        text = path.read_text()
-        local, alias = tree.imports(text)
-        starts = [(it.start(), it[1]) for it in re.finditer(r"^(?!pub mod|pub use)" + tree.DEFINITION.pattern, text, re.M)]
-        local |= {name: (crate, path.stem, name) for _, name in starts}
-        for (begin, name), (end, _) in zip(starts, [*starts[1:], (len(text), "")]):
-            yield local[name], text[begin:end], local, alias
-
-
-def names_in():
-    """For each definition those that it names."""
-    return {it: set(tree.cited(text, local, alias)) - {it} for crate in tree.crates() for it, text, local, alias in defined(crate)}
-
-
-def reached(found, names):
-    """The definitions that are among these, or that these name directly or through other definitions."""
-    found, left = set(), list(found)
-    while left:
-        it = left.pop()
-        if it not in found:
-            found.add(it)
-            left += names.get(it, ())
-    return found
+def named_by_clauses():
+    """Each clause of the crates: its crate and file, its kind, the function that it is of, and the definitions that it names."""
+    for crate in tree.crates():
+        for path in tree.sources(crate):
+            text = path.read_text()
+            local, alias = tree.imports(text)
+            for it in tree.clauses(text):
+                yield Named(crate, path.name, it.kind, tree.function_at(text, it.start), tree.cited(text[it.start : it.end], local, alias))
 
 
 def is_fact(text):
@@ -77,23 +48,20 @@ def is_fact(text):
     return text.startswith("pub ") or re.search(r"(?<!\S): (.*)", text)[1].startswith(("Coded ", "Type "))
 
 
-def shown_by_laws():
-    """How each definition that a public clause names is shown: its group, or "" if it has neither a law nor a caller."""
-    texts = {it: text for crate in tree.crates() for it, text, _, _ in defined(crate)}
-    names, laws, public = names_in(), set(), set()
-    for crate in tree.crates():
-        for path in tree.sources(crate):
-            text = path.read_text()
-            if crate in LAWS or path.name == "laws.rt":
-                laws = laws.union(*(named for _, _, named in clauses(text)))
-            elif crate not in CALLERS:
-                public = public.union(*public_clauses(text))
-    while more := {it for law in laws if law[0] in LAWS for it in names.get(law, ())} - laws:
-        laws |= more
-    through, shown = reached(laws, names), {}
-    for it in (it for it in texts if it in public and it[0] not in (*LAWS, *CALLERS)):
-        shown[it] = "named" if it in laws else "facts" if is_fact(texts[it].strip()) else "reached" if it in through else ""
-    return shown
+def shown_by_laws(known, clauses):
+    """How each definition that a public clause names is shown: its group, or "" if it has neither a law nor a caller. Public are the clauses of
+    a public function, of a method of a trait or of its implementation, and those outside of all functions."""
+    names = {it: its.names for it, its in known.items()}
+    of_laws = [it for it in clauses if it.crate in LAWS or it.file == "laws.rt"]
+    others = [it for it in clauses if it.crate not in (*LAWS, *CALLERS) and it.file != "laws.rt"]
+    public = set().union(*(it.names for it in others if not it.function or it.function.public or it.function.of_trait))
+    laws = set().union(*(it.names for it in of_laws))
+    laws |= tree.reached((it for it in laws if it[0] in LAWS), {it: its for it, its in names.items() if it[0] in LAWS})
+    through = tree.reached(laws, names)
+    return {
+        it: "named" if it in laws else "facts" if is_fact(its.text.strip()) else "reached" if it in through else ""
+        for it, its in known.items() if it in public and it[0] not in (*LAWS, *CALLERS)
+    }  # fmt: skip
 
 
 def counted(shown):
@@ -118,13 +86,12 @@ def is_called(name, home, used):
     return any(call.search(path.read_text()) for it in used if it == home or home in tree.below(it, used) for path in tree.sources(it))
 
 
-def idle(premises, names):
+def idle(premises, names, clauses):
     """The definitions of these that only functions need that nobody calls."""
     needed, used = {}, tree.crates()
-    for crate, text in ((crate, path.read_text()) for crate in used for path in tree.sources(crate)):
-        for place, kind, named in clauses(text):
-            for it in reached(named, names) & set(premises) if kind == "requires" else ():
-                needed.setdefault(it, set()).add((tree.function_at(text, place).name, crate))
+    for clause in (it for it in clauses if it.kind == "requires"):
+        for it in tree.reached(clause.names, names) & set(premises):
+            needed.setdefault(it, set()).add((clause.function.name, clause.crate))
     for it in premises:
         if not any(is_called(name, crate, used) for name, crate in needed.get(it, ())):
             yield f"only premises name {it[2]} of {it[0]}, and no function that needs it is called"

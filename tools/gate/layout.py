@@ -22,7 +22,7 @@ def sources():
     listed = subprocess.run(["git", "ls-files", "-co", "--exclude-standard", "-z"], cwd=tree.TOP, capture_output=True, text=True, check=True).stdout
     for name in sorted(filter(None, listed.split("\0"))):
         path = tree.TOP / name
-        if path.suffix in MEASURED or (path.is_file() and not path.is_symlink() and not path.suffix and path.read_bytes().startswith(b"#!")):
+        if path.is_file() and (path.suffix in MEASURED or not (path.is_symlink() or path.suffix) and path.read_bytes().startswith(b"#!")):
             yield name, path.read_text()
 
 

@@ -55,14 +55,16 @@ def tried(room, name):
 def of_edits(name):
     """The goals that refuse the wrong bodies of a crate, each as the name of its function and its own."""
     goals = gallery.goals_on_page()
-    for path in tree.edits(name):
-        for place in gallery.places_of(tree.folder(name), path):
-            yield from ((place and place.name, goal) for goal in re.findall(r"`([\w-]+)`", goals.get((name, gallery.in_words(path)), ""))[:1])
+    for edit in tree.edits(name):
+        for place in gallery.places_of(edit):
+            yield from ((place and place.name, goal) for goal in re.findall(r"`([\w-]+)`", goals.get((name, gallery.in_words(edit.name)), ""))[:1])
 
 
 def is_needed(function, goal, needed):
-    """Whether a goal stays open without its answer. Of the clauses of an invariant the check may name the invariant alone."""
-    return bool({(function, goal), (function, goal.split("-clause-")[0])} & needed)
+    """Whether a goal stays open without its answer. Of the clauses of an invariant the check may name the invariant alone, and an answer to all
+    clauses of a contract is needed if one of them stays open."""
+    wholes = {(other, clause.split("-clause-")[0]) for other, clause in needed}
+    return bool({(function, goal), (function, goal.split("-clause-")[0])} & needed) or (function, goal) in wholes
 
 
 def cut(name, needed):

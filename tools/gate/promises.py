@@ -11,7 +11,7 @@
 import re
 from functools import cache
 
-from gate import calls, record, tree
+from gate import record, tree
 
 MOST_WORDS = {"README.md": 800}
 PAGES = ["README.md", "docs/PROVED.md", "docs/RULE.md", "docs/LIBRARY.md", "docs/LINKING.md", "docs/GLOSSARY.md", "docs/EXTENDING.md"]
@@ -36,7 +36,7 @@ def clauses():
     found = {}
     for text in (path.read_text() for path in tree.TOP.glob("crates/*/src/**/*.rt")):
         for it in tree.functions(text):
-            labels = {label or "unnamed" for kind, label, *_ in calls.clauses(text, it) if kind == "ensures"}
+            labels = {clause.label or "unnamed" for clause in tree.head_clauses(text, it) if clause.kind == "ensures"}
             for name in (it.name, it.called):
                 found.setdefault(name, set()).update(labels)
     return found
@@ -104,7 +104,7 @@ def twice_defined(lines):
     """The names that two files of specs/ define and the glossary doesn't list, and those that it lists in vain."""
     files = {}
     for path in tree.TOP.glob("crates/*/specs/*.antt"):
-        for name in set(re.findall(r"^" + tree.DEFINITION.pattern, path.read_text(), re.M)) - {"mod", "use"}:
+        for name in {it["name"] for it in tree.DEFINITION.finditer(path.read_text())}:
             files.setdefault(name, []).append(tree.relative(path))
     twice = {name: sorted(its) for name, its in files.items() if len(its) > 1}
     listed = {name for _, [names] in rows(lines, "Defined twice") for name in names}

@@ -3,13 +3,12 @@ a sum of the text that the result depends on, and the version of the toolchain t
 
 import hashlib
 import os
-import queue
 import re
 import subprocess
 import sys
-import tempfile
+import threading
 from concurrent.futures import ThreadPoolExecutor
-from pathlib import Path
+from contextlib import ExitStack
 
 from gate import tree
 
@@ -64,33 +63,30 @@ def meaning(path):
     return text.encode()
 
 
-def sum_of_files(folders, more=()):
-    """A sum of what the files of some folders and further files mean."""
-    total, files = hashlib.sha256(), [path for folder in folders for path in sorted((tree.TOP / folder).rglob("*")) if path.is_file()]
-    for path in dict.fromkeys([*files, *more]):
-        total.update(f"{tree.relative(path)}\n".encode() + hashlib.sha256(meaning(path)).digest())
+def files_of(name, *parts):
+    """The files of some folders of a crate."""
+    return [path for part in parts for path in sorted((tree.folder(name) / part).rglob("*")) if path.is_file()]
+
+
+def sum_of(parts):
+    """A sum of what some files and edits mean. An edit counts as a file of its own, whichever file it is in."""
+    total = hashlib.sha256()
+    for it in dict.fromkeys(parts):
+        name, text = (f"crates/{it.crate}/{it.kind}/{it.name}.edit", it.text.encode()) if isinstance(it, tree.Edit) else (tree.relative(it), meaning(it))
+        total.update(f"{name}\n".encode() + hashlib.sha256(text).digest())
     return total.hexdigest()
 
 
 def in_copies(names, work):
     """What `work` returns for each of these crates, given a folder with a copy of it: with as many crates at a time as there are pairs
     of processors, each in a copy of its own, since a check locks the crates below."""
-    at_once = max(1, min(len(names), len(os.sched_getaffinity(0)) // 2))
-    with tempfile.TemporaryDirectory(prefix="gate-") as top, ThreadPoolExecutor(at_once) as pool:
-        rooms = queue.Queue()
-        for room in (Path(top) / str(number) for number in range(at_once)):
-            room.mkdir()
-            tree.copy_to(room, names, tree.crates())
-            rooms.put(room)
+    here, at_once = threading.local(), max(1, len(os.sched_getaffinity(0)) // 2)
 
-        def worked(name):
-            room = rooms.get()
-            try:
-                return work(room, name)
-            finally:
-                rooms.put(room)
+    def enter():
+        here.room = rooms.enter_context(tree.copied(names))
 
-        yield from pool.map(worked, names)
+    with ExitStack() as rooms, ThreadPoolExecutor(at_once, initializer=enter) as pool:
+        yield from pool.map(lambda name: work(here.room, name), names)
 
 
 class Record:
@@ -105,8 +101,8 @@ class Record:
 
     def sum_of(self, name):
         """A sum of the text that a result depends on: the crate with its edits, and the definitions of the crates below."""
-        folders = [f"crates/{name}/{part}" for part in ("src", "specs", "proofs", self.kind)]
-        return sum_of_files([*folders, *(f"crates/{it}/specs" for it in sorted(tree.below(name, self.used)))])
+        below = [path for it in sorted(tree.below(name, self.used)) for path in files_of(it, "specs")]
+        return sum_of([*files_of(name, "src", "specs", "proofs"), *tree.edits(name, self.kind), *below])
 
     def entries(self):
         """Each entry, as its crate, the sum of its text, and the version."""
@@ -123,19 +119,26 @@ class Record:
         return [name for name, its in self.versions().items() if not its]
 
     def tell(self, said, still):
-        """Prints how many edits have an entry, and the crates that lack one."""
+        """Prints how many edits have an entry, and the crates that lack one. Returns 0."""
         lacking = self.lacking()
         print(f"{sum(len(tree.edits(name, self.kind)) for name in self.having() if name not in lacking)} {said} on the present text")
         print(f"still to {still} {', '.join(lacking)}\n" if lacking else "", end="")
+        return 0
 
     def asked(self, words):
         """The crates that words ask for: those named, all that have edits of this kind, or those without an entry."""
         having = self.having()
         names = {("--all",): having, ("--missing",): self.lacking()}.get(tuple(words), words)
         if not words or set(names) - set(having):
-            print(f"name crates that have {self.kind}/, or --all: {', '.join(having)}", file=sys.stderr)
+            print(f"name crates that have {self.kind}, or --all: {', '.join(having)}", file=sys.stderr)
             raise SystemExit(2)
         return names
+
+    def main(self, words, work, fault):
+        """Records what `work` says of the crates that words ask for: of each whether all was well."""
+        names = self.asked(words)
+        sums = [self.sum_of(name) for name in names]
+        return max((self.note([its], fault) for its in zip(names, sums, work(names))), default=0)
 
     def note(self, tried, fault):
         """Records this version's results: for each crate that it tried, the sum of the text and whether all was well. Returns 1 if it wasn't

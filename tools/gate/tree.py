@@ -1,12 +1,15 @@
-"""The repository as the checks read it: its crates, the functions of a file, what a file imports, and the edits of a crate."""
+"""The repository as the checks read it: its crates, the functions, clauses and imports of a file, and the definitions and edits of a crate."""
 
 import re
 import shutil
 import subprocess
 import sys
+from collections import namedtuple
+from contextlib import contextmanager
 from dataclasses import dataclass
 from functools import cache
 from pathlib import Path
+from tempfile import TemporaryDirectory
 
 TOP = Path(__file__).resolve().parents[2]
 # The parts of a file of Rattle that tell which functions it has: the end of an item, the type that methods are of, and a function.
@@ -22,8 +25,15 @@ WITHIN = re.compile(r"((?:\w+\.)*)(\S.*)")
 # How a file imports definitions: several of a module, one of it, or the module under another name.
 USE = re.compile(r"^\s*(?:ghost |pub )?use Rattle\.(\w+)\.specs\.(\w+)(?:\.\{([^}]*)\}|\.(\S+?))?(?: as (\w+))?;?\s*$", re.M)
 WORD = re.compile(r"[^\s(){}\[\],;.]+(?:\.[^\s(){}\[\],;.]+)*")
-# The head of a public definition of specs/.
-DEFINITION = re.compile(r"(?:abbrev |unfoldable )?pub (?:record |data )?(\S+) ")
+# A public definition of specs/ and a type of src/, each with the comment above it.
+DEFINITION = re.compile(
+    r"(?P<comment>(?:^--.*\n)*)(?:^infix.*\n)*^(?P<head>(?!pub mod|pub use)(?:abbrev |unfoldable )?pub (?:record |data )?(?P<name>\S+) )", re.M
+)
+TYPE = re.compile(r"(?P<comment>(?:^///.*\n)*)(?:^#\[.*\n)*^pub (?:struct|enum|trait) (?P<name>\w+)", re.M)
+# A clause with the comment above it, or a proof in the code.
+CLAUSE = re.compile(r"(?P<comment>(?:^ *//(?!/).*\n)*)^\s*(?:pub )?(?P<kind>requires|ensures|ghost)\b(?! use )(?P<label>[^{;]*)\{|\bby \{", re.M)
+# An edit in a file of several: its name, and its lines.
+EDIT = re.compile(r"edit: (\w+)\n((?:(?:file|old|new|law|definition|twin):.*\n)+)\n*")
 
 
 @dataclass(frozen=True)
@@ -41,6 +51,34 @@ class Function:
     @property
     def called(self):
         return f"{self.type}::{self.name}" if self.type else self.name
+
+
+@dataclass(frozen=True)
+class Edit:
+    """A wrong body of a crate, the twin of one, or a wrong definition."""
+
+    crate: str
+    kind: str
+    name: str
+    text: str
+
+    @property
+    def place(self):
+        return f"crates/{self.crate}/" + (f"must-fail/{self.name}.edit" if self.kind == "must-fail" else f"{self.kind}.edits: {self.name}")
+
+    def changes(self):
+        """Each change: the file, the old text and the new one."""
+        file, old = "", ""
+        for line in self.text.splitlines():
+            if line.startswith("file: "):
+                file = line[6:].strip()
+            elif line.startswith("old: "):
+                old = line[5:]
+            elif line.startswith("new:"):
+                yield file, old, line[4:].removeprefix(" ")
+
+
+Definition = namedtuple("Definition", "sentence text names")
 
 
 def relative(path):
@@ -98,13 +136,34 @@ def function_at(text, place):
     return next((it for it in functions(text) if it.start <= place <= it.end), None)
 
 
-def inside(text, at):
-    """The text between the brace that ends at a place and the one that closes it."""
-    depth, end = 1, at
-    while depth and end < len(text):
-        depth += {"{": 1, "}": -1}.get(text[end], 0)
-        end += 1
-    return text[at:end]
+@dataclass(frozen=True)
+class Clause:
+    """A clause of a file, or a proof in its code, which has no kind: its places, its label, the comment above it, and its text."""
+
+    start: int
+    end: int
+    kind: str
+    label: str
+    comment: str
+    text: str
+
+
+@cache
+def clauses(text):
+    """The clauses of a file and the proofs in its code, in their order."""
+    found = []
+    for it in CLAUSE.finditer(text):
+        depth, end = 1, it.end()
+        while depth and end < len(text):
+            depth += {"{": 1, "}": -1}.get(text[end], 0)
+            end += 1
+        found.append(Clause(it.start(), end, it["kind"], (it["label"] or "").strip(), it["comment"] or "", text[it.end() : end - 1]))
+    return found
+
+
+def head_clauses(text, function):
+    """The clauses of a function."""
+    return [it for it in clauses(text) if it.kind in ("requires", "ensures") and function.start <= it.start < function.body]
 
 
 def by_module(text):
@@ -133,59 +192,99 @@ def imports(text):
 
 
 def cited(text, local, alias):
-    """The definitions that a text names."""
+    """The definitions that a text names, in the order of their places."""
+    found = {}
     for word in WORD.findall(text):
         head, _, rest = word.partition(".")
         if head in local:
-            yield local[head]
+            found[local[head]] = None
         if head in alias and rest:
-            yield *alias[head], rest.split(".")[0]
+            found[(*alias[head], rest.split(".")[0])] = None
+    return found
+
+
+def sentence(comment):
+    """A comment as sentences: with a capital and a full stop."""
+    text = " ".join(filter(None, (line.strip().lstrip("/-").strip() for line in comment.splitlines())))
+    return text and text[0].upper() + text[1:] + ("" if text.endswith((".", ":")) else ".")
+
+
+def definitions(crate):
+    """The definitions of a crate's specs/, each by its crate, module and name: its sentence, its text, and the definitions that it names."""
+    found = {}
+    for path in sorted(folder(crate).glob("specs/*.antt")):
+        text = path.read_text()
+        local, alias = imports(text)
+        its = [*DEFINITION.finditer(text)]
+        local |= {it["name"]: (crate, path.stem, it["name"]) for it in its}
+        for it, end in zip(its, [*(it.start("head") for it in its[1:]), len(text)]):
+            its_text = text[it.start("head") : end]
+            found[local[it["name"]]] = Definition(sentence(it["comment"]), its_text, cited(its_text, local, alias))
+    return found
+
+
+def reached(found, names):
+    """The things that are among these, or that these name directly or through others."""
+    found, left = set(), list(found)
+    while left:
+        it = left.pop()
+        if it not in found:
+            found.add(it)
+            left += names.get(it, ())
+    return found
 
 
 def edits(name, kind="must-fail"):
-    """The wrong bodies of a crate, or their twins, as files."""
-    return sorted((folder(name) / kind).glob("*.edit"))
+    """The edits of a crate by their names: the wrong bodies, which `rt` reads as a file each, or those of a file crates/NAME/KIND.edits."""
+    files, file = folder(name) / kind, folder(name) / f"{kind}.edits"
+    its, text, end = [(it.stem, it.read_text()) for it in files.glob("*.edit")], file.read_text() if file.exists() else "", 0
+    if kind != "must-fail" and its:
+        raise SystemExit(f"{relative(files)}: its edits belong into {relative(file)}, each below a line `edit: NAME`")
+    while (found := EDIT.match(text, end)) and found[1] not in dict(its):
+        its, end = [*its, found.groups()], found.end()
+    if end < len(text):
+        raise SystemExit(f"{relative(file)}:{text.count(chr(10), 0, end) + 1}: not an edit, or one whose name an earlier one has")
+    return [Edit(name, kind, *it) for it in sorted(its)]
 
 
-def changes(path):
-    """The changes of an edit, each as the file, the old text and the new one."""
-    file, old = "", ""
-    for line in path.read_text().splitlines():
-        if line.startswith("file: "):
-            file = line[6:].strip()
-        elif line.startswith("old: "):
-            old = line[5:]
-        elif line.startswith("new:"):
-            yield file, old, line[4:].removeprefix(" ")
-
-
-def edited(crate, texts, path):
+def edited(texts, edit):
     """The texts of a crate's files with one more edit, or None if one of its old texts isn't there exactly once."""
     texts = dict(texts)
-    for file, old, new in changes(path):
-        text = texts.get(file) or (crate / file).read_text()
+    for file, old, new in edit.changes():
+        text = texts.get(file) or (folder(edit.crate) / file).read_text()
         if text.count(old) != 1:
             return None
         texts[file] = text.replace(old, new)
     return texts
 
 
-def copy_to(room, names, used):
-    """Copies these crates and those below them, with the edits of these crates alone, and with what earlier checks have proved."""
-    needed = set(names).union(*(below(it, used) for it in names))
-    shutil.copy(TOP / "HANDLES", room)
-    (room / "crates.txt").write_text("".join(f"{line}\n" for name, line in crate_lines().items() if name in needed))
-    for name in needed:
-        left_out = shutil.ignore_patterns(*([] if name in names else ["must-fail"]))
-        shutil.copytree(folder(name), room / "crates" / name, ignore=left_out)
+@contextmanager
+def copied(names):
+    """A folder with a copy of these crates and those below them, with the edits of these crates alone, and with what earlier checks have proved."""
+    used = crates()
+    with TemporaryDirectory(prefix="gate-") as room:
+        needed = set(names).union(*(below(it, used) for it in names))
+        shutil.copy(TOP / "HANDLES", room)
+        Path(room, "crates.txt").write_text("".join(f"{line}\n" for name, line in crate_lines().items() if name in needed))
+        for name in needed:
+            left_out = shutil.ignore_patterns(*([] if name in names else ["must-fail"]))
+            shutil.copytree(folder(name), Path(room, "crates", name), ignore=left_out)
+        yield Path(room)
 
 
-def said_by(folder, *command):
-    """The status of a command that runs in a folder, and what it prints."""
-    run = subprocess.run(
-        command, cwd=folder, stdin=subprocess.DEVNULL, stdout=subprocess.PIPE, stderr=subprocess.STDOUT, text=True, errors="replace", check=False
-    )
-    return run.returncode, run.stdout
+def said_by(folder, *command, shown=False):
+    """The status of a command that runs in a folder, and what it prints. It is also printed here if it is to be shown."""
+    said = ""
+    errors = None if shown else subprocess.STDOUT
+    with subprocess.Popen(command, cwd=folder, stdin=subprocess.DEVNULL, stdout=subprocess.PIPE, stderr=errors, text=True, errors="replace") as run:
+        try:
+            for line in run.stdout:
+                print(line if shown else "", end="", flush=True)
+                said += line
+        except BaseException:
+            run.terminate()
+            raise
+    return run.returncode, said
 
 
 def verdict(wrong, well):

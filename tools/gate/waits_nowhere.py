@@ -1,15 +1,16 @@
 """waits-nowhere: checks the text of the crates that a call of the shared device runs through: each loop is one of LOOPS, each call is of a
 function of these crates or one of CALLS, and no function calls itself, directly or through others of its crate. So a host's call has
 nothing by which it could wait for another thread that isn't listed here with a reason. A proof doesn't show this: a body that loads a
-word a few thousand million times, until another thread has changed it, meets every clause. This check is of the text alone. It takes
-each listed loop to run as its reason says, and doesn't see code that runs without a call, as the destructor of a value, or a function that
-calls itself through a trait of another crate."""
+word a few thousand million times, until another thread has changed it, meets every clause. This check takes each listed loop to run as its
+reason says, and doesn't see code that runs without a call, as the destructor of a value, or a function that calls itself through a trait
+of another crate. Two things it leaves to the toolchain: functions that call each other have `#[cycle]`, which is no listed call here; and a
+function that calls itself has a measure in a folder `+NAME`, unless it goes down a value of a type that contains itself, which none may here."""
 
 import re
 from collections import Counter
 from functools import cache, partial
 
-from gate import laws, tree
+from gate import tree
 
 CRATES = ("geometry", "flash_rule", "flash_table", "host", "broom", "erase_queue", "volume", "handles", "exports")
 # Each loop, as its file, its function, its head with the values that its bound has there, and why it ends after a number of turns that no
@@ -62,13 +63,14 @@ std: the next of a finite list | iter iter_mut into_iter next pop
 std: reports | is_none is_some is_ok write_str
 """
 MACROS = {"unreachable", "vec", "write"}
-# Methods of std's iterators that take a function. On a value of unknown type, a call of one of these crates' methods may be one of them.
+# Methods of std's iterators that take a function. No method of these crates is called by such a name.
 ITERATORS = set("all any filter find fold for_each map position reduce scan skip_while take_while try_fold try_for_each".split())
 # No code that runs: comments, strings, characters and the imports of definitions.
 NO_CODE = re.compile(r"""//[^\n]*|b?"(?:[^"\\]|\\.)*"|b?'(?:[^'\\\n]|\\[^\n]+?)'|^[ \t]*(?:pub )?ghost use [^\n]*""", re.M | re.S)
 LOOP = re.compile(r"\b(?:for(?!<)|while|loop)\b[^\n{]*")
 # Texts in which a quote may begin or end something else than code_of takes it for.
 UNREADABLE = re.compile(r'/\*|\br#*"')
+TYPE = re.compile(r"\b(?:struct|enum) (\w+)\b([^;{(]*(?:\([^;]*;|\{.*?^\s*\}))", re.M | re.S)
 IMPL = re.compile(r"^(?:unsafe )?impl\b[^{\n]* for\b", re.M)
 CALL = re.compile(r"(?<!fn )(?<![\w.:#])((?:\w+::)+|)(\w+)(!?)(?:::<[^>()]*>)?(?:\(|(?<=!)[\[{ ])|\.(\w+)(?:::<[^>()]*>)?\(")
 # Words before a parenthesis that call nothing: of the language, and of attributes.
@@ -84,9 +86,8 @@ def code_of(text):
         return re.sub(r"[^\n]", " ", found[0])
 
     text = NO_CODE.sub(blank, text)
-    for clause in (it for it in laws.CLAUSE.finditer(text) if not re.search(r"\bfn\b", it[0])):
-        end = clause.end() + len(tree.inside(text, clause.end()))
-        text = text[: clause.start()] + re.sub(r"[^\n]", " ", text[clause.start() : end]) + text[end:]
+    for it in (it for it in tree.clauses(text) if not re.search(r"\bfn\b", it.label)):
+        text = text[: it.start] + re.sub(r"[^\n]", " ", text[it.start : it.end]) + text[it.end :]
     return text
 
 
@@ -117,10 +118,6 @@ class Source:
             head += "".join(f" where {bound[1]} = {' '.join(value.split())}" for value in values)
             yield f"{self.name} | {owner.called if owner else 'outside'} | {head}", found.start()
 
-    def before(self, place):
-        """The end of the code before a place."""
-        return self.code[max(0, place - 80) : place]
-
     def at(self, place):
         return f"{tree.relative(self.path)}:{self.code.count(chr(10), 0, place) + 1}"
 
@@ -146,61 +143,25 @@ def wrong_calls(files):
     others = {word for _, words in listed(CALLS) for word in words.split()}
     known = {it.name for file in files for it in file.functions} | others
     for file in files:
-        crate = [it for it in files if it.crate == file.crate]
         for path, name, macro, place in calls(file.code):
-            types = types_of(file.before(place), file.owner(place), file, crate) if path == "." and name in ITERATORS else None
-            own = any(it.name == name and it.type in (types or ()) for other in files for it in other.functions)
-            of_iterator = path == "." and name in ITERATORS and not own
-            if of_iterator or name not in (MACROS if macro else others if path.startswith("std::") else known):
+            if name not in (MACROS if macro else others if path.startswith("std::") else known - ITERATORS if path == "." else known):
                 yield f"{file.at(place)}: a call that isn't listed: {path}{name}{'!' if macro else ''}"
 
 
-def types_of(before, owner, file, crate):
-    """The words of the types that a receiver may have, by the text before its dot, or None if that isn't known: those of the caller for
-    `self`, those that its crate declares for a field, and those of the function for a parameter or a local with a type."""
-    receiver = re.search(r"(\.?)(\w+)\s*\Z", before)
-    if not receiver or not owner:
-        return None
-    dot, name = receiver.groups()
-    if name == "self":
-        return {owner.type}
-    text = file.code[owner.start : owner.end]
-    # A pattern gives a local the name and the type of a field.
-    of_field = dot or (re.search(rf"\blet \w+ {{[^{{}}]*\b{name}\b[^{{}}]*}} =", text) and not re.search(rf"\blet (?:mut )?{name}\b", text))
-    texts = [it.code for it in crate] if of_field else [text]
-    declared = [its for text in texts for its in re.findall(rf"\b{name}: ([^,;={{}}]*)", text)]
-    bound = not of_field and re.search(rf"[\s(|]{name}\b(?!:)[^;.]*=[^=]", text)
-    return {word for its in declared for word in re.findall(r"\w+", its)} if declared and not bound else None
-
-
-def callees(file, place, path, name, files):
-    """The functions of its crate that a call may run, each as its file and itself. What isn't known of a receiver may be any type."""
-    named = [(other, it) for other in files if other.crate == file.crate for it in other.functions if it.name == name]
-    if not named:
-        return
-    owner, module = file.owner(place), path.rstrip(":").split("::")[-1]
-    kind = owner.type if owner and module == "Self" else module
-    imported = re.search(rf"\buse (?:crate|super)::[^;]*\b{name}\b", file.code)
-    types = types_of(file.before(place), owner, file, [it for it in files if it.crate == file.crate]) if path == "." else None
-    for other, it in named:
-        if path == ".":
-            fits = it.type and (not types or it.type in types)
-        elif path:
-            fits = it.type == kind if it.type else module in (other.path.stem, "crate", "super", "self")
-        else:
-            fits = not it.type and (other is file or imported)
-        if fits:
-            yield other, it
-
-
 def wrong_cycles(files):
-    """The functions that call themselves, directly or through others of their crate."""
-    steps = {}
+    """The functions that call themselves by a path or on `self`, those that have a measure, and the types that contain themselves."""
     for file in files:
+        recursive = (name for name, text in TYPE.findall(file.code) if re.search(rf"\b(?:Self|{name})\b", text))
+        yield from (f"crates/{file.name}: {name} contains itself" for name in recursive)
         for path, name, macro, place in calls(file.code):
-            if (owner := file.owner(place)) and not macro:
-                steps.setdefault((file.name, owner.called), set()).update((other.name, it.called) for other, it in callees(file, place, path, name, files))
-    yield from (f"crates/{start[0]}: {start[1]} calls itself" for start in steps if start in laws.reached(steps[start], steps))
+            owner = file.owner(place)
+            if owner and owner.name == name and not macro:
+                own = {"Self", owner.type} if owner.type else {"self", "crate", "super", file.path.stem}
+                on_itself = {"": not owner.type, ".": re.search(r"\bself\s*\Z", file.code[max(0, place - 80) : place])}
+                if on_itself.get(path, path.rstrip(":").split("::")[-1] in own):
+                    yield f"crates/{file.name}: {owner.called} calls itself"
+    measured = (path for crate in CRATES for path in tree.folder(crate).glob("proofs/**/+*"))
+    yield from (f"{tree.relative(path)}: {path.name[1:]} calls itself" for path in measured)
 
 
 def main(_):

@@ -1,15 +1,12 @@
 """wrong-bodies CRATE.. | --all: tries the wrong bodies of these crates, or of all, with this machine's toolchain: `rt ci` in a copy that
 has these crates and those below them. Each crate whose wrong bodies are all refused gets an entry in .ci/refused, and docs/GALLERY.md gets
-the goals that the refusals name. With --all it then proves all twins. The gate begins with `wrong-bodies --aside`: it moves the wrong
-bodies of the crates with an entry, of any version, out of must-fail/. `wrong-bodies --back` puts them back. With a LOG that `rt ci` wrote,
-it also records what was tried there and had no entry."""
+the goals that the refusals name. With --all it then proves all twins. The gate moves the wrong bodies of the crates with an entry, of any
+version, out of must-fail/ while it runs. `wrong-bodies --back` puts them back if it was killed."""
 
 import re
 import shutil
 import subprocess
 import sys
-import tempfile
-from pathlib import Path
 
 from gate import gallery, record, tree, twins
 
@@ -17,7 +14,7 @@ from gate import gallery, record, tree, twins
 ALWAYS = ("uses",)
 # An edit that is refused, and the goal that is left open: at an answer, or at code without an answer.
 REFUSED = re.compile(
-    r"rt: must-fail (\w+)/([\w.-]+): refused, as it must be(?!.*says little of the contract)(?:.*?(?:\d: error: `|\(`)([\w-]+)`)?"
+    r"rt: must-fail (\w+)/(\w+)\.edit: refused, as it must be(?!.*says little of the contract)(?:.*?(?:\d: error: `|\(`)([\w-]+)`)?"
 )
 
 
@@ -31,7 +28,7 @@ def aside():
 
 
 def note(names, found):
-    """Records the crates all of whose edits this version refused, and the goals that it found. Returns 1 if there are others."""
+    """Records the crates of these all of whose edits this version refused, and the goals that it found. Returns 1 if there are others."""
     book, those = refused(), {its[:2] for its in found}
     gallery.put(found)
     tried = [(name, book.sum_of(name), all((name, it.name) in those for it in tree.edits(name))) for name in names]
@@ -55,54 +52,32 @@ def put_aside():
     that refused them."""
     put_back()
     book = refused()
-    misfits = [it for name in book.used for it in tree.edits(name) if tree.edited(tree.folder(name), {}, it) is None]
-    if misfits:
-        return tree.verdict((f"{tree.relative(it)} changes a text that isn't there exactly once" for it in misfits), "")
-    if not (tree.TOP / ".git").is_dir():
-        return 0
-    # An empty folder also says that a run has begun.
-    aside().mkdir()
-    known = {name: its for name, its in book.versions().items() if its and name not in ALWAYS}
-    if not known:
-        return 0
-    here, count = record.version(), sum(len(tree.edits(it)) for it in known)
-    others = sorted({it for its in known.values() if here not in its for it in its})
-    by = f" with {' and '.join(others)}; this machine has {here}" if others else f" with {here}"
-    print(f"not tried again: {count} wrong bodies that were refused on the present text{by}")
+    if misfits := [it.place for name in book.used for it in tree.edits(name) if tree.edited({}, it) is None]:
+        raise SystemExit("\n".join(f"{it} changes a text that isn't there exactly once" for it in misfits))
+    known = {name: its for name, its in book.versions().items() if its and name not in ALWAYS and (tree.TOP / ".git").is_dir()}
+    if known:
+        others = sorted({it for its in known.values() for it in its} - {here := record.version()})
+        by = f" with {' and '.join(others)}; this machine has {here}" if others else f" with {here}"
+        print(f"not tried again: {sum(len(tree.edits(it)) for it in known)} wrong bodies that were refused on the present text{by}")
+        aside().mkdir()
     for name in known:
         shutil.move(tree.folder(name) / "must-fail", aside() / name)
-    return 0
 
 
-def refusals(names):
-    """The edits of these crates that a run refuses, each as its crate, its file and its goal."""
-    with tempfile.TemporaryDirectory(prefix="wrong-bodies-") as room:
-        tree.copy_to(Path(room), names, tree.crates())
-        with subprocess.Popen(["rt", "ci"], cwd=room, stdout=subprocess.PIPE, text=True, errors="replace") as run:
-            for line in run.stdout:
-                print(line, end="", flush=True)
-                yield from REFUSED.findall(line)
-
-
-def note_from(log):
-    """Records what a run of the gate tried. A crate that each run tries may have an entry already: then it only checks that the
-    run refused."""
-    if (tree.TOP / ".git").is_dir() and not aside().is_dir():
-        print("nothing was put aside, so this log doesn't say which wrong bodies were tried", file=sys.stderr)
-        return 2
-    untried, found = put_back(), set(REFUSED.findall(Path(log).read_text(errors="replace")))
+def note_from(said):
+    """Records what a run of the gate tried, by what `rt ci` printed. A crate that each run tries may have an entry already: then it only
+    checks that the run refused."""
+    untried, found = put_back(), set(REFUSED.findall(said))
     those = {its[:2] for its in found}
     tried = {name: its for name, its in refused().versions().items() if name not in untried}
     return note([name for name, its in tried.items() if not its or any((name, it.name) not in those for it in tree.edits(name))], found)
 
 
 def main(words):
-    if words == ["--aside"]:
-        return put_aside()
     if words == ["--back"]:
         put_back()
         return 0
-    if words[:1] == ["--back"] and len(words) == 2:
-        return note_from(words[1])
     names = refused().asked(words)
-    return note(names, set(refusals(names))) | (twins.main(["--all"]) if words == ["--all"] else 0)
+    with tree.copied(names) as room:
+        _, said = tree.said_by(room, "rt", "ci", shown=True)
+    return note(names, set(REFUSED.findall(said))) | (twins.main(["--all"]) if words == ["--all"] else 0)

@@ -5,16 +5,13 @@ stands between a law and a definition is copied too. The clause has to stay open
 proved with the twin. For each crate whose wrong definitions are all refused .ci/refused-definitions gets an entry. --check names the crates
 without one, and fails if an edit doesn't fit its definition or names no law."""
 
-import importlib.machinery
 import importlib.util
 import re
 import shutil
-import sys
-import tempfile
+from itertools import starmap
 from pathlib import Path
-from types import SimpleNamespace
 
-from gate import laws, record, tree
+from gate import record, tree
 
 # How a text names a file of specs/ or proofs/: by its crate, its folder and its name.
 NAMED = re.compile(r"\bRattle\.(\w+)\.(specs|proofs)\.(\w+)")
@@ -23,19 +20,26 @@ WORD = re.compile(r"[^\s(){}\[\],;.]+")
 DEFINED = re.compile(r"^(?:(?:abbrev |unfoldable )?(?:pub )?(?:record |data )?|  )([^\s:(){}]+)(?= [:({])", re.M)
 
 
-def edit_of(path):
-    """A wrong definition: its crate and name, the law and the clause that refuse it, the law's crate, modules and function, and the definition
-    with its text, a wrong one and a right one."""
-    fields = dict(line.split(": ", 1) for line in path.read_text().splitlines())
-    law, clause = fields.pop("law").split()
-    home, *modules, function = law.split("::")
-    its = {"crate": path.parent.parent.name, "name": path.stem, "law": law, "clause": clause, "home": home, "modules": modules, "function": function}
-    return SimpleNamespace(**its, **fields)
+class Wrong:
+    """A wrong definition: the law and the clause that refuse it, the law's crate, modules and function, the definition with its text, and
+    the tags of two copies of the law, with a wrong text and with a right one."""
+
+    def __init__(self, number, edit):
+        its = dict(line.split(": ", 1) for line in edit.text.splitlines())
+        self.crate, self.name, self.place, self.definition, self.old = edit.crate, edit.name, edit.place, its["definition"], its["old"]
+        self.law, self.clause = its["law"].split()
+        self.home, *self.modules, self.function = self.law.split("::")
+        self.wrong, self.twin = f"w{number}", f"t{number}"
+        self.copies = {self.wrong: its["new"], self.twin: its["twin"]}
+
+    def of_law(self, folder, *more):
+        """A path in a folder of the law's crate, by its module."""
+        return tree.folder(self.home).joinpath(folder, *self.modules, *more)
 
 
-def edits(name):
-    """The wrong definitions of a crate."""
-    return [edit_of(path) for path in tree.edits(name, "wrong-definitions")]
+def edits(*names):
+    """The wrong definitions of crates."""
+    return list(starmap(Wrong, enumerate(it for name in names for it in tree.edits(name, "wrong-definitions"))))
 
 
 def sources(used):
@@ -56,23 +60,22 @@ def place_of(edit, texts):
 
 def law_of(edit):
     """The imports of a law's module, the law, and its answers; or None if there is no such law."""
-    source = tree.TOP.joinpath("crates", edit.home, "src", *edit.modules).with_suffix(".rt")
+    source = edit.of_law("src").with_suffix(".rt")
     text = source.read_text() if source.exists() else ""
     law = re.search(rf"^pub fn {edit.function}\(\)\n.*?^\{{\}}\n", text, re.M | re.S)
     if law is None or f"    ensures {edit.clause} {{" not in law[0]:
         return None
-    answers = tree.TOP.joinpath("crates", edit.home, "proofs", *edit.modules, edit.function, "Answers.antt")
+    answers = edit.of_law("proofs", edit.function, "Answers.antt")
     return "".join(re.findall(r"^ghost use .*\n", tree.by_module(text), re.M)), law[0], tree.by_module(answers.read_text()) if answers.exists() else ""
 
 
 def misfits(all_edits, texts):
     """What is wrong with these edits."""
     for it in all_edits:
-        path = f"crates/{it.crate}/wrong-definitions/{it.name}.edit"
         if place_of(it, texts) is None:
-            yield f"{path} changes a text that isn't in {it.definition} of {it.crate} exactly once"
+            yield f"{it.place} changes a text that isn't in {it.definition} of {it.crate} exactly once"
         if law_of(it) is None:
-            yield f"{path} names {it.law} {it.clause}, which is no clause of a law"
+            yield f"{it.place} names {it.law} {it.clause}, which is no clause of a law"
 
 
 def between(text, target, texts):
@@ -82,7 +85,7 @@ def between(text, target, texts):
     for it, others in names.items():
         for other in others:
             users.setdefault(other, set()).add(it)
-    return laws.reached(set(NAMED.findall(text)) & texts.keys(), names) & laws.reached([target], users)
+    return tree.reached(set(NAMED.findall(text)) & texts.keys(), names) & tree.reached([target], users)
 
 
 def part_of(text, wanted):
@@ -125,80 +128,59 @@ def put_copy(room, edit, tag, new, texts):
         (folder / "Answers.antt").write_text(redirected(own))
 
 
-def prover():
-    """The module behind the rt command, which knows how the prover is called with the crates below as sources."""
-    loader = importlib.machinery.SourceFileLoader("rt_main", str(Path(shutil.which("rt") or "rt").resolve()))
-    rt = importlib.util.module_from_spec(importlib.util.spec_from_loader("rt_main", loader))
-    sys.modules["rt_main"] = rt
-    loader.exec_module(rt)
-    if not hasattr(getattr(rt, "rtlib", None), "crates_below"):
-        raise SystemExit("wrong-definitions needs the toolchain's rt on the path, with its module rtlib beside it")
-    return rt.rtlib
-
-
-def checked(room, name):
-    """What the prover prints of the copied laws of a crate."""
-    rtlib = prover()
-    crate = {it.name: it for it in rtlib.crates_below(str(room))}[name]
-    try:
-        words = [*crate.words(["--jobs", "1"], keeps=False, as_source=True), "--only", f"{name}::wrong"]
-    except TypeError as error:
-        raise SystemExit(f"wrong-definitions needs an rt that can give the prover the crates below as sources: {error}") from error
-    return tree.said_by(crate.folder, rtlib.RATTLE, "check", *words)[1]
-
-
-def copies(all_edits):
-    """For each edit its tags: that of the wrong definition, and that of the twin."""
-    return [(it, f"w{number}", f"t{number}") for number, it in enumerate(all_edits)]
-
-
 def said_by(all_edits, used):
-    """What the prover prints of these edits, whose laws are in one crate."""
+    """What the prover prints of copies of the laws of these edits, which are in one crate. The module behind the rt command knows how it is called
+    with the crates below as sources."""
     home = all_edits[0].home
-    with tempfile.TemporaryDirectory(prefix="wrong-definitions-") as top:
-        room, texts = Path(top), sources(used)
-        tree.copy_to(room, [home], used)
+    with tree.copied([home]) as room:
+        texts = sources(used)
         (room / "crates" / home / "src/wrong").mkdir()
         with (room / "crates" / home / "src/lib.rt").open("a") as lib:
             lib.write("mod wrong;\n")
-        for it, wrong, twin in copies(all_edits):
-            put_copy(room, it, wrong, it.new, texts)
-            put_copy(room, it, twin, it.twin, texts)
-        return checked(room, home)
+        for it in all_edits:
+            for tag, new in it.copies.items():
+                put_copy(room, it, tag, new, texts)
+        spec = importlib.util.spec_from_file_location("rtlib", Path(shutil.which("rt") or "rt").resolve().with_name("rtlib.py"))
+        try:
+            rtlib = importlib.util.module_from_spec(spec)
+            spec.loader.exec_module(rtlib)
+            crate = next(it for it in rtlib.crates_below(str(room)) if it.name == home)
+            words = [*crate.words(["--jobs", "1"], keeps=False, as_source=True), "--only", f"{home}::wrong"]
+        except (OSError, AttributeError, TypeError) as error:
+            raise SystemExit(f"wrong-definitions needs the toolchain's rt on the path, and a rtlib that gives crates as sources: {error}") from error
+        return tree.said_by(crate.folder, rtlib.RATTLE, "check", *words)[1]
 
 
-def fault_of(edit, wrong, twin, said):
+def fault_of(edit, said):
     """What is wrong with an edit by what the prover printed, or nothing."""
     lines = said.splitlines()
-    proved = re.compile(r"^fn \w+::wrong::(\w+)::\w+: proved$")
-    well = {found[1] for found in map(proved.match, lines) if found}
-    unread = [it for it in lines if re.search(rf"(?:specs/|src/wrong/)(?:{wrong}|{twin})[_.].*: error", it)]
-    refusals = [it for it in lines if f"proofs/wrong/{wrong}/" in it or f"::wrong::{wrong}::" in it]
+    well = set(re.findall(r"^fn \w+::wrong::(\w+)::\w+: proved$", said, re.M))
+    unread = [it for it in lines if re.search(rf"(?:specs/|src/wrong/)(?:{edit.wrong}|{edit.twin})[_.].*: error", it)]
+    refusals = [it for it in lines if f"proofs/wrong/{edit.wrong}/" in it or f"::wrong::{edit.wrong}::" in it]
     if unread:
         return f"can't be read: {unread[0]}"
-    if wrong in well:
+    if edit.wrong in well:
         return f"NOT REFUSED by {edit.law}"
     if not any(re.search(rf"returns-clause-{edit.clause}\b", it) for it in refusals):
         return f"is refused, but not by the clause {edit.clause} of {edit.law}"
-    if twin not in well:
-        return next((f"has a twin that is not proved: {it}" for it in lines if f"proofs/wrong/{twin}/" in it), "has a twin that is not proved")
+    if edit.twin not in well:
+        return ": ".join(["has a twin that is not proved", *(it for it in lines if f"proofs/wrong/{edit.twin}/" in it)][:2])
     return ""
 
 
-def faulty(names, used):
-    """The crates of these that have an edit that isn't refused as it has to be. Prints each edit."""
-    lost = set()
-    every = [it for name in names for it in edits(name)]
+def refused(names, used):
+    """Of each of these crates whether its edits are refused as they have to be. Prints each edit."""
+    lost, every = set(), edits(*names)
     for home in sorted({it.home for it in every}):
         mine = [it for it in every if it.home == home]
         said = said_by(mine, used)
-        for it, wrong, twin in copies(mine):
-            fault = fault_of(it, wrong, twin, said)
+        for it in mine:
+            fault = fault_of(it, said)
             print(f"wrong definition {it.crate}/{it.name}: {fault or 'refused, and its twin is proved'}", flush=True)
             lost |= {it.crate} if fault else set()
         if not re.search(r"^only=\d+ ", said, re.M):
             print(said[-2000:])
-    return lost
+    return [name not in lost for name in names]
 
 
 class Refused(record.Record):
@@ -208,23 +190,17 @@ class Refused(record.Record):
         """A sum of the text that the refusals of a crate depend on: its edits, the definitions that a law reads, and the laws."""
         named = {it.law: it for it in edits(name)}
         specs = sorted({name, *tree.below(name, self.used), *(it.home for it in named.values())})
-        folders = [f"crates/{name}/{self.kind}", *(f"crates/{it}/specs" for it in specs)]
-        files = []
+        files = [path for it in specs for path in record.files_of(it, "specs")]
         for it in named.values():
-            crate = tree.folder(it.home)
-            files += [crate.joinpath("src", *it.modules).with_suffix(".rt"), *sorted(crate.glob("proofs/*.antt"))]
-            files += crate.joinpath("proofs", *it.modules, it.function).glob("*.antt")
-        return record.sum_of_files(folders, files)
+            files += [it.of_law("src").with_suffix(".rt"), *sorted(tree.folder(it.home).glob("proofs/*.antt"))]
+            files += it.of_law("proofs", it.function).glob("*.antt")
+        return record.sum_of([*tree.edits(name, self.kind), *files])
 
 
 def main(words):
     book = Refused("refused-definitions", "wrong-definitions")
-    if wrong := list(misfits([it for name in book.having() for it in edits(name)], sources(book.used))):
+    if wrong := list(misfits(edits(*book.having()), sources(book.used))):
         return tree.verdict(wrong, "")
     if words == ["--check"]:
-        book.tell("wrong definitions were refused", "try: those of")
-        return 0
-    names = book.asked(words)
-    sums = {name: book.sum_of(name) for name in names}
-    lost = faulty(names, book.used)
-    return book.note([(name, mine, name not in lost) for name, mine in sums.items()], "wrong definitions of {} were not refused")
+        return book.tell("wrong definitions were refused", "try: those of")
+    return book.main(words, lambda names: refused(names, book.used), "wrong definitions of {} were not refused")

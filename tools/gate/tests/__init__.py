@@ -34,9 +34,16 @@ class Small(unittest.TestCase):
         """A stand-in for `rt`, which knows the top of the repository as $top."""
         self.write("bin/rt", f"#!/usr/bin/env bash\ntop={self.top}\n{text}").chmod(0o755)
 
-    def edit(self, crate, path, *pairs):
-        changes = "".join(f"old: {old}\nnew: {new}\n" for old, new in pairs)
-        self.write(f"crates/{crate}/{path}", f"file: src/lib.rt\n{changes}")
+    def edit(self, crate, name, *pairs):
+        """A wrong body."""
+        self.write(f"crates/{crate}/must-fail/{name}.edit", self.lines(pairs))
+
+    def twins(self, crate, *named):
+        """The twins of a crate, each as its name and its pairs of texts."""
+        self.write(f"crates/{crate}/twins.edits", "\n".join(f"edit: {name}\n{self.lines(pairs)}" for name, *pairs in named))
+
+    def lines(self, pairs):
+        return "file: src/lib.rt\n" + "".join(f"old: {old}\nnew: {new}\n" for old, new in pairs)
 
     def run_main(self, module, *words, status=0):
         """What a command prints."""

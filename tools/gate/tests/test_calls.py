@@ -1,6 +1,6 @@
 """What docs/CALLS.md has of a public call: its sentence, and each clause with what it says."""
 
-from gate import calls
+from gate import calls, tree
 from gate.tests import Small
 
 SPECS = """-- Rooms.
@@ -47,13 +47,16 @@ class Calls(Small):
         self.write("crates/low/src/lib.rt", SOURCE.replace("LONG", "x " * 200))
         self.write("crates/laws/src/lib.rt", "ghost use Rattle.low.specs.Rooms.{Fits};\n\n/// What fits.\npub fn law()\n    ensures { Fits 1 }\n{\n}\n")
 
+    def page(self):
+        return calls.page({it: its for crate in ("low", "laws") for it, its in tree.definitions(crate).items()})
+
     def rows(self):
-        return [line for line in calls.page()[0].splitlines() if line.startswith("| ")]
+        return [line for line in self.page()[0].splitlines() if line.startswith("| ")]
 
     def test_a_call_has_a_sentence(self):
-        self.assertEqual(calls.page()[1], [])
+        self.assertEqual(self.page()[1], [])
         self.write("crates/low/src/lib.rt", "pub fn fill(n: u32)\n{\n}\n")
-        self.assertEqual(calls.page()[1], ["fill has no sentence above it"])
+        self.assertEqual(self.page()[1], ["fill has no sentence above it"])
 
     def test_a_call_has_its_sentence_and_its_clauses(self):
         rows = self.rows()

@@ -7,10 +7,9 @@ import subprocess
 from pathlib import Path
 from unittest import mock
 
-from gate import check, definitions, gallery, layout, needless, promises, tree, twins, waits_nowhere, wrong_bodies, wrong_definitions
+from gate import check, tree, wrong_bodies
 from gate.tests import Small
 
-MODULES = (waits_nowhere, definitions, promises, layout, gallery, twins, wrong_bodies, wrong_definitions, needless)
 HERE = Path(__file__).parents[3]
 
 
@@ -18,10 +17,10 @@ class Check(Small):
     def setUp(self):
         super().setUp()
         self.ran, self.fails, self.last = [], "", "12 passed, 0 failed"
-        for module in MODULES:
-            self.patch(module, "main", lambda words, module=module: self.runs(" ".join([module.__name__.removeprefix("gate."), *words[:2]])))
+        self.patch(wrong_bodies, "put_aside", lambda: self.ran.append("put aside"))
+        self.patch(wrong_bodies, "note_from", lambda said: self.runs(f"note {said}"))
         self.patch(wrong_bodies, "put_back", lambda: self.ran.append("put back"))
-        self.patch(check, "streamed", lambda command, _: (self.runs(" ".join(command)), self.last))
+        self.patch(tree, "said_by", lambda _, *command, shown: (self.runs(" ".join(command)), self.last))
         self.patch(check, "packages", lambda is_ci: ["fio"])
         self.patch(subprocess, "run", lambda command, **_: subprocess.CompletedProcess(command, self.runs(" ".join(command))))
         self.patch(subprocess, "Popen", lambda command, **_: self.ran.append("beside: " + " ".join(command)))
@@ -48,11 +47,8 @@ class Check(Small):
     def test_the_cheap_checks_come_before_the_proofs_and_these_before_the_rest(self):
         lines, status = self.said()
         self.assertEqual((lines[-1], status), ("12 passed, 0 failed", 0))
-        cheap = ["waits_nowhere", "definitions", "promises", "layout", "gallery", "twins --check", "wrong_definitions --check", "needless --check"]
-        self.assertEqual(self.ran[:10], [".ci/needs fio", *cheap, " ".join(check.UNIT_TESTS)])
-        proofs = ["wrong_bodies --aside", "rt ci", "wrong_bodies --back " + self.ran[12][len("wrong_bodies --back "):], "put back"]
-        follow = ["twins --missing", "wrong_definitions --missing", "./flashplay --prove", check.LIBRARY]
-        self.assertEqual(self.ran[10:18], [*proofs, *follow])
+        self.assertEqual(self.ran[:10], [".ci/needs fio", *check.BEFORE])
+        self.assertEqual(self.ran[10:18], ["put aside", "rt ci", "note 12 passed, 0 failed", "put back", *check.AFTER])
         rest = [command for row in check.ROWS for command in row]
         self.assertEqual(sorted(self.ran[18:]), sorted(rest))
         for row in check.ROWS:
@@ -70,16 +66,18 @@ class Check(Small):
     def test_a_proof_that_fails_ends_it(self):
         self.fails, self.last = "rt ci", "11 passed, 1 failed"
         self.assertEqual((self.said()[1], self.ran[-1]), (1, "put back"))
+        self.ran, self.fails = [], "note"
+        self.assertEqual((self.said()[1], self.ran[-1]), (1, "put back"))
 
     def test_a_later_failure_is_not_followed_by_the_counts(self):
-        for step in ("promises", "twins --missing", "bench/run", "bindings/nbdkit/check"):
+        for step in (".ci/promises", ".ci/twins --missing", "bench/run", "bindings/nbdkit/check"):
             self.ran, self.fails = [], step
             lines, status = self.said()
             self.assertNotIn("12 passed, 0 failed", lines[-1:])
             self.assertRegex(status, f"failed: .*{step}")
 
     def test_each_script_is_there(self):
-        for command in (command for row in check.ROWS for command in row):
+        for command in (*check.BEFORE, *check.AFTER[:-1], *(command for row in check.ROWS for command in row)):
             self.assertTrue(os.access(HERE / command.split()[0], os.X_OK), command)
 
 
@@ -90,9 +88,10 @@ class Packages(Small):
             self.assertNotIn("numpy", check.packages(True))
 
 
-class Streamed(Small):
-    def test_what_a_command_prints_is_shown_and_kept(self):
-        kept, printed = io.StringIO(), io.StringIO()
-        with contextlib.redirect_stdout(printed):
-            self.assertEqual(check.streamed(["sh", "-c", "echo first; echo last; exit 3"], kept), (3, "last"))
-        self.assertEqual((kept.getvalue(), printed.getvalue()), ("first\nlast\n",) * 2)
+class Said(Small):
+    def test_what_a_command_prints_is_returned_and_may_be_shown(self):
+        for shown in (False, True):
+            printed = io.StringIO()
+            with contextlib.redirect_stdout(printed):
+                self.assertEqual(tree.said_by(self.top, "sh", "-c", "echo first; echo last; exit 3", shown=shown), (3, "first\nlast\n"))
+            self.assertEqual(printed.getvalue(), "first\nlast\n" if shown else "")

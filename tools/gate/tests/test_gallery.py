@@ -19,8 +19,8 @@ class Gallery(Small):
         self.write("docs/GALLERY.md", "# Wrong bodies\n")
         self.write("crates.txt", "one:\n")
         self.write("crates/one/src/lib.rt", SOURCE)
-        self.edit("one", "must-fail/low_errs.edit", ("    1;", "    0;"))
-        self.edit("one", "must-fail/high_errs.edit", ("    2;", "    0;"))
+        self.edit("one", "low_errs", ("    1;", "    0;"))
+        self.edit("one", "high_errs", ("    2;", "    0;"))
         self.run_main(gallery, "--write")
 
     def rows(self):
@@ -43,12 +43,12 @@ class Gallery(Small):
         self.assertEqual(self.rows()["Low errs"][1], "**`returns-clause-changed`**")
 
     def test_an_edit_outside_of_all_functions_is_in_its_file(self):
-        self.edit("one", "must-fail/low_errs.edit", ("LOW: u32 = 1;", "LOW: u32 = 0;"))
+        self.edit("one", "low_errs", ("LOW: u32 = 1;", "LOW: u32 = 0;"))
         self.run_main(gallery, "--write")
         self.assertEqual(self.rows()["Low errs"][0], "`lib`")
 
     def test_the_page_is_of_the_edits_and_their_twins(self):
-        self.edit("one", "twins/low_errs.edit", ("    1;", "    1 + 0;"))
+        self.twins("one", ("low_errs", ("    1;", "    1 + 0;")))
         self.assertIn("docs/GALLERY.md differs", self.run_main(gallery, status=1))
         self.run_main(gallery, "--write")
         self.assertEqual(self.rows()["Low errs"][2], "`1 + 0;` |")

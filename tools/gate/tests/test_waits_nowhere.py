@@ -28,7 +28,7 @@ SPINS = (
     ("host/src/searching.rt", f"loop {{ if {FOUND} {{ break; }} }}", LOOP, f"if {FOUND} {{ gate.at(Point::AfterLook); }} // loop {{"),
     (TABLE, f"(0..4_000_000_000u64).find(|_| {EMPTY});", CALL + ".find", f"4_000_000_000u64.saturating_sub({EMPTY} as u64);"),
     (HOST, f"std::iter::repeat(0).all(|_| {FOUND});", CALL + "std::iter::repeat", f'let text = "std::iter::repeat(0).all(|_| {FOUND})";'),
-    (HOST, f"(0..4_000_000_000u64).fold((), |_, _| {FOUND});", CALL + ".fold", f"let other: Volume = here; other.fold((), {FOUND});"),
+    (HOST, f"(0..4_000_000_000u64).fold((), |_, _| {FOUND});", CALL + ".fold", f"let other: Volume = here; Volume::fold(other, {FOUND});"),
     (HOST, f"if {FOUND} {{ trim(flash, pass, sector); }}", "crates/host/writing.rt: trim calls itself", f"if {FOUND} {{ close_if_full(flash, pass); }}"),
     (TABLE, f"if {EMPTY} {{ Self::place_trim(self, pass, sector); }}", "Flash::place_trim calls itself", f"if {EMPTY} {{ Self::take(self, pass, 0); }}"),
     (TABLE, "self.table.shared.peek(sector as usize);", CALL + ".peek", "self.table.shared.load(sector as usize);"),
@@ -37,6 +37,12 @@ SPINS = (
     (HOST, f"for block in 0..flash.geometry().blocks() {{ loop {{ if {FOUND} {{ break; }} }} }}", LOOP, f"if {FOUND} {{ if {FOUND} {{ }} }}"),
     (HOST, 'let text = r#"a " text"#; loop {} let other = "";', "can't read `r#", 'let text = "a \\" text, loop {}"; let other = "";'),
     (HOST, 'let one = 1; /* " */ loop {} /* " */', "can't read `/*`", 'let one = 1; // " */ loop {} /x " x/'),
+    (HOST, f"if {FOUND} {{ super::writing::trim(flash, pass, sector); }}", "trim calls itself", f"if {FOUND} {{ broom::trim(flash, pass, sector); }}"),
+    (TABLE, f"if {EMPTY} {{ self\n    .place_trim(pass, sector); }}", "Flash::place_trim calls itself", f"if {EMPTY} {{ self.a.place_trim(pass, 0); }}"),
+    ("host/src/lib.rt", "struct Node {\n    next: Option<Box<Node>>,\n}", "Node contains itself", "struct Node {\n    next: Option<Box<u8>>,\n}"),
+    ("host/src/lib.rt", "enum Node {\n    Last,\n    More(Box<Self>),\n}", "Node contains itself", "enum Node {\n    Last,\n    More(Box<Last>),\n}"),
+    ("host/src/lib.rt", "pub struct Node(u8, Box<Node>);", "Node contains itself", "pub struct Node(u8, Box<Nodes>);"),
+    ("host/src/lib.rt", "#[cycle(spins)]", CALL + "cycle", "#[inline]"),
     ("host/src/lib.rt", "macro_rules! spin { () => { loop {} } }", LOOP, "// macro_rules! spin { () => { loop {} } }"),
 )
 
@@ -61,6 +67,10 @@ class Waits(Small):
                 path.write_text(before.replace(place, f"{twin}\n{place}"))
                 self.run_main(waits_nowhere)
             path.write_text(before)
+
+    def test_a_function_with_a_measure_is_refused(self):
+        (tree.folder("host") / "proofs/writing/+trim").mkdir(parents=True)
+        self.assertIn("crates/host/proofs/writing/+trim: trim calls itself", self.run_main(waits_nowhere, status=1))
 
     def test_a_listed_loop_with_another_bound_is_refused(self):
         path = self.top / "crates" / HOST

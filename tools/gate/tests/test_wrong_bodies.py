@@ -1,6 +1,8 @@
 """What `wrong-bodies` records, tried on three small crates: a clean checkout passes with any version of the toolchain, and no entry of
 another version is lost."""
 
+import contextlib
+import io
 import subprocess
 from unittest import mock
 
@@ -68,7 +70,7 @@ class Refused(Small):
         (self.top / ".git").mkdir()
         for name in ("uses", "low", "high"):
             self.write(f"crates/{name}/src/lib.rt", f"// {name}\n")
-            self.edit(name, f"must-fail/{name}_errs.edit")
+            self.edit(name, f"{name}_errs")
         self.version(OLD)
         self.run_main(wrong_bodies, "--all")
 
@@ -77,12 +79,19 @@ class Refused(Small):
 
     def gate(self, status=0):
         """A run of the gate: what it prints about the edits that it leaves out, and the crates whose edits it tries."""
-        said = self.run_main(wrong_bodies, "--aside")
+        said = self.aside()
         tried = sorted({path.parent.parent.name for path in self.top.glob("crates/*/must-fail/*.edit")})
         log = subprocess.run([self.top / "bin/rt", "ci"], cwd=self.top, capture_output=True, text=True, check=True).stdout
-        self.run_main(wrong_bodies, "--back", str(self.write("log", log)), status=status)
+        with contextlib.redirect_stderr(io.StringIO()):
+            self.assertEqual(wrong_bodies.note_from(log), status)
         self.assertEqual(len(list(self.top.glob("crates/*/must-fail/*.edit"))), 3)
         return said, tried
+
+    def aside(self):
+        printed = io.StringIO()
+        with contextlib.redirect_stdout(printed):
+            wrong_bodies.put_aside()
+        return printed.getvalue()
 
     def entries(self):
         return sorted((words[0], words[2]) for words in (line.split(" ", 2) for line in self.record().splitlines()))
@@ -148,15 +157,16 @@ class Refused(Small):
             self.assertEqual(self.gate()[1], ["low", "uses"], old)
 
     def test_an_edit_has_to_fit_its_file(self):
-        self.edit("low", "must-fail/low_errs.edit", ("// low", "// high"))
+        self.edit("low", "low_errs", ("// low", "// high"))
         self.run_main(wrong_bodies, "low")
-        self.run_main(wrong_bodies, "--aside")
+        self.aside()
         self.run_main(wrong_bodies, "--back")
         self.write("crates/low/src/lib.rt", "// lower\n")
-        self.run_main(wrong_bodies, "--aside")
+        self.aside()
         self.run_main(wrong_bodies, "--back")
         self.write("crates/low/src/lib.rt", "// other words\n")
-        self.run_main(wrong_bodies, "--aside", status=1)
+        with self.assertRaisesRegex(SystemExit, "crates/low/must-fail/low_errs.edit changes a text that isn't there exactly once"):
+            wrong_bodies.put_aside()
 
     def test_all_adds_its_entries_and_takes_none_of_another_version_away(self):
         self.version(NEW)
@@ -172,13 +182,12 @@ class Refused(Small):
         self.write("taken", "uses_errs.edit\n")
         self.gate(status=1)
 
-    def test_a_log_counts_only_for_the_run_that_put_edits_aside(self):
-        before = self.record()
-        self.run_main(wrong_bodies, "--aside")
-        log = str(self.write("log", ""))
+    def test_what_was_put_aside_comes_back(self):
+        before = sorted(self.top.glob("crates/*/must-fail/*.edit"))
+        self.aside()
+        self.assertEqual(len(list(self.top.glob("crates/*/must-fail/*.edit"))), 1)
         self.run_main(wrong_bodies, "--back")
-        self.run_main(wrong_bodies, "--back", log, status=2)
-        self.assertEqual(self.record(), before)
+        self.assertEqual(sorted(self.top.glob("crates/*/must-fail/*.edit")), before)
 
     def test_a_run_that_tries_all_edits_is_recorded(self):
         self.write(".ci/refused", "")

@@ -6,22 +6,14 @@ from gate import wrong_definitions
 from gate.tests import Small
 
 # Reads each copied law through the copies that it names, by the word that the copy of the definition has.
-STAND_IN = '''#!/usr/bin/env python3
+STAND_IN = """#!/usr/bin/env python3
 import re, sys
 from pathlib import Path
-from types import SimpleNamespace
-
-def words(flags, keeps, as_source):
-    return []
-
-def crates_below(top):
-    return [SimpleNamespace(name="laws", folder=f"{top}/crates/laws", words=words)]
 
 def definition(text, tag):
     found = re.search(rf"{tag}_\\w+", text)
     return definition(Path(f"specs/{found[0]}.antt").read_text(), tag) if found else text
 
-rtlib = SimpleNamespace(RATTLE=str(Path(__file__).resolve()), crates_below=crates_below)
 if sys.argv[1:2] == ["version"]:
     print("rattle-kit-1a logic 01")
 if sys.argv[1:2] == ["check"]:
@@ -34,7 +26,18 @@ if sys.argv[1:2] == ["check"]:
         else:
             print(f"fn laws::wrong::{tag}::small: proved")
     print("only=2 proved=1")
-'''
+"""
+LIBRARY = """
+from types import SimpleNamespace
+
+RATTLE = __file__.replace("rtlib.py", "rt")
+
+def words(flags, keeps, as_source):
+    return []
+
+def crates_below(top):
+    return [SimpleNamespace(name="laws", folder=f"{top}/crates/laws", words=words)]
+"""
 LAW = "ghost use Rattle.mid.specs.Mid.{Holds};\n\n/// A law.\npub fn small()\n    ensures held { Holds 1 }\n    ensures other { Holds 2 }\n{}\n"
 LOW = "-- A number.\nabbrev pub number : N\nnumber = right\n"
 MID = "use Rattle.low.specs.Low.{number}\n\n-- It holds.\nabbrev pub Holds : N → Type 0\nHolds n = n ≡ number\n"
@@ -44,6 +47,7 @@ class WrongDefinitions(Small):
     def setUp(self):
         super().setUp()
         self.write("bin/rt", STAND_IN).chmod(0o755)
+        self.write("bin/rtlib.py", LIBRARY)
         self.write("crates.txt", "low:\nmid: low\nlaws: mid low\n")
         self.write("crates/low/specs/Low.antt", LOW)
         self.write("crates/mid/specs/Mid.antt", MID)
@@ -54,8 +58,8 @@ class WrongDefinitions(Small):
         self.wrong("WRONG")
 
     def wrong(self, new, twin="also_right", law="laws::numbers::small held", old="right"):
-        text = f"law: {law}\ndefinition: number\nold: {old}\nnew: {new}\ntwin: {twin}\n"
-        self.write("crates/low/wrong-definitions/number_is_any.edit", text)
+        text = f"edit: number_is_any\nlaw: {law}\ndefinition: number\nold: {old}\nnew: {new}\ntwin: {twin}\n"
+        self.write("crates/low/wrong-definitions.edits", text)
 
     def run_here(self, *words, status=0):
         return self.run_main(wrong_definitions, *words, status=status)
@@ -110,6 +114,6 @@ class WrongDefinitions(Small):
         self.run_here("mid", status=2)
 
     def test_the_toolchain_is_named_if_it_is_not_there(self):
-        self.write("bin/rt", "#!/usr/bin/env python3\n").chmod(0o755)
+        self.write("bin/rtlib.py", "")
         with self.assertRaisesRegex(SystemExit, "needs the toolchain's rt"):
             self.run_here("low")
