@@ -1,5 +1,5 @@
 -- Which pages are found as their stamps are read, and which block can be freed.
-use Rattle.std.specs.Prelude.{◌≡◌, ◌≢◌, ◌⊎◌, ◌<◌, ◌+◌, ◌==◌, ℕ, false, max, List}
+use Rattle.std.specs.Prelude.{◌≡◌, ◌≢◌, ◌⊎◌, ◌<◌, ◌+◌, ◌==◌, ℕ, Bool, true, false, max, List}
 use Rattle.std.specs.Prelude.{[], ◌∷◌, length, Option, None, Some, if◌then◌else◌, nat_lt, slice_index_or}
 use Rattle.geometry.specs.declared.page_addr.PageAddr.{PageAddr}
 use Rattle.packed_map.specs.Entries.{IsPackable}
@@ -7,6 +7,7 @@ use Rattle.durable.specs.declared.found.Candidate.{Candidate}
 use Rattle.durable.specs.declared.found.Stamp.{Stamp}
 use Rattle.durable.specs.Losses.{has_gap}
 use Rattle.durable.specs.Updates.{Covers}
+use Rattle.durable.specs.declared.extent.Extent.{Extent}
 
 -- the twin of a page that was found: this one, unless there is one in a block without a gap
 abbrev pub twin_with : List ℕ → Option PageAddr → PageAddr → PageAddr
@@ -74,6 +75,22 @@ abbrev pub number_above : ℕ → Option Stamp → ℕ
 number_above next None = next
 number_above next (Some stamp) = max next (stamp.number + 1)
 
+-- the sectors of an extent are marked, and the others as before
+pub record MarksAll (old new : List Bool) (extent : Extent) : Type 0 where
+  pub size : length new ≡ length old
+  pub covered : (s : ℕ) → s < length old → Covers extent s → slice_index_or new s false ≡ true
+  pub others : (s : ℕ) → s < length old → ¬ Covers extent s → slice_index_or new s false ≡ slice_index_or old s false
+
+-- the same, if they have a value and no trim
+abbrev pub MarksValues : Bool → List Bool → List Bool → Extent → Type 0
+MarksValues true old new extent = new ≡ old
+MarksValues false old new extent = MarksAll old new extent
+
+-- the marks of the sectors that a page has a value of, with one page more
+abbrev pub IsMarkedWith : List Bool → List Bool → Option Stamp → Type 0
+IsMarkedWith old new None = new ≡ old
+IsMarkedWith old new (Some stamp) = MarksValues stamp.is_trim old new stamp.extent
+
 -- the version has a page in another block too, without a gap by these counts
 abbrev pub HasTwin : List ℕ → Candidate → ℕ → Type 0
 HasTwin gaps x b = (t : PageAddr) × (x.twin ≡ Some t) × (t.block ≢ b) × (has_gap gaps t.block ≡ false)
@@ -81,3 +98,19 @@ HasTwin gaps x b = (t : PageAddr) × (x.twin ≡ Some t) × (t.block ≢ b) × (
 -- each version that was found in the block has such a page in another one
 abbrev pub IsFreeable : List ℕ → List (Option Candidate) → ℕ → Type 0
 IsFreeable gaps found b = (s : ℕ) (x : Candidate) → s < length found → slice_index_or found s None ≡ Some x → x.at.block ≡ b → HasTwin gaps x b
+
+-- the page of a sector that has a value
+abbrev pub valued_page : Bool → Option PageAddr → Option PageAddr
+valued_page true page = page
+valued_page false page = None
+
+-- what is kept of what was found of a sector: nothing, if no page has a value of it
+abbrev pub needed_of : Bool → Option Candidate → Option Candidate
+needed_of true found = found
+needed_of false found = None
+
+-- the same of each sector
+abbrev pub AreNeeded : List Bool → List (Option Candidate) → List (Option Candidate) → Type 0
+AreNeeded valued found kept =
+    (length kept ≡ length found)
+    × ((s : ℕ) → s < length found → slice_index_or kept s None ≡ needed_of (slice_index_or valued s false) (slice_index_or found s None))

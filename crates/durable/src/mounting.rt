@@ -1,7 +1,7 @@
-ghost use Rattle.std.specs.Prelude.{◌≡◌, ◌≢◌, ◌⊎◌, ◌<◌, ◌≤◌, ◌+◌, ◌-◌, ◌*◌, ℕ, List, length, Ok, Err, Some, None, IfOk, OnOk, OnErr, IfSome};
+ghost use Rattle.std.specs.Prelude.{◌≡◌, ◌≢◌, ◌⊎◌, ◌<◌, ◌≤◌, ◌+◌, ◌-◌, ◌*◌, ℕ, List, Option, length, Ok, Err, Some, None, IfOk, OnOk, OnErr, IfSome};
 ghost use Rattle.durable.specs.Flash.{Flash};
 
-use crate::candidates::{freeable, is_of_device, take};
+use crate::candidates::{freeable, is_of_device, mark_values, take};
 use crate::command::Command;
 use crate::counting::counts_of;
 use crate::fault::MountFault;
@@ -16,12 +16,14 @@ use std::alloc::Global;
 impl Mount {
     ghost use Rattle.durable.specs.Updates.{Update};
     ghost use Rattle.durable.specs.Device.{device_of, device_in, losses_of, IsWrittenOn};
+    ghost use Rattle.durable.specs.Candidates.{AreNeeded};
     ghost use Rattle.durable.specs.Losses.{losses_in};
+    ghost use Rattle.durable.specs.declared.found.Candidate.{Candidate as Seen};
     ghost use Rattle.durable.specs.Whole.{MountsWhole};
     ghost use Rattle.durable.specs.Collecting.{HasCapacity};
     ghost use Rattle.durable.specs.Mounting.{IsStampOf, next_in, after_in};
     ghost use Rattle.durable.specs.Promise.{IsRecoverable};
-    ghost use Rattle.durable.specs.Calls.{HasNoted, Remounts, TellsLosses, TellsNoFalseLoss};
+    ghost use Rattle.durable.specs.Calls.{DropsTrims, HasNoted, Remounts, TellsLosses, TellsNoFalseLoss};
     ghost use Rattle.durable.specs.declared.fault.MountFault.TheVariants.{TooManySectors, ForeignStamp, NoFreeBlock, OutOfMemory};
 
     /// A mount that has noted nothing, of a device whose blocks are all in use.
@@ -58,6 +60,9 @@ impl Mount {
         let Ok(found) = Found::new(alloc, sectors) else {
             return Err(MountFault::OutOfMemory);
         };
+        let Ok(valued) = vec![in alloc; false; sectors as usize] else {
+            return Err(MountFault::OutOfMemory);
+        };
         let Ok(gaps) = vec![in alloc; 0; read_blocks as usize] else {
             return Err(MountFault::OutOfMemory);
         };
@@ -67,6 +72,7 @@ impl Mount {
             pages,
             found,
             next_number: 0,
+            valued,
             gaps,
             block: 0,
             page: 0,
@@ -110,6 +116,7 @@ impl Mount {
             at,
             stamp,
         );
+        mark_values(&mut self.valued, stamp);
         count_gaps(&mut self.gaps, &mut self.versions, at, stamp);
         if self.page + 1 < self.pages {
             self.page += 1;
@@ -126,23 +133,27 @@ impl Mount {
         requires { next_in self ≡ None }
         ensures device { IfOk result (λ core. device_of core ≡ device_in self) }
         ensures remounts { IfOk result (Remounts self) }
+        ensures drops { IfOk result (DropsTrims self) }
 
-        // The losses are the gaps in blocks that have a newest version which no block without a gap has.
-        ensures losses { IfOk result (λ core. losses_of core ≡ losses_in self.found.items self.gaps.items self.read_blocks) }
+        // The losses are the gaps in blocks that have a needed newest version which no block without a gap has.
+        ensures losses { IfOk result (λ core. (kept : List (Option Seen)) × AreNeeded self.valued.items self.found.items kept
+            × (losses_of core ≡ losses_in kept self.gaps.items self.read_blocks)) }
         ensures tells { IfOk result (TellsLosses self) }
         ensures quiet { IfOk result (TellsNoFalseLoss self) }
         ensures whole { IfOk result (MountsWhole self) }
         ensures frees { (f : Flash) (acked begun : List Update) → HasNoted f self → IsRecoverable f (device_in self) acked begun → result ≢ Err NoFreeBlock }
         ensures cause { OnErr result ((result ≡ Err NoFreeBlock) ⊎ (result ≡ Err OutOfMemory)) }
     {
-        let Ok(avoided) = freeable(alloc, &self.found, &self.gaps, self.blocks) else {
+        let mut found = self.found;
+        found.forget_trims(&self.valued);
+        let Ok(avoided) = freeable(alloc, &found, &self.gaps, self.blocks) else {
             return Err(MountFault::OutOfMemory);
         };
         if avoided >= self.blocks {
             return Err(MountFault::NoFreeBlock);
         }
-        let losses = losses(&self.found, &self.gaps);
-        let map = self.found.into_map(avoided);
+        let losses = losses(&found, &self.gaps);
+        let map = found.into_map(avoided);
         let Ok(counts) = counts_of(alloc, &map, self.blocks, self.pages) else {
             return Err(MountFault::OutOfMemory);
         };

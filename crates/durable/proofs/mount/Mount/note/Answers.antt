@@ -6,6 +6,7 @@ use Rattle.durable.specs.Updates.{LiesWithin}
 use Rattle.durable.specs.Mounting.{IsStampOf}
 use Rattle.durable.specs.Candidates.{IsFoundWith}
 use Rattle.durable.proofs.Noting.{of_next, some_left, fits_device}
+use Rattle.durable.proofs.Kept.{values_next, values_wrap}
 use Rattle.durable.proofs.Scans.{finds_wrap}
 use Rattle.durable.proofs.Counted.{noted_all, counts_wrap, prefers_wrap}
 use Rattle.durable.proofs.mount.Mount.note.Goals as goal
@@ -21,7 +22,14 @@ returns-then-self-clause-notes c f was stamp =
     c.take.ensures.number
     c.count_gaps.ensures.gaps c.count_gaps.ensures.versions
     (of_next mount.read_blocks at (λ at. IsStampOf f at.block at.page c.args.stamp) c.requires stamp) (was.finds, was.counts, was.prefers) in
-    record { finds = now.0; counts = now.1; prefers = now.2 }
+    record {
+      finds = now.0;
+      values = values_next f mount.pages mount.block mount.page mount.page_within mount.valued.items c.mark_values.new.valued.items was.values c.args.stamp
+          c.mark_values.ensures.marks
+          (of_next mount.read_blocks at (λ at. IsStampOf f at.block at.page c.args.stamp) c.requires stamp);
+      counts = now.1;
+      prefers = now.2;
+    }
 
 pub returns-else-self-clause-notes : goal.returns-else-self-clause-notes
 returns-else-self-clause-notes c f was stamp =
@@ -37,6 +45,9 @@ returns-else-self-clause-notes c f was stamp =
     (of_next mount.read_blocks at (λ at. IsStampOf f at.block at.page c.args.stamp) c.requires stamp) (was.finds, was.counts, was.prefers) in
     record {
       finds = finds_wrap f mount.pages mount.block mount.page c.take.new.found.items c.take.new.next_number full now.0;
+      values = values_wrap f mount.pages mount.block mount.page c.mark_values.new.valued.items full
+          (values_next f mount.pages mount.block mount.page mount.page_within mount.valued.items c.mark_values.new.valued.items was.values c.args.stamp
+          c.mark_values.ensures.marks (of_next mount.read_blocks at (λ at. IsStampOf f at.block at.page c.args.stamp) c.requires stamp));
       counts = counts_wrap f mount.pages mount.block (mount.page + 1) c.count_gaps.new.gaps.items c.count_gaps.new.versions full now.1;
       prefers = prefers_wrap f mount.pages mount.block (mount.page + 1) c.count_gaps.new.gaps.items c.take.new.found.items full now.2;
     }
