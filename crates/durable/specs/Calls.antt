@@ -1,16 +1,18 @@
 -- What the public calls keep of the promise.
-use Rattle.std.specs.Prelude.{◌≡◌, ◌<◌, ℕ, List, ◌∷◌, length, None, slice_index_or}
+use Rattle.std.specs.Prelude.{◌≡◌, ◌<◌, ℕ, List, ◌∷◌, length, Option, None, slice_index_or}
 use Rattle.geometry.specs.Sectors.{Sector}
 use Rattle.durable.specs.declared.extent.Extent.{Extent}
 use Rattle.durable.specs.Updates.{Update}
 use Rattle.durable.specs.Flash.{Flash, HoldsNoValue}
 use Rattle.durable.specs.Commands.{Completes, CutLeaves, IsAllowed, updates_with}
-use Rattle.durable.specs.Device.{device_of, device_in, IsWrittenOn, NamesOn}
+use Rattle.durable.specs.Device.{device_of, device_in, losses_of, IsWrittenOn, NamesOn}
 use Rattle.durable.specs.Memory.{map_entry}
 use Rattle.durable.specs.Mounting.{Finds, TellsValues}
-use Rattle.durable.specs.Losses.{CountsGaps, IsPreferred, HasNoLoss}
+use Rattle.durable.specs.Candidates.{AreNeeded}
+use Rattle.durable.specs.Losses.{CountsGaps, IsPreferred, HasNoLoss, losses_in}
 use Rattle.durable.specs.Promise.{IsReadable, IsRecoverable, IsConsistent}
 use Rattle.durable.specs.declared.command.Command.{Command}
+use Rattle.durable.specs.declared.found.Candidate.{Candidate}
 use Rattle.durable.specs.declared.memory.Core.{Core}
 use Rattle.durable.specs.declared.mount.Mount.{Mount}
 
@@ -50,6 +52,11 @@ Remounts mount core = (f : Flash) (acked begun : List Update) → HasNoted f mou
 -- a mount keeps no page for a sector that no page has a value of
 abbrev pub DropsTrims : Mount → Core → Type 0
 DropsTrims mount core = (f : Flash) → HasNoted f mount → (s : ℕ) → s < (device_in mount).sectors → HoldsNoValue f s → map_entry core s ≡ None
+
+-- the losses that it tells are the gaps in blocks that have a page of what is kept
+abbrev pub CountsLosses : Mount → Core → Type 0
+CountsLosses mount core = (kept : List (Option Candidate)) × AreNeeded mount.valued.items mount.found.items kept
+    × (losses_of core ≡ losses_in kept mount.gaps.items mount.read_blocks)
 
 -- a mount that tells no loss has found each newest version that is needed in a block without a gap
 abbrev pub TellsLosses : Mount → Core → Type 0

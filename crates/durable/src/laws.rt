@@ -4,7 +4,7 @@ ghost use Rattle.geometry.specs.Sectors.{Sector};
 ghost use Rattle.geometry.specs.declared.page_addr.PageAddr.{PageAddr as Addr};
 ghost use Rattle.durable.specs.Candidates.{AreNeeded, IsEntryOf, IsFoundWith, IsFreeable, IsMarkedWith, IsPackableVersion, candidates_of, needed_of};
 ghost use Rattle.durable.specs.Candidates.{number_above, valued_page, with_twin};
-ghost use Rattle.durable.specs.Calls.{Acknowledges, DropsTrims, HasNoted, IsSafe, Remounts, SurvivesCut, SurvivesIdleCut, TellsLosses, TellsNoFalseLoss};
+ghost use Rattle.durable.specs.Calls.{Acknowledges, CountsLosses, DropsTrims, HasNoted, IsSafe, Remounts, SurvivesCut, SurvivesIdleCut, TellsLosses, TellsNoFalseLoss};
 ghost use Rattle.durable.specs.Choice.{IsNext, Spends, StaysOpen, left, number_after};
 ghost use Rattle.durable.specs.declared.found.Candidate.{Candidate as Seen};
 ghost use Rattle.durable.specs.Collecting.{AreLiveCounts, CanCollect, HasCapacity, IsFree, IsPageOn, MapsAll, live_in};
@@ -333,6 +333,8 @@ pub fn losses()
         → (d : ℕ) × (q : ℕ) × (w : Sector) × IsGapless f d × HoldsNewest f s w d q }
     ensures in_use { losses_in (Some (record { at = record { block = 1; page = 1 }; number = 5; twin = None }) ∷ []) (3 ∷ 2 ∷ []) 2 ≡ 2 }
     ensures unused { losses_in (None ∷ []) (3 ∷ 2 ∷ []) 2 ≡ 0 }
+    ensures kept { (mount : Reading) (core : Layer) → CountsLosses mount core → (kept : List (Option Seen))
+        × AreNeeded mount.valued.items mount.found.items kept × (losses_of core ≡ losses_in kept mount.gaps.items mount.read_blocks) }
     ensures tells { (mount : Reading) (core : Layer) (f : Flash) → TellsLosses mount core → HasNoted f mount → IsWrittenOn (device_in mount) f
         → ¬ HasNoLoss f (device_in mount).sectors → core.losses ≢ 0 }
     ensures quiet { (mount : Reading) (core : Layer) (f : Flash) (acked begun : List Update) → TellsNoFalseLoss mount core → HasNoted f mount

@@ -1,4 +1,4 @@
-ghost use Rattle.std.specs.Prelude.{◌≡◌, ◌≢◌, ◌⊎◌, ◌<◌, ◌≤◌, ◌+◌, ◌-◌, ◌*◌, ℕ, List, Option, length, Ok, Err, Some, None, IfOk, OnOk, OnErr, IfSome};
+ghost use Rattle.std.specs.Prelude.{◌≡◌, ◌≢◌, ◌⊎◌, ◌<◌, ◌≤◌, ◌+◌, ◌-◌, ◌*◌, ℕ, List, length, Ok, Err, Some, None, IfOk, OnOk, OnErr, IfSome};
 ghost use Rattle.durable.specs.Flash.{Flash};
 
 use crate::candidates::{freeable, is_of_device, mark_values, take};
@@ -16,14 +16,11 @@ use std::alloc::Global;
 impl Mount {
     ghost use Rattle.durable.specs.Updates.{Update};
     ghost use Rattle.durable.specs.Device.{device_of, device_in, losses_of, IsWrittenOn};
-    ghost use Rattle.durable.specs.Candidates.{AreNeeded};
-    ghost use Rattle.durable.specs.Losses.{losses_in};
-    ghost use Rattle.durable.specs.declared.found.Candidate.{Candidate as Seen};
     ghost use Rattle.durable.specs.Whole.{MountsWhole};
     ghost use Rattle.durable.specs.Collecting.{HasCapacity};
     ghost use Rattle.durable.specs.Mounting.{IsStampOf, next_in, after_in};
     ghost use Rattle.durable.specs.Promise.{IsRecoverable};
-    ghost use Rattle.durable.specs.Calls.{DropsTrims, HasNoted, Remounts, TellsLosses, TellsNoFalseLoss};
+    ghost use Rattle.durable.specs.Calls.{CountsLosses, DropsTrims, HasNoted, Remounts, TellsLosses, TellsNoFalseLoss};
     ghost use Rattle.durable.specs.declared.fault.MountFault.TheVariants.{TooManySectors, ForeignStamp, NoFreeBlock, OutOfMemory};
 
     /// A mount that has noted nothing, of a device whose blocks are all in use.
@@ -136,8 +133,7 @@ impl Mount {
         ensures drops { IfOk result (DropsTrims self) }
 
         // The losses are the gaps in blocks that have a needed newest version which no block without a gap has.
-        ensures losses { IfOk result (λ core. (kept : List (Option Seen)) × AreNeeded self.valued.items self.found.items kept
-            × (losses_of core ≡ losses_in kept self.gaps.items self.read_blocks)) }
+        ensures losses { IfOk result (CountsLosses self) }
         ensures tells { IfOk result (TellsLosses self) }
         ensures quiet { IfOk result (TellsNoFalseLoss self) }
         ensures whole { IfOk result (MountsWhole self) }

@@ -56,7 +56,10 @@ pub fn readings()
     ensures no_main { ReadsMain (Version (sole 7) 3 None) (6 ∷ []) }
     ensures torn_main { ReadsMain Torn (6 ∷ []) }
     ensures erased_main { ReadsMain Erased (6 ∷ []) }
-    ensures noted { noted_of (outcome.Version (record { extent = sole 7; number = 3; trimmed = true })) ≡ Some (record { extent = sole 7; number = 3 }) }
+    ensures noted { noted_of (outcome.Version (record { extent = sole 7; number = 3; trimmed = true }))
+        ≡ Some (record { extent = sole 7; number = 3; is_trim = true }) }
+    ensures noted_value { noted_of (outcome.Version (record { extent = sole 7; number = 3; trimmed = false }))
+        ≡ Some (record { extent = sole 7; number = 3; is_trim = false }) }
     ensures not_noted { noted_of outcome.Unreadable ≡ None }
     ensures none_noted { noted_of outcome.Erased ≡ None }
     ensures some_written { (array : ℕ → Sector) → array 8 ≡ Some (5 ∷ []) → Were array (record { first = 7; count = 2 }) was.Written }
