@@ -54,7 +54,7 @@ fn numbers(words: &[&str]) -> Result<Vec<usize>, String> {
 
 impl Follower {
     fn new(size: Size, wrong: Option<Wrong>) -> Follower {
-        let rule = Rule { size, failures: 0, has_reserve: false, freed: Freed::One, drops_tombstones: false, reads_to_gap: false, wrong };
+        let rule = Rule { size, failures: 0, has_reserve: false, freed: Freed::One, drops_tombstones: true, reads_to_gap: false, wrong };
         let device = Device { blocks: [Block::BLANK; BLOCKS], call: None, next_number: 1, failures_left: 0, allowed: 0 };
         Follower { rule, device, compared: Compared::default() }
     }
