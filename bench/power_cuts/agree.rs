@@ -4,7 +4,7 @@ use crate::flash::{Block, Cell, Device, Page, Place, Size, Version, BLOCKS};
 use crate::layer::{Command, Freed, Rule, Wrong};
 
 /// Wrong rules that runs without failures and flushes tell apart.
-pub const TOLD_APART: [Wrong; 15] = [
+pub const TOLD_APART: [Wrong; 18] = [
     Wrong::FirstFound,
     Wrong::LastFound,
     Wrong::NumbersStartAgain,
@@ -13,6 +13,9 @@ pub const TOLD_APART: [Wrong; 15] = [
     Wrong::FreesNoBlock,
     Wrong::TrimInMemory,
     Wrong::TombstoneNotCopied,
+    Wrong::DropsTombstones,
+    Wrong::OwnBlockUncounted,
+    Wrong::DropsByFirstSector,
     Wrong::ErasesEarly,
     Wrong::NoReserve,
     Wrong::CopyRenumbered,
