@@ -324,15 +324,8 @@ static int read_noted(struct mintlintel_flash *flash, uint32_t block, uint32_t p
     return noted->reading;
 }
 
-/* How the core notes a page: 0 without a version, 2 as a trim, and otherwise 1. Pages of an image read the same at each mount, so that it tells its trims;
- * a half-erased page of a chip may not. */
-static uint32_t noted_kind(const struct mintlintel_flash *flash, int reading, const struct stamp *stamp)
-{
-    return reading != 0 ? 0 : flash->reason && stamp->kind == STAMP_TRIM ? 2 : 1;
-}
-
 /* Notes the stamps of a block that is read. At an open its erases are those that its newest version tells: the copies in it tell those of
- * other blocks. */
+ * other blocks. The trims of an image may be dropped: its pages read the same each time, and a half-erased page of a chip may not. */
 static uint32_t note_block(struct mintlintel_durable *device, uint32_t block, struct opening *opening)
 {
     struct mintlintel_flash *flash = device->flash;
@@ -344,7 +337,8 @@ static uint32_t note_block(struct mintlintel_durable *device, uint32_t block, st
             return MINTLINTEL_POWER_GONE;
         if (reading == 0 && !mtl_stamp_is_of(&stamp, flash->numbers.sectors))
             return MINTLINTEL_OTHER_DEVICE;
-        uint32_t code = mintlintel_core_note(&device->core, noted_kind(flash, reading, &stamp), stamp.sector, stamp.count, stamp.number);
+        uint32_t kind = reading != 0 ? 0 : flash->reason && stamp.kind == STAMP_TRIM ? 2 : 1;
+        uint32_t code = mintlintel_core_note(&device->core, kind, stamp.sector, stamp.count, stamp.number);
         if (code != MINTLINTEL_DONE)
             return code;
         if (reading == 0 && opening)

@@ -188,7 +188,7 @@ module _ (mount : Mount) (at_end : mount.read_blocks ≤ mount.block) (f : Flash
   all_read d q s m v e = let w = is.written d q s m v e in (w.1, inl (omega (arith, w.0, at_end)))
 
   are : Keeps f mount.pages mount.block mount.page kept
-  are = keeps f mount.pages mount.block mount.page mount.valued.items mount.found.items kept noted.values mount.valued_sized needed mount.next_number
+  are = keeps f mount.pages mount.block mount.page mount.valued.items mount.found.items kept noted.values needed mount.next_number
       noted.finds all_read
 
   recovered : Recovers f (length kept) (array_after is.keeps.updates)

@@ -35,7 +35,7 @@ module _ (mount : Mount) (at_end : mount.read_blocks ≤ mount.block) (f : Flash
   all_seen s d q m v e = let w = written d q e.0 m v e.1 in (w.1, inl (omega (arith, w.0, at_end)))
 
   are : Keeps f mount.pages mount.block mount.page kept
-  are = keeps f mount.pages mount.block mount.page mount.valued.items mount.found.items kept noted.values mount.valued_sized needed mount.next_number
+  are = keeps f mount.pages mount.block mount.page mount.valued.items mount.found.items kept noted.values needed mount.next_number
       noted.finds (λ d q s m v e. let w = written d q s m v e in (w.1, inl (omega (arith, w.0, at_end))))
 
   whole_of : (b : ℕ) → b < mount.read_blocks → gaps_in mount.gaps.items b ≡ 0 → IsGapless f b

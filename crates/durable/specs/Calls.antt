@@ -39,7 +39,7 @@ Acknowledges old extent command new = (f t : Flash) (value : Sector) (acked begu
 -- the stamps that were noted are those of the flash's pages, block by block, their gaps were counted, and their values marked
 pub record HasNoted (f : Flash) (mount : Mount) : Type 0 where
   pub finds : Finds f mount.pages mount.block mount.page mount.found.items mount.next_number
-  pub values : TellsValues f mount.pages mount.block mount.page mount.valued.items
+  pub values : TellsValues f mount.pages mount.block mount.page (length mount.found.items) mount.valued.items
   pub counts : CountsGaps f mount.pages mount.block mount.page mount.gaps.items mount.versions
   pub prefers : (s : ℕ) → s < length mount.found.items
       → IsPreferred f mount.pages mount.block mount.page mount.gaps.items s (slice_index_or mount.found.items s None)

@@ -6,8 +6,8 @@ use Rattle.packed_map.specs.Entries.{IsPackable}
 use Rattle.durable.specs.declared.found.Candidate.{Candidate}
 use Rattle.durable.specs.declared.found.Stamp.{Stamp}
 use Rattle.durable.specs.Losses.{has_gap}
+use Rattle.durable.specs.Marks.{is_valued}
 use Rattle.durable.specs.Updates.{Covers}
-use Rattle.durable.specs.declared.extent.Extent.{Extent}
 
 -- the twin of a page that was found: this one, unless there is one in a block without a gap
 abbrev pub twin_with : List ℕ → Option PageAddr → PageAddr → PageAddr
@@ -75,22 +75,6 @@ abbrev pub number_above : ℕ → Option Stamp → ℕ
 number_above next None = next
 number_above next (Some stamp) = max next (stamp.number + 1)
 
--- the sectors of an extent are marked, and the others as before
-pub record MarksAll (old new : List Bool) (extent : Extent) : Type 0 where
-  pub size : length new ≡ length old
-  pub covered : (s : ℕ) → s < length old → Covers extent s → slice_index_or new s false ≡ true
-  pub others : (s : ℕ) → s < length old → ¬ Covers extent s → slice_index_or new s false ≡ slice_index_or old s false
-
--- the same, if they have a value and no trim
-abbrev pub MarksValues : Bool → List Bool → List Bool → Extent → Type 0
-MarksValues true old new extent = new ≡ old
-MarksValues false old new extent = MarksAll old new extent
-
--- the marks of the sectors that a page has a value of, with one page more
-abbrev pub IsMarkedWith : List Bool → List Bool → Option Stamp → Type 0
-IsMarkedWith old new None = new ≡ old
-IsMarkedWith old new (Some stamp) = MarksValues stamp.is_trim old new stamp.extent
-
 -- the version has a page in another block too, without a gap by these counts
 abbrev pub HasTwin : List ℕ → Candidate → ℕ → Type 0
 HasTwin gaps x b = (t : PageAddr) × (x.twin ≡ Some t) × (t.block ≢ b) × (has_gap gaps t.block ≡ false)
@@ -110,7 +94,7 @@ needed_of true found = found
 needed_of false found = None
 
 -- the same of each sector
-abbrev pub AreNeeded : List Bool → List (Option Candidate) → List (Option Candidate) → Type 0
+abbrev pub AreNeeded : List ℕ → List (Option Candidate) → List (Option Candidate) → Type 0
 AreNeeded valued found kept =
     (length kept ≡ length found)
-    × ((s : ℕ) → s < length found → slice_index_or kept s None ≡ needed_of (slice_index_or valued s false) (slice_index_or found s None))
+    × ((s : ℕ) → s < length found → slice_index_or kept s None ≡ needed_of (is_valued valued s) (slice_index_or found s None))

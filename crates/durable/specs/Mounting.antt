@@ -7,6 +7,7 @@ use Rattle.durable.specs.declared.extent.Extent.{Extent}
 use Rattle.durable.specs.declared.found.Stamp.{Stamp}
 use Rattle.durable.specs.declared.found.Candidate.{Candidate}
 use Rattle.durable.specs.Flash.{Version, Flash, HasVersion, is_trim}
+use Rattle.durable.specs.Marks.{is_valued}
 use Rattle.durable.specs.declared.mount.Mount.{Mount}
 
 -- this page, if it lies on a device with so many blocks
@@ -60,5 +61,5 @@ TellsValue f pages b p s true = (c q m : ℕ) × (bytes : List ℕ) × IsRead pa
 TellsValue f pages b p s false = (c q m : ℕ) (bytes : List ℕ) → IsRead pages b p c q → ¬ HasVersion f c q s m (Some bytes)
 
 -- the same of each sector
-abbrev pub TellsValues : Flash → ℕ → ℕ → ℕ → List Bool → Type 0
-TellsValues f pages b p valued = (s : ℕ) → s < length valued → TellsValue f pages b p s (slice_index_or valued s false)
+abbrev pub TellsValues : Flash → ℕ → ℕ → ℕ → ℕ → List ℕ → Type 0
+TellsValues f pages b p sectors valued = (s : ℕ) → s < sectors → TellsValue f pages b p s (is_valued valued s)

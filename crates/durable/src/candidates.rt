@@ -1,10 +1,8 @@
 ghost use Rattle.std.specs.Prelude.{◌≡◌, ◌<◌, ◌≤◌, ◌+◌, ◌^◌, ℕ, [], length, true, false, Some, IfSome, IfOk, slice_index_or};
 ghost use Rattle.packed_map.specs.Entries.{IsPackable};
 ghost use Rattle.durable.specs.Updates.{LiesWithin};
-ghost use Rattle.durable.specs.Candidates.{newer_of, twin_with, with_twin, IsFoundWith, IsMarkedWith, MarksAll, number_above, HasTwin, IsFreeable};
-ghost use Rattle.durable.specs.Candidates.{IsPackableVersion};
+ghost use Rattle.durable.specs.Candidates.{newer_of, twin_with, with_twin, IsFoundWith, number_above, HasTwin, IsFreeable, IsPackableVersion};
 
-use crate::extent::Extent;
 use crate::found::{Candidate, Found, Stamp};
 use crate::gaps::has_gap;
 use geometry::PageAddr;
@@ -155,30 +153,6 @@ pub fn take(
     if let Some(stamp) = stamp {
         take_each(found, gaps, at, stamp);
         *next_number = (*next_number).max(stamp.number + 1);
-    }
-}
-
-/// Marks the sectors that a stamp is of, unless it is that of a trim.
-pub fn mark_values(valued: &mut Vec<bool>, stamp: Option<Stamp>)
-    requires { IfSome stamp (λ s. LiesWithin (length valued.old.items) s.extent) }
-    ensures marks { IsMarkedWith valued.old.items valued.new.items stamp }
-    ensures size { length valued.new.items ≡ length valued.old.items }
-{
-    if let Some(stamp) = stamp {
-        if !stamp.is_trim {
-            mark_each(valued, stamp.extent);
-        }
-    }
-}
-
-// Marks each sector of an extent.
-fn mark_each(valued: &mut Vec<bool>, extent: Extent)
-    requires { LiesWithin (length valued.old.items) extent }
-    ensures { MarksAll valued.old.items valued.new.items extent }
-{
-    let first = extent.first as usize;
-    for sector in first..first + extent.count as usize {
-        valued[sector] = true;
     }
 }
 

@@ -1,11 +1,13 @@
-ghost use Rattle.std.specs.Prelude.{◌≡◌, ◌≢◌, ◌<◌, ◌≤◌, ◌^◌, ℕ, [], length, replicate, slice_set, slice_index_or, false, None, Some, IfOk};
+ghost use Rattle.std.specs.Prelude.{◌≡◌, ◌≢◌, ◌<◌, ◌≤◌, ◌*◌, ◌^◌, ℕ, [], length, replicate, slice_set, slice_index_or, None, Some, IfOk};
 ghost use Rattle.geometry.specs.declared.page_addr.PageAddr.{PageAddr as Addr};
 ghost use Rattle.packed_map.specs.Entries.{IsPackable};
 ghost use Rattle.durable.specs.declared.found.Candidate.{Candidate as Seen};
 ghost use Rattle.durable.specs.Collecting.{IsFree};
+ghost use Rattle.durable.specs.Marks.{is_valued};
 ghost use Rattle.durable.specs.Candidates.{outside_of, valued_page, AreNeeded, IsEntryOf, IsFreeable, IsPackableVersion};
 
 use crate::extent::Extent;
+use crate::marks::has_mark;
 use geometry::PageAddr;
 use packed_map::{PackedMap, SparseNumbers};
 use std::alloc::{AllocError, Global};
@@ -99,8 +101,8 @@ impl Found {
     }
 
     /// Forgets what was found of sectors without a value.
-    pub fn forget_trims(&mut self, valued: &[bool])
-        requires { length valued.now ≡ length self.old.items }
+    pub fn forget_trims(&mut self, valued: &[u64])
+        requires { length self.old.items ≤ length valued.now * 64 }
         ensures { AreNeeded valued.now self.old.items self.new.items }
     {
         keep_valued(&mut self.pages, valued);
@@ -121,14 +123,14 @@ impl Found {
 }
 
 // Leaves no page to sectors without a value.
-fn keep_valued(map: &mut PackedMap, valued: &[bool])
-    requires { length valued.now ≡ length map.old.items }
+fn keep_valued(map: &mut PackedMap, valued: &[u64])
+    requires { length map.old.items ≤ length valued.now * 64 }
     ensures size { length map.new.items ≡ length map.old.items }
     ensures entries { (s : ℕ) → s < length map.old.items
-        → slice_index_or map.new.items s None ≡ valued_page (slice_index_or valued.now s false) (slice_index_or map.old.items s None) }
+        → slice_index_or map.new.items s None ≡ valued_page (is_valued valued.now s) (slice_index_or map.old.items s None) }
 {
     for s in 0..map.len() {
-        if !valued[s] {
+        if !has_mark(valued, s) {
             map.set(s, None);
         }
     }

@@ -1,10 +1,11 @@
 //! Laws of the definitions: each function has no code, and its clauses say on small values where a definition holds and where not.
-ghost use Rattle.std.specs.Prelude.{◌≡◌, ◌≢◌, ◌⊎◌, ◌<◌, ◌+◌, ◌-◌, ◌^◌, ℕ, Bool, List, [], ◌∷◌, Option, None, Some, true, false, length, codes, slice_index_or};
+ghost use Rattle.std.specs.Prelude.{◌≡◌, ◌≢◌, ◌⊎◌, ◌<◌, ◌+◌, ◌-◌, ◌^◌, ℕ, List, [], ◌∷◌, Option, None, Some, true, false, length, codes, slice_index_or};
 ghost use Rattle.geometry.specs.Sectors.{Sector};
 ghost use Rattle.geometry.specs.declared.page_addr.PageAddr.{PageAddr as Addr};
-ghost use Rattle.durable.specs.Candidates.{AreNeeded, IsEntryOf, IsFoundWith, IsFreeable, IsMarkedWith, IsPackableVersion, candidates_of, needed_of};
+ghost use Rattle.durable.specs.Candidates.{AreNeeded, IsEntryOf, IsFoundWith, IsFreeable, IsPackableVersion, candidates_of, needed_of};
 ghost use Rattle.durable.specs.Candidates.{number_above, valued_page, with_twin};
-ghost use Rattle.durable.specs.Calls.{Acknowledges, CountsLosses, DropsTrims, HasNoted, IsSafe, Remounts, SurvivesCut, SurvivesIdleCut, TellsLosses, TellsNoFalseLoss};
+ghost use Rattle.durable.specs.Calls.{Acknowledges, CountsLosses, DropsTrims, HasNoted, IsSafe, Remounts, SurvivesCut, SurvivesIdleCut};
+ghost use Rattle.durable.specs.Calls.{TellsLosses, TellsNoFalseLoss};
 ghost use Rattle.durable.specs.Choice.{IsNext, Spends, StaysOpen, left, number_after};
 ghost use Rattle.durable.specs.declared.found.Candidate.{Candidate as Seen};
 ghost use Rattle.durable.specs.Collecting.{AreLiveCounts, CanCollect, HasCapacity, IsFree, IsPageOn, MapsAll, live_in};
@@ -15,6 +16,7 @@ ghost use Rattle.durable.specs.Faults.{mount_fault_text};
 ghost use Rattle.durable.specs.Flash.{Erased, Flash, HasValue, HasVersion, HoldsNeeded, HoldsNewest, HoldsNoValue, IsErased, RecoversSector};
 ghost use Rattle.durable.specs.Flash.{SetsPage, Torn, Version, is_trim};
 ghost use Rattle.durable.specs.Losses.{HasNoLoss, IsGapless, gaps_before, gaps_noted, losses_in, versions_before, versions_noted};
+ghost use Rattle.durable.specs.Marks.{IsMarkedWith, is_valued};
 ghost use Rattle.durable.specs.Memory.{IsMappedTo, map_entry};
 ghost use Rattle.durable.specs.Mounting.{IsStampOf, TellsValue, TellsValues, next_in, after_in};
 ghost use Rattle.durable.specs.Spare.{IsDuplicated};
@@ -213,8 +215,10 @@ pub fn stamps()
     ensures no_trim { (f : Flash) (bytes : List ℕ) → f 1 2 ≡ Version (sole 7) 5 (Some bytes)
         → ¬ IsStampOf f 1 2 (Some (record { extent = sole 7; number = 5; is_trim = true })) }
     ensures no_value { (f : Flash) → f 1 2 ≡ Version (sole 7) 5 None → ¬ IsStampOf f 1 2 (Some (record { extent = sole 7; number = 5; is_trim = false })) }
-    ensures other { (f : Flash) (v : Sector) → f 1 2 ≡ Version (sole 7) 5 v → ¬ IsStampOf f 1 2 (Some (record { extent = sole 8; number = 5; is_trim = false })) }
-    ensures number { (f : Flash) (v : Sector) → f 1 2 ≡ Version (sole 7) 5 v → ¬ IsStampOf f 1 2 (Some (record { extent = sole 7; number = 6; is_trim = false })) }
+    ensures other { (f : Flash) (v : Sector) → f 1 2 ≡ Version (sole 7) 5 v
+        → ¬ IsStampOf f 1 2 (Some (record { extent = sole 8; number = 5; is_trim = false })) }
+    ensures number { (f : Flash) (v : Sector) → f 1 2 ≡ Version (sole 7) 5 v
+        → ¬ IsStampOf f 1 2 (Some (record { extent = sole 7; number = 6; is_trim = false })) }
     ensures not_torn { (f : Flash) → f 1 2 ≡ Torn → ¬ IsStampOf f 1 2 (Some (record { extent = sole 7; number = 5; is_trim = false })) }
     ensures here { (mount : Reading) → mount.read_blocks ≡ 3 → mount.block ≡ 2 → mount.page ≡ 1 → next_in mount ≡ Some (record { block = 2; page = 1 }) }
     ensures end { (mount : Reading) → mount.read_blocks ≡ 3 → mount.block ≡ 3 → next_in mount ≡ None }
@@ -229,6 +233,7 @@ pub fn stamps()
 {}
 
 /// Which sectors have values, by the pages that were read.
+#[tactic(auto, unfolding(crate::specs::Marks::is_valued))]
 pub fn values()
     ensures trim { is_trim None ≡ true }
     ensures bytes { (bytes : List ℕ) → is_trim (Some bytes) ≡ false }
@@ -237,19 +242,21 @@ pub fn values()
     ensures erased { (f : Flash) → IsErased f → TellsValue f 4 1 1 7 false }
     ensures no_value { (f : Flash) → HoldsNoValue f 7 → ¬ TellsValue f 4 1 1 7 true }
     ensures unread { (f : Flash) → ¬ TellsValue f 4 0 0 7 true }
-    ensures each { (f : Flash) (bytes : List ℕ) → f 1 0 ≡ Version (sole 1) 5 (Some bytes) → ¬ TellsValues f 4 1 1 (true ∷ false ∷ []) }
-    ensures marked { (new : List Bool) → IsMarkedWith (false ∷ false ∷ false ∷ []) new (Some (record { extent = sole 1; number = 5; is_trim = false }))
-        → new ≡ false ∷ true ∷ false ∷ [] }
-    ensures unmarked { (new : List Bool) → IsMarkedWith (false ∷ true ∷ []) new (Some (record { extent = sole 0; number = 5; is_trim = true }))
-        → new ≡ false ∷ true ∷ [] }
-    ensures no_stamp { (new : List Bool) → IsMarkedWith (false ∷ true ∷ []) new None → new ≡ false ∷ true ∷ [] }
+    ensures each { (f : Flash) (bytes : List ℕ) → f 1 0 ≡ Version (sole 1) 5 (Some bytes) → ¬ TellsValues f 4 1 1 2 (1 ∷ []) }
+    ensures bit { (is_valued (0 ∷ 2 ∷ []) 65 ≡ true) × (is_valued (0 ∷ 2 ∷ []) 64 ≡ false) × (is_valued (0 ∷ 2 ∷ []) 1 ≡ false) }
+    ensures marked { (old new : List ℕ) → IsMarkedWith old new (Some (record { extent = sole 1; number = 5; is_trim = false })) → is_valued new 1 ≡ true }
+    ensures not_marked { (old new : List ℕ) → IsMarkedWith old new (Some (record { extent = sole 1; number = 5; is_trim = false }))
+        → is_valued new 2 ≡ is_valued old 2 }
+    ensures unmarked { (new : List ℕ) → IsMarkedWith (2 ∷ []) new (Some (record { extent = sole 0; number = 5; is_trim = true })) → new ≡ 2 ∷ [] }
+    ensures no_stamp { (new : List ℕ) → IsMarkedWith (2 ∷ []) new None → new ≡ 2 ∷ [] }
     ensures needed { needed_of true (Some (record { at = record { block = 1; page = 0 }; number = 5; twin = None }))
         ≡ Some (record { at = record { block = 1; page = 0 }; number = 5; twin = None }) }
     ensures dropped { needed_of false (Some (record { at = record { block = 1; page = 0 }; number = 5; twin = None })) ≡ None }
     ensures page { valued_page true (Some (record { block = 1; page = 0 })) ≡ Some (record { block = 1; page = 0 }) }
     ensures no_page { valued_page false (Some (record { block = 1; page = 0 })) ≡ None }
-    ensures kept { (x y : Option Seen) (kept : List (Option Seen)) → AreNeeded (true ∷ false ∷ []) (x ∷ y ∷ []) kept → kept ≡ x ∷ None ∷ [] }
-    ensures noted { (f : Flash) (mount : Reading) → HasNoted f mount → TellsValues f mount.pages mount.block mount.page mount.valued.items }
+    ensures kept { (x y : Option Seen) (kept : List (Option Seen)) → AreNeeded (1 ∷ []) (x ∷ y ∷ []) kept → kept ≡ x ∷ None ∷ [] }
+    ensures noted { (f : Flash) (mount : Reading) → HasNoted f mount → TellsValues f mount.pages mount.block mount.page
+        (length mount.found.items) mount.valued.items }
     ensures drops { (f : Flash) (mount : Reading) (core : Layer) → DropsTrims mount core → HasNoted f mount → 7 < (device_in mount).sectors
         → HoldsNoValue f 7 → map_entry core 7 ≡ None }
 {}

@@ -1,12 +1,13 @@
 ghost use Rattle.std.specs.Prelude.{◌≡◌, ◌≢◌, ◌⊎◌, ◌<◌, ◌≤◌, ◌+◌, ◌-◌, ◌*◌, ℕ, List, length, Ok, Err, Some, None, IfOk, OnOk, OnErr, IfSome};
 ghost use Rattle.durable.specs.Flash.{Flash};
 
-use crate::candidates::{freeable, is_of_device, mark_values, take};
+use crate::candidates::{freeable, is_of_device, take};
 use crate::command::Command;
 use crate::counting::counts_of;
 use crate::fault::MountFault;
 use crate::found::{Found, Stamp};
 use crate::gaps::{count_gaps, losses};
+use crate::marks::mark_values;
 use crate::memory::Core;
 use crate::mount::Mount;
 use crate::owners::Owners;
@@ -57,7 +58,7 @@ impl Mount {
         let Ok(found) = Found::new(alloc, sectors) else {
             return Err(MountFault::OutOfMemory);
         };
-        let Ok(valued) = vec![in alloc; false; sectors as usize] else {
+        let Ok(valued) = vec![in alloc; 0; sectors as usize / 64 + 1] else {
             return Err(MountFault::OutOfMemory);
         };
         let Ok(gaps) = vec![in alloc; 0; read_blocks as usize] else {

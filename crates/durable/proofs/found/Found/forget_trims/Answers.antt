@@ -1,4 +1,4 @@
-use Rattle.std.proofs.Common.{◌∙◌, ap}
+use Rattle.std.proofs.Common.{ap, arith}
 use Rattle.durable.specs.Candidates.{Candidates}
 use Rattle.durable.proofs.Founds.{found_length, forgets}
 use Rattle.durable.proofs.found.Found.forget_trims.Goals as goal
@@ -7,7 +7,8 @@ pub keep_valued-requires : goal.keep_valued-requires
 keep_valued-requires c =
     let f = c.self.inside in
     let view = ap (λ (v : Candidates). v.items) c.self.view_is in
-    c.requires ∙ found_length f.pages.items f.numbers f.twins.items c.args.self.now.items view c.self.invariant.numbered c.self.invariant.twinned
+    let size = found_length f.pages.items f.numbers f.twins.items c.args.self.now.items view c.self.invariant.numbered c.self.invariant.twinned in
+    omega (arith, c.requires, size)
 
 pub returns : goal.returns
 returns c =

@@ -1,4 +1,4 @@
-use Rattle.std.proofs.Common.{◌≡◌, ◌∙◌, ◌<◌, ◌^◌, ℕ, Bool, List, length, Option, None, get_or, refl, sym, ap, arith, subst}
+use Rattle.std.proofs.Common.{◌≡◌, ◌∙◌, ◌<◌, ◌^◌, ℕ, List, length, Option, None, get_or, refl, sym, ap, arith, subst}
 use Rattle.durable.specs.Collecting.{HasCapacity}
 use Rattle.durable.specs.Device.{device_in}
 use Rattle.durable.specs.Candidates.{AreNeeded, IsEntryOf, IsFreeable}
@@ -16,7 +16,7 @@ use Rattle.durable.proofs.mount.Mount.finish.Goals as goal
 pub returns-then-avoided-self-clause-frees : goal.returns-then-avoided-self-clause-frees
 returns-then-avoided-self-clause-frees c f acked begun noted is refused =
     let mount = c.args.self in
-    let needed = subst (λ (v : List Bool). AreNeeded v mount.found.items c.forget_trims.new.self.items) c.deref.ensures.value c.forget_trims.ensures in
+    let needed = subst (λ (v : List ℕ). AreNeeded v mount.found.items c.forget_trims.new.self.items) c.deref.ensures.value c.forget_trims.ensures in
     some_freeable mount (all_noted mount.read_blocks (record { block = mount.block; page = mount.page }) c.requires) f acked begun noted
     (readable f (device_in mount) acked begun is) c.forget_trims.new.self.items needed is.spare
     (c.in-Ok.ensures.none (omega (arith, c.if-avoided-self.true, c.in-Ok.ensures.most)))
@@ -46,7 +46,7 @@ returns-clause-device c =
 pub returns-clause-remounts : goal.returns-clause-remounts
 returns-clause-remounts c f acked begun noted is =
     let mount = c.args.self in
-    let needed = subst (λ (v : List Bool). AreNeeded v mount.found.items c.forget_trims.new.self.items) c.deref.ensures.value c.forget_trims.ensures in
+    let needed = subst (λ (v : List ℕ). AreNeeded v mount.found.items c.forget_trims.new.self.items) c.deref.ensures.value c.forget_trims.ensures in
     let avoided = c.in-Ok.avoided in
     let lt : avoided < mount.blocks = omega (arith, c.if-avoided-self.false) in
     remounted mount (all_noted mount.read_blocks (record { block = mount.block; page = mount.page }) c.requires) f acked begun noted is
@@ -57,8 +57,8 @@ pub returns-clause-drops : goal.returns-clause-drops
 returns-clause-drops c f noted s lt none =
     let mount = c.args.self in
     let kept = c.forget_trims.new.self.items in
-    let needed = subst (λ (v : List Bool). AreNeeded v mount.found.items kept) c.deref.ensures.value c.forget_trims.ensures in
-    let nothing = dropped f mount.pages mount.block mount.page mount.valued.items mount.found.items kept noted.values mount.valued_sized needed s lt none in
+    let needed = subst (λ (v : List ℕ). AreNeeded v mount.found.items kept) c.deref.ensures.value c.forget_trims.ensures in
+    let nothing = dropped f mount.pages mount.block mount.page mount.valued.items mount.found.items kept noted.values needed s lt none in
     subst (λ (k : Option Candidate). IsEntryOf k (get_or c.into_map-map.result.items s None)) nothing
     (c.into_map-map.ensures.entries s (omega (arith, lt, c.forget_trims.ensures.0)))
 
@@ -72,14 +72,14 @@ pub returns-clause-losses : goal.returns-clause-losses
 returns-clause-losses c =
     let mount = c.args.self in
     let kept = c.forget_trims.new.self.items in
-    let needed = subst (λ (v : List Bool). AreNeeded v mount.found.items kept) c.deref.ensures.value c.forget_trims.ensures in
+    let needed = subst (λ (v : List ℕ). AreNeeded v mount.found.items kept) c.deref.ensures.value c.forget_trims.ensures in
     (kept, needed, counted_losses mount kept c.losses-losses.result c.deref-3.result.now c.losses-losses.ensures c.deref-3.ensures.value)
 
 pub returns-clause-tells : goal.returns-clause-tells
 returns-clause-tells c f noted written none =
     let mount = c.args.self in
     let kept = c.forget_trims.new.self.items in
-    let needed = subst (λ (v : List Bool). AreNeeded v mount.found.items kept) c.deref.ensures.value c.forget_trims.ensures in
+    let needed = subst (λ (v : List ℕ). AreNeeded v mount.found.items kept) c.deref.ensures.value c.forget_trims.ensures in
     tells mount (all_noted mount.read_blocks (record { block = mount.block; page = mount.page }) c.requires) f noted written kept needed
     (sym (counted_losses mount kept c.losses-losses.result c.deref-3.result.now c.losses-losses.ensures c.deref-3.ensures.value) ∙ none)
 
@@ -87,7 +87,7 @@ pub returns-clause-quiet : goal.returns-clause-quiet
 returns-clause-quiet c f acked begun noted is no_loss =
     let mount = c.args.self in
     let kept = c.forget_trims.new.self.items in
-    let needed = subst (λ (v : List Bool). AreNeeded v mount.found.items kept) c.deref.ensures.value c.forget_trims.ensures in
+    let needed = subst (λ (v : List ℕ). AreNeeded v mount.found.items kept) c.deref.ensures.value c.forget_trims.ensures in
     let array = array_after is.keeps.updates in
     counted_losses mount kept c.losses-losses.result c.deref-3.result.now c.losses-losses.ensures c.deref-3.ensures.value
     ∙ quiet mount (all_noted mount.read_blocks (record { block = mount.block; page = mount.page }) c.requires) f noted is.written kept needed array
@@ -97,7 +97,7 @@ pub returns-clause-whole : goal.returns-clause-whole
 returns-clause-whole c f acked begun noted is unharmed =
     let mount = c.args.self in
     let kept = c.forget_trims.new.self.items in
-    let needed = subst (λ (v : List Bool). AreNeeded v mount.found.items kept) c.deref.ensures.value c.forget_trims.ensures in
+    let needed = subst (λ (v : List ℕ). AreNeeded v mount.found.items kept) c.deref.ensures.value c.forget_trims.ensures in
     let avoided = c.in-Ok.avoided in
     let at_end = all_noted mount.read_blocks (record { block = mount.block; page = mount.page }) c.requires in
     let array = array_after is.keeps.updates in
