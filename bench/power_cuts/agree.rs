@@ -4,7 +4,7 @@ use crate::flash::{Block, Cell, Device, Page, Place, Size, Version, BLOCKS};
 use crate::layer::{Command, Freed, Rule, Wrong};
 
 /// Wrong rules that runs without failures and flushes tell apart.
-pub const TOLD_APART: [Wrong; 15] = [
+pub const TOLD_APART: [Wrong; 18] = [
     Wrong::FirstFound,
     Wrong::LastFound,
     Wrong::NumbersStartAgain,
@@ -13,6 +13,9 @@ pub const TOLD_APART: [Wrong; 15] = [
     Wrong::FreesNoBlock,
     Wrong::TrimInMemory,
     Wrong::TombstoneNotCopied,
+    Wrong::DropsTombstones,
+    Wrong::OwnBlockUncounted,
+    Wrong::DropsByFirstSector,
     Wrong::ErasesEarly,
     Wrong::NoReserve,
     Wrong::CopyRenumbered,
@@ -54,7 +57,7 @@ fn numbers(words: &[&str]) -> Result<Vec<usize>, String> {
 
 impl Follower {
     fn new(size: Size, wrong: Option<Wrong>) -> Follower {
-        let rule = Rule { size, failures: 0, has_reserve: false, freed: Freed::One, drops_tombstones: false, reads_to_gap: false, wrong };
+        let rule = Rule { size, failures: 0, has_reserve: false, freed: Freed::One, drops_tombstones: true, reads_to_gap: false, wrong };
         let device = Device { blocks: [Block::BLANK; BLOCKS], call: None, next_number: 1, failures_left: 0, allowed: 0 };
         Follower { rule, device, compared: Compared::default() }
     }

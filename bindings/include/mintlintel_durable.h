@@ -149,16 +149,17 @@ uint32_t mintlintel_core_open(struct mintlintel_core *core, uint32_t blocks, uin
  * if read_blocks < blocks. After a command that failed, give its block such a number and mount again: the update may be there or not. */
 uint32_t mintlintel_core_open_over(struct mintlintel_core *core, uint32_t read_blocks, uint32_t blocks, uint32_t pages, uint32_t sectors);
 
-/* Notes what the next page holds, block by block: a version with its sectors, `count` from `first` on, and its number, or with has_version 0 none (it is
- * erased or torn). 0; 2; 9 if the layer is mounted; 30 if the device lacks one of the sectors, if there are none, or if it is the last number; 32 after
- * the last page. */
+/* Notes what the next page holds, block by block: with has_version 0 no version (it is erased or torn), and with 1 or 2 one with its sectors, `count`
+ * from `first` on, and its number. 2 tells that it is a trim, which the mount keeps only where some page has a value of its sectors: pass it if each page
+ * reads the same at each mount, also one that an erase was cut off in; otherwise pass 1. 0; 2; 9 if the layer is mounted; 30 if the device lacks one of
+ * the sectors, if there are none, if it is the last number, or with another has_version; 32 after the last page. */
 uint32_t mintlintel_core_note(struct mintlintel_core *core, uint32_t has_version, uint32_t first, uint32_t count, uint64_t number);
 
 /* Mounts the layer once every page was noted: 0; 2; 9 if it is mounted; 32 before the last page. With 6, or with 7 if no block can be freed, the
  * handle is closed. */
 uint32_t mintlintel_core_finish(struct mintlintel_core *core);
 
-/* The page that has the sector's newest version, a value or a trim: 1 with its place; 0 if none has; 2, 3 or 9. */
+/* The page that has the sector's newest version, a value or a trim: 1 with its place; 0 if none has, or the mount has kept no trim; 2, 3 or 9. */
 uint32_t mintlintel_core_page(struct mintlintel_core *core, uint32_t sector, struct mintlintel_place *place);
 
 /* The command that comes next for a write of a sector, or a trim of `count` from `first` on, for which one page is programmed: 0; 2; 3 also if there

@@ -325,7 +325,7 @@ static int read_noted(struct mintlintel_flash *flash, uint32_t block, uint32_t p
 }
 
 /* Notes the stamps of a block that is read. At an open its erases are those that its newest version tells: the copies in it tell those of
- * other blocks. */
+ * other blocks. The trims of an image may be dropped: its pages read the same each time, and a half-erased page of a chip may not. */
 static uint32_t note_block(struct mintlintel_durable *device, uint32_t block, struct opening *opening)
 {
     struct mintlintel_flash *flash = device->flash;
@@ -337,7 +337,8 @@ static uint32_t note_block(struct mintlintel_durable *device, uint32_t block, st
             return MINTLINTEL_POWER_GONE;
         if (reading == 0 && !mtl_stamp_is_of(&stamp, flash->numbers.sectors))
             return MINTLINTEL_OTHER_DEVICE;
-        uint32_t code = mintlintel_core_note(&device->core, reading == 0, stamp.sector, stamp.count, stamp.number);
+        uint32_t kind = reading != 0 ? 0 : flash->reason && stamp.kind == STAMP_TRIM ? 2 : 1;
+        uint32_t code = mintlintel_core_note(&device->core, kind, stamp.sector, stamp.count, stamp.number);
         if (code != MINTLINTEL_DONE)
             return code;
         if (reading == 0 && opening)

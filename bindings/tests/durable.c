@@ -388,6 +388,26 @@ static void run(long steps)
     check_closed();
 }
 
+/* A mount keeps the page of a trim that is noted as a version, and not of one that is told as a trim. Another kind is refused. */
+static void note_kinds(void)
+{
+    struct mintlintel_core core = {0};
+    struct mintlintel_place at;
+    for (uint32_t kind = 1; kind <= 2; kind++) {
+        CHECK(mintlintel_core_open(&core, 3, 2, 1) == MINTLINTEL_DONE);
+        CHECK(mintlintel_core_note(&core, 3, 0, 1, 5) == MINTLINTEL_OTHER_DEVICE);
+        CHECK(mintlintel_core_note(&core, kind, 0, 1, 5) == MINTLINTEL_DONE);
+        for (int page = 1; page < 6; page++)
+            CHECK(mintlintel_core_note(&core, 0, 0, 0, 0) == MINTLINTEL_DONE);
+        CHECK(mintlintel_core_note(&core, 3, 0, 1, 5) == MINTLINTEL_OUT_OF_ORDER);
+        CHECK(mintlintel_core_finish(&core) == MINTLINTEL_DONE);
+        CHECK(mintlintel_core_page(&core, 0, &at) == (kind == 1 ? MINTLINTEL_WRITTEN : MINTLINTEL_EMPTY));
+        CHECK(mintlintel_core_note(&core, 3, 0, 1, 5) == MINTLINTEL_WRONG_KIND);
+        mintlintel_core_close(&core);
+    }
+    CHECK(mintlintel_core_note(&core, 3, 0, 1, 5) == MINTLINTEL_CLOSED);
+}
+
 int main(int argc, char **argv)
 {
     long rounds = argc > 1 && atol(argv[1]) > 0 ? atol(argv[1]) : 300, cuts = 0, fails;
@@ -397,6 +417,7 @@ int main(int argc, char **argv)
     add_reserve();
     lose_pages();
     trim_at_once();
+    note_kinds();
     for (long round = 0; round < rounds; round++) {
         run(1000);
         cuts += chip.cuts;

@@ -1,12 +1,13 @@
 -- What was found, by tables of the pages, their numbers and their twins.
-use Rattle.std.proofs.Common.{◌≡◌, ◌≢◌, ◌∙◌, ◌<◌, ◌==◌, ℕ, true, false, zero, suc, List, [], ◌∷◌, length}
+use Rattle.std.proofs.Common.{◌≡◌, ◌≢◌, ◌∙◌, ◌<◌, ◌==◌, ℕ, Bool, true, false, zero, suc, List, [], ◌∷◌, length}
 use Rattle.std.proofs.Common.{Option, None, Some, get_or, set, replicate, inl, inr, refl, sym, ap, subst, arith, ⊎_elim}
 use Rattle.std.proofs.lemmas.Bool.{cases_eq}
 use Rattle.std.proofs.lemmas.Option.{none-some, same_Some}
 use Rattle.std.proofs.lemmas.Bool.Decides.{nat_tests}
 use Rattle.geometry.specs.declared.page_addr.PageAddr.{PageAddr}
 use Rattle.durable.specs.declared.found.Candidate.{Candidate}
-use Rattle.durable.specs.Candidates.{candidate_of, candidates_of, outside_of, IsEntryOf, HasTwin}
+use Rattle.durable.specs.Marks.{is_valued}
+use Rattle.durable.specs.Candidates.{AreNeeded, candidate_of, candidates_of, needed_of, outside_of, valued_page, IsEntryOf, HasTwin}
 
 pub length_candidates : (pages : List (Option PageAddr)) (numbers : List ℕ) (twins : List (Option PageAddr)) → length numbers ≡ length pages
     → length twins ≡ length pages → length (candidates_of pages numbers twins) ≡ length pages
@@ -70,6 +71,26 @@ module _ (pages : List (Option PageAddr)) (numbers : List ℕ) (twins : List (Op
   pub found_get : (s : ℕ) → s < length items → get_or items s None ≡ candidate_of (get_or pages s None) (get_or numbers s 0) (get_or twins s None)
   found_get s lt = sym (ap (λ (xs : List (Option Candidate)). get_or xs s None) is)
       ∙ candidates_get pages numbers twins s n t (omega (arith, lt, found_length))
+
+valued_candidate : (k : Bool) (page : Option PageAddr) (number : ℕ) (twin : Option PageAddr)
+    → candidate_of (valued_page k page) number twin ≡ needed_of k (candidate_of page number twin)
+valued_candidate true page number twin = refl
+valued_candidate false page number twin = refl
+
+-- with pages for the sectors with a value alone the tables have what is needed
+pub forgets : (valued : List ℕ) (pages new : List (Option PageAddr)) (numbers : List ℕ) (twins : List (Option PageAddr)) (items : List (Option Candidate))
+    → candidates_of pages numbers twins ≡ items → length numbers ≡ length pages → length twins ≡ length pages → length new ≡ length pages
+    → ((s : ℕ) → s < length pages → get_or new s None ≡ valued_page (is_valued valued s) (get_or pages s None))
+    → AreNeeded valued items (candidates_of new numbers twins)
+forgets valued pages new numbers twins items is n t size entries = (
+  length_candidates new numbers twins (n ∙ sym size) (t ∙ sym size) ∙ size ∙ sym (found_length pages numbers twins items is n t),
+  λ s lt.
+      let inside : s < length pages = omega (arith, lt, found_length pages numbers twins items is n t) in
+      candidates_get new numbers twins s (n ∙ sym size) (t ∙ sym size) (omega (arith, inside, size))
+      ∙ ap (λ (page : Option PageAddr). candidate_of page (get_or numbers s 0) (get_or twins s None)) (entries s inside)
+      ∙ valued_candidate (is_valued valued s) (get_or pages s None) (get_or numbers s 0) (get_or twins s None)
+      ∙ ap (needed_of (is_valued valued s)) (sym (found_get pages numbers twins items is n t s lt)),
+)
 
 away_version : (avoided : ℕ) (p : PageAddr) (number : ℕ) (twin : Option PageAddr) (at : PageAddr) → outside_of avoided (Some p) twin ≡ Some at
     → (p.block ≡ avoided → HasTwin [] (record { at = p; number = number; twin = twin }) avoided) → at.block ≢ avoided

@@ -1,5 +1,5 @@
 -- Which block is free after a mount.
-use Rattle.std.proofs.Common.{◌≡◌, ◌≢◌, inl, inr, ⊎_elim, ◌<◌, ◌≤◌, ℕ, List, [], length, Option, None, Some, get_or, refl, sym, ◌∙◌, subst, arith}
+use Rattle.std.proofs.Common.{◌≡◌, ◌≢◌, ⊎_elim, ◌<◌, ◌≤◌, ℕ, List, [], length, Option, None, Some, get_or, refl, sym, ◌∙◌, subst, arith}
 use Rattle.geometry.specs.Sectors.{Sector}
 use Rattle.geometry.specs.declared.page_addr.PageAddr.{PageAddr}
 use Rattle.durable.specs.declared.found.Candidate.{Candidate}
@@ -9,8 +9,9 @@ use Rattle.durable.specs.Flash.{Version, Flash, HasVersion, HoldsNewest, Recover
 use Rattle.durable.specs.Collecting.{IsFree, CanCollect}
 use Rattle.durable.specs.Spare.{IsDuplicated, IsSparedAt, LeavesSpare}
 use Rattle.durable.specs.Candidates.{IsEntryOf, HasTwin, IsFreeable}
-use Rattle.durable.specs.Mounting.{IsRead, IsBest, IsLone, Finds}
+use Rattle.durable.specs.Mounting.{IsRead}
 use Rattle.durable.proofs.Cells.{same_version}
+use Rattle.durable.proofs.Kept.{Keeps}
 use Rattle.durable.proofs.Scans.{seen, shows_best}
 use Rattle.durable.proofs.Counts.{none_counted}
 use Rattle.durable.proofs.Collects.{none_some}
@@ -38,15 +39,16 @@ module _ (found : List (Option Candidate)) (map : List (Option PageAddr)) (avoid
 pub free_collects : (map : List (Option PageAddr)) (blocks pages b : ℕ) → b < blocks → IsFree map b → CanCollect map blocks pages None
 free_collects map blocks pages b lt free = ((λ closed live. omega (arith, live b lt, none_counted b map free)), (λ at is. absurd (none_some at is)))
 
-module _ (f : Flash) (array : ℕ → Sector) (pages b p below : ℕ) (found : List (Option Candidate)) (finds : Finds f pages b p found below)
-    (all : (d q : ℕ) (e : Extent) (m : ℕ) (v : Sector) → f d q ≡ Version e m v → IsRead pages b p d q) (recovers : Recovers f (length found) array) where
+module _ (f : Flash) (array : ℕ → Sector) (pages b p : ℕ) (kept : List (Option Candidate)) (are : Keeps f pages b p kept)
+    (all : (d q : ℕ) (e : Extent) (m : ℕ) (v : Sector) → f d q ≡ Version e m v → IsRead pages b p d q) (recovers : Recovers f (length kept) array) where
   -- each version that was found in a block whose newest versions are all elsewhere too has a twin
-  pub duplicated_freeable : (e : ℕ) → IsDuplicated f (length found) e → IsFreeable [] found e
+  pub duplicated_freeable : (e : ℕ) → IsDuplicated f (length kept) e → IsFreeable [] kept e
   duplicated_freeable e doubled = λ s x lt is here.
-      let best : IsBest f pages b p s (Some x) = subst (IsBest f pages b p s) is (finds.best s lt) in
-      let lone : IsLone f pages b p s (Some x) = subst (IsLone f pages b p s) is (finds.lone s lt) in
+      let best = are.best s x lt is in
+      let lone = are.lone s x lt is in
       let shows = shows_best f pages b p s (array s) x best (seen f pages b p all s) (recovers s lt) x.at best.0.0 best.0.1 in
-      let other = doubled s x.at.page (array s) lt (subst (λ (c : ℕ). HoldsNewest f s (array s) c x.at.page) here shows) in
+      let other = doubled s x.at.page (array s) lt
+      (record { newest = subst (λ (c : ℕ). HoldsNewest f s (array s) c x.at.page) here shows; valued = are.valued s x lt is }) in
       let mine : shows.number ≡ x.number = sym (same_version (f x.at.block x.at.page) s x.number best.0.0 s shows.number (array s) best.0.1 shows.held).0 in
       let upper : other.4.number ≤ shows.number = ⊎_elim (λ less. omega (arith, less)) (λ same. omega (arith, same.0))
       (shows.newest other.0 other.1 other.4.number other.2 other.4.held) in
@@ -57,19 +59,5 @@ module _ (f : Flash) (array : ℕ → Sector) (pages b p below : ℕ) (found : L
       (seen f pages b p all s other.0 other.1 other.4.number other.2 other.4.held)
       (subst (λ (n : ℕ). HasVersion f other.0 other.1 s n other.2) number other.4.held) ∙ here))
 
-  -- the map misses no version
-  known_of : (s : ℕ) (k : Option Candidate) (entry : Option PageAddr) → IsBest f pages b p s k → IsEntryOf k entry → entry ≡ None
-      → (d q m : ℕ) (v : Sector) → ¬ HasVersion f d q s m v
-  known_of s None entry best is nowhere d q m v e = best d q m v (seen f pages b p all s d q m v e) e
-  known_of s (Some x) entry best (inl is) nowhere d q m v e = none_some x.at (sym nowhere ∙ is)
-  known_of s (Some x) entry best (inr is) nowhere d q m v e = none_some is.0 (sym nowhere ∙ is.2)
-
-  pub spares : (core : Core) (avoided : ℕ) → length core.map.items ≡ length found
-      → ((s : ℕ) → s < length found → IsEntryOf (get_or found s None) (get_or core.map.items s None))
-      → core.next_page ≡ None → avoided < core.blocks → IsFree core.map.items avoided → LeavesSpare f core
-  spares core avoided size entries closed lt free = record {
-    known = λ s d q m v l nowhere.
-        let inside : s < length found = omega (arith, l, size) in
-        known_of s (get_or found s None) (get_or core.map.items s None) (finds.best s inside) (entries s inside) nowhere d q m v;
-    spared = subst (IsSparedAt f core.map.items core.blocks) (sym closed) (avoided, lt, free);
-  }
+pub spares : (f : Flash) (core : Core) (avoided : ℕ) → core.next_page ≡ None → avoided < core.blocks → IsFree core.map.items avoided → LeavesSpare f core
+spares f core avoided closed lt free = subst (IsSparedAt f core.map.items core.blocks) (sym closed) (avoided, lt, free)

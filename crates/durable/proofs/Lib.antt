@@ -7,6 +7,8 @@ pub mod Collects
 pub mod Known
 pub mod Spares
 pub mod Scans
+pub mod Kept
+pub mod Begun
 pub mod Founds
 pub mod Frees
 pub mod Promises

@@ -16,10 +16,10 @@ use Rattle.durable.specs.Commands.{Completes, CutLeaves, IsAllowed, IsSameFlash,
 use Rattle.durable.specs.Device.{Device, device_of, device_in, NamesOn, IsWrittenOn}
 use Rattle.durable.specs.Memory.{Represents}
 use Rattle.durable.specs.Choice.{IsNext}
-use Rattle.durable.specs.Candidates.{IsEntryOf, IsFreeable}
+use Rattle.durable.specs.Candidates.{AreNeeded, IsEntryOf, IsFreeable}
 use Rattle.durable.specs.Collecting.{IsFree}
 use Rattle.durable.specs.Mounting.{IsRead}
-use Rattle.durable.specs.Spare.{CanFree, LeavesSpare}
+use Rattle.durable.specs.Spare.{CanFree, IsDuplicated, LeavesSpare}
 use Rattle.durable.specs.Failures.{IsRenumbered, HasVersionlessBlock, IsSameFlashOf}
 use Rattle.durable.specs.Promise.{KeepsAcknowledged, IsReadable, IsRecoverable, IsConsistent}
 use Rattle.durable.specs.Calls.{IsSafe, SurvivesCut, SurvivesIdleCut, Acknowledges, HasNoted}
@@ -28,7 +28,8 @@ use Rattle.durable.proofs.Cells.{same_held, torn_holds_none, erased_holds_none, 
 use Rattle.durable.proofs.Moments.{erased_next, source_shows, same_mounts, lost_mounts, torn_mounts, programmed_mounts, copied_mounts}
 use Rattle.durable.proofs.Done.{Becomes, BecomesCore, array_with, represents_after}
 use Rattle.durable.proofs.Spares.{cut_spare, spare_after, same_spare}
-use Rattle.durable.proofs.Scans.{finished}
+use Rattle.durable.specs.declared.found.Candidate.{Candidate}
+use Rattle.durable.proofs.Kept.{Keeps, keeps, finished}
 use Rattle.durable.proofs.Frees.{duplicated_freeable, spares}
 
 -- what success leaves is one of the things that a power cut may leave
@@ -181,31 +182,37 @@ pub readable : (f : Flash) (device : Device) (acked begun : List Update) → IsR
 readable f device acked begun is = record { keeps = is.keeps; written = is.written }
 
 module _ (mount : Mount) (at_end : mount.read_blocks ≤ mount.block) (f : Flash) (acked begun : List Update) (noted : HasNoted f mount)
-    (is : IsReadable f (device_in mount) acked begun) where
+    (is : IsReadable f (device_in mount) acked begun) (kept : List (Option Candidate))
+    (needed : AreNeeded mount.valued.items mount.found.items kept) where
   all_read : (d q : ℕ) (s : Extent) (m : ℕ) (v : Sector) → f d q ≡ Version s m v → IsRead mount.pages mount.block mount.page d q
   all_read d q s m v e = let w = is.written d q s m v e in (w.1, inl (omega (arith, w.0, at_end)))
 
-  pub some_freeable : CanFree f mount.blocks (length mount.found.items) → ((b : ℕ) → b < mount.blocks → IsFreeable [] mount.found.items b → ⊥) → ⊥
-  some_freeable spare none = none spare.0 spare.1 (duplicated_freeable f (array_after is.keeps.updates) mount.pages mount.block mount.page mount.next_number
-      mount.found.items
-      noted.finds all_read is.keeps.recovers spare.0 spare.2)
+  are : Keeps f mount.pages mount.block mount.page kept
+  are = keeps f mount.pages mount.block mount.page mount.valued.items mount.found.items kept noted.values needed mount.next_number
+      noted.finds all_read
+
+  recovered : Recovers f (length kept) (array_after is.keeps.updates)
+  recovered = subst (λ (n : ℕ). Recovers f n (array_after is.keeps.updates)) (sym needed.0) is.keeps.recovers
+
+  pub some_freeable : CanFree f mount.blocks (length mount.found.items) → ((b : ℕ) → b < mount.blocks → IsFreeable [] kept b → ⊥) → ⊥
+  some_freeable spare none = none spare.0 spare.1 (duplicated_freeable f (array_after is.keeps.updates) mount.pages mount.block mount.page kept are all_read
+      recovered spare.0 (subst (λ (n : ℕ). IsDuplicated f n spare.0) (sym needed.0) spare.2))
 
   pub remounted : (core : Core) (avoided : ℕ) → core.blocks ≡ mount.blocks → core.read_blocks ≡ mount.read_blocks
-      → core.pages ≡ mount.pages → length core.map.items ≡ length mount.found.items
-      → ((s : ℕ) → s < length mount.found.items → IsEntryOf (get_or mount.found.items s None) (get_or core.map.items s None))
+      → core.pages ≡ mount.pages → length core.map.items ≡ length kept
+      → ((s : ℕ) → s < length kept → IsEntryOf (get_or kept s None) (get_or core.map.items s None))
       → core.next_page ≡ None → core.next_number ≡ mount.next_number → avoided < core.blocks → IsFree core.map.items avoided → IsConsistent f core acked begun
   remounted core avoided blocks read pages size entries closed number lt free =
-      let array = array_after is.keeps.updates in
-      let same : device_of core ≡ device_in mount = λ i. record { blocks = blocks i; read_blocks = read i; pages = pages i; sectors = size i } in
+      let same : device_of core ≡ device_in mount =
+      λ i. record { blocks = blocks i; read_blocks = read i; pages = pages i; sectors = (size ∙ needed.0) i } in
       record {
         updates = is.keeps.updates;
         includes = is.keeps.includes;
         included = is.keeps.included;
-        represents = finished f array mount.pages mount.block mount.page mount.next_number mount.found.items core noted.finds all_read is.keeps.recovers size
-            entries closed number;
+        represents = finished f mount.pages mount.block mount.page kept are (array_after is.keeps.updates) mount.next_number core noted.finds.numbers all_read
+            recovered size entries closed number;
         written = written_on f (device_in mount) (device_of core) same is.written;
-        spare = spares f array mount.pages mount.block mount.page mount.next_number mount.found.items noted.finds all_read is.keeps.recovers core avoided size
-            entries closed lt free;
+        spare = spares f core avoided closed lt free;
       }
 
 -- an erased flash can be mounted
@@ -223,7 +230,7 @@ erased_recoverable f device erased some =
         );
       };
       written = λ b p s m v e. absurd (erased_holds_none s m v (sym (erased b p) ∙ e));
-      spare = (0, some, λ s p v lt shows. absurd (erased_has_none f 0 p s shows.number v (erased 0 p) shows.held));
+      spare = (0, some, λ s p v lt shows. absurd (erased_has_none f 0 p s shows.newest.number v (erased 0 p) shows.newest.held));
     }
 
 -- a device with room has blocks
@@ -239,7 +246,7 @@ pub blank_recoverable : (f : Flash) (device : Device) (acked begun : List Update
 blank_recoverable f device acked begun is blank = record {
   keeps = is.keeps;
   written = is.written;
-  spare = (blank.0, blank.1, λ s p v lt shows. absurd (blank.2 p shows.held.0 shows.number v shows.held.1));
+  spare = (blank.0, blank.1, λ s p v lt shows. absurd (blank.2 p shows.newest.held.0 shows.newest.number v shows.newest.held.1));
 }
 
 -- blocks that are numbered anew hold what they held

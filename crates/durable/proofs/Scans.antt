@@ -9,11 +9,9 @@ use Rattle.geometry.specs.declared.page_addr.PageAddr.{PageAddr}
 use Rattle.durable.specs.declared.found.Candidate.{Candidate}
 use Rattle.durable.specs.declared.found.Stamp.{Stamp}
 use Rattle.durable.specs.declared.extent.Extent.{Extent}
-use Rattle.durable.specs.declared.memory.Core.{Core}
 use Rattle.durable.specs.Updates.{Covers}
-use Rattle.durable.specs.Flash.{Version, Flash, HasVersion, HoldsNewest, RecoversSector, Recovers}
-use Rattle.durable.specs.Memory.{IsMappedTo, IsErasedFrom, Represents}
-use Rattle.durable.specs.Candidates.{twin_with, with_twin, newer_of, IsEntryOf, IsFoundWith, number_above}
+use Rattle.durable.specs.Flash.{Version, Flash, HasVersion, HoldsNewest, RecoversSector}
+use Rattle.durable.specs.Candidates.{twin_with, with_twin, newer_of, IsFoundWith, number_above}
 use Rattle.durable.specs.Losses.{has_gap}
 use Rattle.durable.specs.Mounting.{IsRead, IsStampOf, IsBest, IsLone, Finds}
 use Rattle.durable.proofs.Extents.{cases_covered}
@@ -204,33 +202,6 @@ shows_best f pages b p s c x best all (inr none) at v held =
     no_bytes : (d q m : ℕ) (w : Sector) → HasVersion f d q s m w → w ≡ None
     no_bytes d q m None e = refl
     no_bytes d q m (Some bytes) e = absurd (none.1 d q m bytes e)
-
--- a sector is kept at the page that was found, or at its twin
-pub kept_of_best : (f : Flash) (pages b p s : ℕ) (c : Sector) (k : Option Candidate) (place : Option PageAddr) → IsBest f pages b p s k
-    → ((d q m : ℕ) (v : Sector) → HasVersion f d q s m v → IsRead pages b p d q)
-    → RecoversSector f s c → IsEntryOf k place → IsMappedTo f s c place
-kept_of_best f pages b p s c None place best all (inl shown) is = absurd (best shown.0 shown.1 shown.2.number c
-    (all shown.0 shown.1 shown.2.number c shown.2.held) shown.2.held)
-kept_of_best f pages b p s c None place best all (inr none) is = subst (IsMappedTo f s c) (sym is) none
-kept_of_best f pages b p s c (Some x) place best all reads (inl is) = subst (IsMappedTo f s c) (sym is)
-    (shows_best f pages b p s c x best all reads x.at best.0.0 best.0.1)
-kept_of_best f pages b p s c (Some x) place best all reads (inr is) =
-    let held = best.2 is.0 is.1 in
-    subst (IsMappedTo f s c) (sym is.2) (shows_best f pages b p s c x best all reads is.0 held.0 held.1)
-
--- after all pages the layer's memory is that of the flash
-pub finished : (f : Flash) (array : ℕ → Sector) (pages b p below : ℕ) (found : List (Option Candidate)) (core : Core) → Finds f pages b p found below
-    → ((d q : ℕ) (e : Extent) (m : ℕ) (v : Sector) → f d q ≡ Version e m v → IsRead pages b p d q) → Recovers f (length found) array
-    → length core.map.items ≡ length found
-    → ((s : ℕ) → s < length found → IsEntryOf (get_or found s None) (get_or core.map.items s None)) → core.next_page ≡ None → core.next_number ≡ below
-    → Represents f core array
-finished f array pages b p below found core finds all recovers size entries closed number = record {
-  mapped = λ s lt. let is_in : s < length found = omega (arith, lt, size) in
-      kept_of_best f pages b p s (array s) (get_or found s None) (get_or core.map.items s None) (finds.best s is_in) (seen f pages b p all s) (recovers s is_in)
-      (entries s is_in);
-  numbers = λ c q s m d e. let below = finds.numbers c q s m d (all c q s m d e) e in omega (arith, below, number);
-  erased = subst (IsErasedFrom f) (sym closed) tt;
-}
 
 module _ (f : Flash) (pages b p : ℕ) where
   lone_beside : (s : ℕ) (k : Option Candidate) → IsLone f pages b p s k → ((m : ℕ) (d : Sector) → ¬ HasVersion f b p s m d) → IsLone f pages b (p + 1) s k

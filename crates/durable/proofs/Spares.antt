@@ -1,64 +1,71 @@
 -- Whatever a power cut leaves, a mount can free a block.
-use Rattle.std.proofs.Common.{◌≡◌, ◌≢◌, ◌⊎◌, inl, inr, ⊎_elim, ◌+◌, ◌<◌, ℕ, List, length, Option, None, Some, get_or, set, refl, sym, ◌∙◌, subst, arith}
-use Rattle.std.proofs.lemmas.Bool.{cases_eq}
-use Rattle.std.proofs.lemmas.List.{get_or-set_same, get_or-set_other, length-set}
+use Rattle.std.proofs.Common.{◌≡◌, ◌≢◌, ◌⊎◌, inl, inr, ⊎_elim, ◌+◌, ◌<◌, ℕ, List, length, Option, None, Some, set, refl, sym, subst, arith}
+use Rattle.std.proofs.lemmas.List.{length-set}
 use Rattle.geometry.specs.Sectors.{Sector}
 use Rattle.geometry.specs.declared.page_addr.PageAddr.{PageAddr}
 use Rattle.durable.specs.declared.command.Command.{Command}
 use Rattle.durable.specs.declared.command.Command.TheVariants.{Program, Copy, Erase, Refused}
 use Rattle.durable.specs.declared.memory.Core.{Core}
 use Rattle.durable.specs.declared.extent.Extent.{Extent}
-use Rattle.durable.specs.Updates.{Covers}
-use Rattle.durable.specs.Flash.{PageContents, Erased, Torn, Version, Flash, IsVersionOf, HasVersion, HoldsNewest, SetsPage, LosesPages}
+use Rattle.durable.specs.Flash.{PageContents, Erased, Torn, Version, Flash, IsVersionOf, HasVersion, HoldsNewest, HoldsNeeded, HoldsNoValue, HasValue}
+use Rattle.durable.specs.Flash.{SetsPage, LosesPages}
 use Rattle.durable.specs.Collecting.{IsFree, MapsAll}
 use Rattle.durable.specs.Commands.{CutLeaves, Completes}
 use Rattle.durable.specs.Memory.{Represents, IsMappedTo, map_entry}
 use Rattle.durable.specs.Choice.{IsNext}
 use Rattle.durable.specs.Spare.{IsDuplicated, CanFree, IsSparedAt, LeavesSpare}
 use Rattle.durable.proofs.Extents.{cases_covered, none_all}
-use Rattle.durable.proofs.Cells.{was, stays, version_is, torn_has_none, erased_has_none, had, kept_in_loss}
+use Rattle.durable.proofs.Cells.{was, stays, torn_has_none, erased_has_none, kept_in_loss}
 use Rattle.durable.proofs.Moments.{erased_next, programmed_kept, programmed_shows}
 use Rattle.durable.proofs.Counts.{counted_none}
 use Rattle.durable.proofs.Done.{IsPageAfter, BecomesCore}
 use Rattle.durable.proofs.Collects.{stays_free, not_last, copy_apart}
 
--- the sector stands outside of the block, or nowhere
+-- the sector stands outside of the block, or no page has a value of it
 abbrev Away : Flash → ℕ → ℕ → Type 0
-Away t s b = ((d : ℕ) × (q : ℕ) × (v : Sector) × (d ≢ b) × HoldsNewest t s v d q) ⊎ ((d q m : ℕ) (v : Sector) → ¬ HasVersion t d q s m v)
+Away t s b = ((d : ℕ) × (q : ℕ) × (v : Sector) × (d ≢ b) × HoldsNewest t s v d q) ⊎ HoldsNoValue t s
+
+pub no_value : (t : Flash) (s : ℕ) → HoldsNoValue t s → HasValue t s → ⊥
+no_value t s none has = none has.0 has.1 has.2 has.3 has.4
 
 away_doubled : (t : Flash) (sectors b : ℕ) → ((s : ℕ) → s < sectors → Away t s b) → IsDuplicated t sectors b
-away_doubled t sectors b away = λ s p c lt shows. ⊎_elim (λ there. there) (λ none. absurd (none b p shows.number c shows.held)) (away s lt)
+away_doubled t sectors b away = λ s p c lt shows. ⊎_elim (λ there. there) (λ none. absurd (no_value t s none shows.valued)) (away s lt)
 
-kept_away : (t : Flash) (s b : ℕ) (c : Sector) (k : Option PageAddr) → IsMappedTo t s c k → (k ≡ None → (d q m : ℕ) (v : Sector) → ¬ HasVersion t d q s m v)
+kept_away : (t : Flash) (s b : ℕ) (c : Sector) (k : Option PageAddr) → IsMappedTo t s c k
     → ((at : PageAddr) → k ≡ Some at → at.block ≢ b) → Away t s b
-kept_away t s b c None kept none far = inr (none refl)
-kept_away t s b c (Some at) kept none far = inl (at.block, at.page, c, far at refl, kept)
+kept_away t s b c None kept far = inr kept.1
+kept_away t s b c (Some at) kept far = inl (at.block, at.page, c, far at refl, kept)
 
 module _ (f t : Flash) (b p : ℕ) (x : PageContents) (erased : f b p ≡ Erased) (puts : SetsPage f t b p x) where
-  pub nothing_put : (s : ℕ) → ((d q m : ℕ) (v : Sector) → ¬ HasVersion f d q s m v) → ((m : ℕ) (v : Sector) → ¬ IsVersionOf x s m v)
-      → (d q m : ℕ) (v : Sector) → ¬ HasVersion t d q s m v
-  nothing_put s none other d q m v e = ⊎_elim (λ h. other m v h) (λ h. none d q m v h) (was f t b p x erased puts d q s m v e)
+  -- each value was there before, where one page more holds nothing, or a version that was there
+  pub valued_before : ((s m : ℕ) (v : Sector) → IsVersionOf x s m v → (d : ℕ) × (q : ℕ) × HasVersion f d q s m v) → (s : ℕ) → HasValue t s → HasValue f s
+  valued_before source s has = ⊎_elim
+      (λ h. let from = source s has.2 (Some has.3) h in (from.0, from.1, has.2, has.3, from.2))
+      (λ h. (has.0, has.1, has.2, has.3, h))
+      (was f t b p x erased puts has.0 has.1 s has.2 (Some has.3) has.4)
 
   -- a block stays doubled where one page more holds nothing, or a version that stands outside of it
   doubled_put : (sectors c : ℕ) → IsDuplicated f sectors c → ((s m : ℕ) (v : Sector) → IsVersionOf x s m v
       → (d : ℕ) × (q : ℕ) × (d ≢ c) × HasVersion f d q s m v) → IsDuplicated t sectors c
   doubled_put sectors c doubled source = λ s q v lt shows. ⊎_elim
-      (λ h. let from = source s shows.number v h in (
+      (λ h. let from = source s shows.newest.number v h in (
         from.0,
         from.1,
         v,
         from.2,
         record {
-          number = shows.number;
-          held = stays f t b p x erased puts from.0 from.1 s shows.number v from.3;
-          newest = shows.newest;
+          number = shows.newest.number;
+          held = stays f t b p x erased puts from.0 from.1 s shows.newest.number v from.3;
+          newest = shows.newest.newest;
         },
       ))
-      (λ h. let before : HoldsNewest f s v c q = record {
-        number = shows.number;
-        held = h;
-        newest = λ e r m w g. shows.newest e r m w
-            (stays f t b p x erased puts e r s m w g);
+      (λ h. let before : HoldsNeeded f s v c q = record {
+        newest = record {
+          number = shows.newest.number;
+          held = h;
+          newest = λ e r m w g. shows.newest.newest e r m w (stays f t b p x erased puts e r s m w g);
+        };
+        valued = valued_before (λ r m w g. let from = source r m w g in (from.0, from.1, from.3)) s shows.valued;
       } in
       let other = doubled s q v lt before in (
         other.0,
@@ -72,7 +79,7 @@ module _ (f t : Flash) (b p : ℕ) (x : PageContents) (erased : f b p ≡ Erased
               (was f t b p x erased puts e r s m w g);
         },
       ))
-      (was f t b p x erased puts c q s shows.number v shows.held)
+      (was f t b p x erased puts c q s shows.newest.number v shows.newest.held)
 
 module _ (f t : Flash) (core : Core) (array : ℕ → Sector) (stands : Represents f core array) (clears : LeavesSpare f core) where
   abbrev sectors : ℕ
@@ -80,7 +87,7 @@ module _ (f t : Flash) (core : Core) (array : ℕ → Sector) (stands : Represen
 
   empty_doubled : (b : ℕ) → IsFree core.map.items b → IsDuplicated f sectors b
   empty_doubled b none = away_doubled f sectors b (λ s lt. kept_away f s b (array s) (map_entry core s) (stands.mapped s lt)
-      (λ is d q m v. clears.known s d q m v lt is) (λ at is. none s at lt is))
+      (λ at is. none s at lt is))
 
   spare_of : (k : Option PageAddr) → IsSparedAt f core.map.items core.blocks k → CanFree f core.blocks sectors
   spare_of None spare = (spare.0, spare.1, empty_doubled spare.0 spare.2)
@@ -88,11 +95,11 @@ module _ (f t : Flash) (core : Core) (array : ℕ → Sector) (stands : Represen
   spare_of (Some to) (inr here) = (to.block, here.0, here.1)
 
   pub same_spare : ((b p : ℕ) → t b p ≡ f b p) → CanFree t core.blocks sectors
-  same_spare same = subst (λ (g : Flash). CanFree g core.blocks sectors) (λ i b p. sym (same b p) i) (spare_of core.next_page clears.spared)
+  same_spare same = subst (λ (g : Flash). CanFree g core.blocks sectors) (λ i b p. sym (same b p) i) (spare_of core.next_page clears)
 
   torn_spare : (at : PageAddr) → core.next_page ≡ Some at → SetsPage f t at.block at.page Torn → CanFree t core.blocks sectors
   torn_spare at is puts =
-      let spare = spare_of core.next_page clears.spared in (
+      let spare = spare_of core.next_page clears in (
         spare.0,
         spare.1,
         doubled_put f t at.block at.page Torn (erased_next f t core array stands at is) puts sectors spare.0 spare.2
@@ -124,8 +131,6 @@ module _ (f t : Flash) (core : Core) (array : ℕ → Sector) (stands : Represen
     away_doubled t sectors b (λ s lt. ⊎_elim
         (λ has. inl (at.block, at.page, c, (λ here. apart (sym here)), programmed_shows f t core array stands at is e n c number puts s has))
         (λ out. kept_away t s b (array s) (map_entry core s) (programmed_kept f t core array stands at is e n c number puts s lt out)
-        (λ nowhere. nothing_put f t at.block at.page (Version e n c) (erased_next f t core array stands at is) puts s
-        (λ d q m v. clears.known s d q m v lt nowhere) (λ m v h. out (version_is e n c s m v h).0))
         (λ place there. none s place lt there))
         (cases_covered e s)),
   )
@@ -136,7 +141,6 @@ module _ (f t : Flash) (core : Core) (array : ℕ → Sector) (stands : Represen
     within,
     away_doubled t sectors b (λ s lt. kept_away t s b (array s) (map_entry core s)
         (kept_in_loss f t b s (array s) (map_entry core s) (stands.mapped s lt) (λ at is. none s at lt is) loses)
-        (λ nowhere d q m v e. clears.known s d q m v lt nowhere (had f t b loses d q s m v e))
         (λ at is. none s at lt is)),
   )
 
@@ -146,7 +150,7 @@ module _ (f t : Flash) (core : Core) (array : ℕ → Sector) (stands : Represen
       (programmed_spare at next.0 s n x next.1 next.3.0 next.3.1 next.3.2 next.3.3) more) cut
   cut_spare s x (Copy k from to) next cut = ⊎_elim same_spare (λ more. ⊎_elim
       (torn_spare to next.0)
-      (copied_at to from k (subst (IsSparedAt f core.map.items core.blocks) next.0 clears.spared) (erased_next f t core array stands to next.0)
+      (copied_at to from k (subst (IsSparedAt f core.map.items core.blocks) next.0 clears) (erased_next f t core array stands to next.0)
       next.1 next.2 (copy_apart core s k from to next)) more) cut
   cut_spare s x (Erase b) next cut = lost_spare b next.1 next.2 cut
   cut_spare s x Refused next cut = same_spare cut
@@ -156,34 +160,7 @@ pub none_set : (kept : List (Option PageAddr)) (k : ℕ) (to : PageAddr) (b : �
     → IsFree (set kept k (Some to)) b
 none_set kept k to b lt none apart = counted_none b (set kept k (Some to)) (stays_free kept k to b lt none apart)
 
-some_is_not_none : (at : PageAddr) → Some at ≢ None
-some_is_not_none at e = cc e
-
-module _ (f t : Flash) (core : Core) (clears : LeavesSpare f core) where
-  -- of a sector that is not kept nothing is held, where the page that was put is of one that is
-  known_set : (k : ℕ) (to : PageAddr) (b p : ℕ) (x : PageContents) → k < length core.map.items → f b p ≡ Erased → SetsPage f t b p x
-      → ((j m : ℕ) (v : Sector) → j < length core.map.items → j ≢ k → map_entry core j ≡ None → ¬ IsVersionOf x j m v)
-      → (j d q m : ℕ) (v : Sector) → j < length (set core.map.items k (Some to)) → get_or (set core.map.items k (Some to)) j None ≡ None
-      → ¬ HasVersion t d q j m v
-  known_set k to b p x klt erased puts other j d q m v lt is = ⊎_elim
-      (λ here. absurd (some_is_not_none to (sym (get_or-set_same core.map.items k (Some to) None klt) ∙ subst
-      (λ (i : ℕ). get_or (set core.map.items k (Some to)) i None ≡ None) here is)))
-      (λ differs.
-      let inside : j < length core.map.items = subst (λ (l : ℕ). j < l) (length-set core.map.items k (Some to)) lt in
-      let nowhere : map_entry core j ≡ None = sym (get_or-set_other core.map.items k j (Some to) None differs) ∙ is in
-      nothing_put f t b p x erased puts j (λ e r n w. clears.known j e r n w inside nowhere) (λ n w. other j n w inside differs nowhere) d q m v)
-      (cases_eq j k)
-
-  -- the same of the sectors of an extent
-  known_all : (e : Extent) (to : PageAddr) (map : List (Option PageAddr)) (b p : ℕ) (x : PageContents) → MapsAll core.map.items map e to → f b p ≡ Erased
-      → SetsPage f t b p x → ((j m : ℕ) (v : Sector) → ¬ Covers e j → ¬ IsVersionOf x j m v)
-      → (j d q m : ℕ) (v : Sector) → j < length map → get_or map j None ≡ None → ¬ HasVersion t d q j m v
-  known_all e to map b p x maps erased puts other j d q m v lt is = ⊎_elim
-      (λ has. absurd (some_is_not_none to (sym (maps.covered j has) ∙ is)))
-      (λ out. nothing_put f t b p x erased puts j
-      (λ c r n w. clears.known j c r n w (omega (arith, lt, maps.size)) (sym (maps.others j out) ∙ is)) (λ n w. other j n w out) d q m v)
-      (cases_covered e j)
-
+module _ (f t : Flash) (core : Core) where
   program_clears : (e : Extent) (at : PageAddr) (map : List (Option PageAddr)) (k : Option PageAddr) (b : ℕ) → MapsAll core.map.items map e at → b < core.blocks
       → b ≢ at.block → IsFree core.map.items b → IsPageAfter at core.pages k → IsSparedAt t map core.blocks k
   program_clears e at map None b maps within apart none next = (b, within, none_all core.map.items map e at b maps none apart)
@@ -210,43 +187,21 @@ module _ (f t : Flash) (core : Core) (clears : LeavesSpare f core) where
 module _ (f t : Flash) (core new : Core) (array : ℕ → Sector) (stands : Represents f core array) (clears : LeavesSpare f core)
     (blocks : new.blocks ≡ core.blocks)
     (s : Extent) (x : Sector) where
-  -- of a sector that isn't mapped no page has a version
-  abbrev KnownBy : List (Option PageAddr) → Type 0
-  KnownBy map = (j d q i : ℕ) (v : Sector) → j < length map → get_or map j None ≡ None → ¬ HasVersion t d q j i v
-
-  abbrev SparedBy : ℕ → List (Option PageAddr) → Option PageAddr → Type 0
-  SparedBy n map next = IsSparedAt t map n next
-
-  from_map : (map : List (Option PageAddr)) (next : Option PageAddr) → new.map.items ≡ map → new.next_page ≡ next → KnownBy map
-      → SparedBy core.blocks map next → LeavesSpare t new
-  from_map map next moved opened known spared = record {
-    known = subst KnownBy (sym moved) known;
-    spared = subst (λ (n : ℕ). SparedBy n new.map.items new.next_page) (sym blocks)
-        (subst (λ (m : List (Option PageAddr)). SparedBy core.blocks m new.next_page) (sym moved) (subst (SparedBy core.blocks map) (sym opened) spared));
-  }
+  from_map : (map : List (Option PageAddr)) (next : Option PageAddr) → new.map.items ≡ map → new.next_page ≡ next
+      → IsSparedAt t map core.blocks next → LeavesSpare t new
+  from_map map next moved opened spared = subst (λ (n : ℕ). IsSparedAt t new.map.items n new.next_page) (sym blocks)
+      (subst (λ (m : List (Option PageAddr)). IsSparedAt t m core.blocks new.next_page) (sym moved) (subst (IsSparedAt t map core.blocks) (sym opened) spared))
 
   pub spare_after : (m : Command) → IsNext core m → Completes m s x f t → BecomesCore core s m new → LeavesSpare t new
   spare_after (Program at n) next puts becomes = from_map new.map.items new.next_page refl refl
-      (known_all f t core clears s at new.map.items at.block at.page (Version s n x) becomes.0 (erased_next f t core array stands at next.0) puts
-      (λ j i v out e. out (version_is s n x j i v e).0))
-      (program_clears f t core clears s at new.map.items new.next_page next.3.0 becomes.0 next.3.1 next.3.2 next.3.3 becomes.2)
+      (program_clears f t core s at new.map.items new.next_page next.3.0 becomes.0 next.3.1 next.3.2 next.3.3 becomes.2)
   spare_after (Copy k from to) next puts becomes =
-      let erased = erased_next f t core array stands to next.0 in
       from_map (set core.map.items k (Some to)) new.next_page becomes.0 refl
-      (known_set f t core clears k to to.block to.page (f from.block from.page) next.1 erased puts
-      (λ j i v l differs nowhere e. clears.known j from.block from.page i v l nowhere e))
-      (copy_clears f t core clears from to k new.next_page next.1 (copy_apart core s k from to next) erased puts (not_last core s k from to next) becomes.2
-      (subst (IsSparedAt f core.map.items core.blocks) next.0 clears.spared))
+      (copy_clears f t core from to k new.next_page next.1 (copy_apart core s k from to next) (erased_next f t core array stands to next.0) puts
+      (not_last core s k from to next) becomes.2 (subst (IsSparedAt f core.map.items core.blocks) next.0 clears))
   spare_after (Erase b) next gone becomes = from_map core.map.items (Some (record { block = b; page = 0 })) becomes.0 becomes.2
-      (λ j d q i v l nowhere e. ⊎_elim
-      (λ here. erased_has_none t b q j i v (gone.0 q) (subst (λ (c : ℕ). HasVersion t c q j i v) here e))
-      (λ differs. clears.known j d q i v l nowhere (e.0, sym (gone.1 d q differs) ∙ e.1, e.2))
-      (cases_eq d b))
-      (inr (next.1, λ j q v l shows. absurd (erased_has_none t b q j shows.number v (gone.0 q) shows.held)))
-  spare_after Refused next same becomes = subst (λ (g : Flash). LeavesSpare g new) (λ i b p. sym (same b p) i) (record {
-    known = subst (λ (m : List (Option PageAddr)). (j d q i : ℕ) (v : Sector) → j < length m → get_or m j None ≡ None → ¬ HasVersion f d q j i v)
-        (sym becomes.0) clears.known;
-    spared = subst (λ (n : ℕ). IsSparedAt f new.map.items n new.next_page) (sym blocks)
-        (subst (λ (m : List (Option PageAddr)). IsSparedAt f m core.blocks new.next_page) (sym becomes.0) (subst (IsSparedAt f core.map.items core.blocks)
-        (sym becomes.2) clears.spared));
-  })
+      (inr (next.1, λ j q v l shows. absurd (erased_has_none t b q j shows.newest.number v (gone.0 q) shows.newest.held)))
+  spare_after Refused next same becomes = subst (λ (g : Flash). LeavesSpare g new) (λ i b p. sym (same b p) i)
+      (subst (λ (n : ℕ). IsSparedAt f new.map.items n new.next_page) (sym blocks)
+      (subst (λ (m : List (Option PageAddr)). IsSparedAt f m core.blocks new.next_page) (sym becomes.0) (subst (IsSparedAt f core.map.items core.blocks)
+      (sym becomes.2) clears)))

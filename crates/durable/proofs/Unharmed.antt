@@ -1,9 +1,9 @@
 -- In a run that loses no page, each mount tells no loss.
-use Rattle.std.proofs.Common.{◌≡◌, ◌<◌, ◌∙◌, ℕ, List, [], ◌∷◌, length, refl, sym, ap, subst, arith}
+use Rattle.std.proofs.Common.{◌≡◌, ◌<◌, ◌∙◌, ℕ, List, [], ◌∷◌, length, Some, refl, sym, ap, subst, arith}
 use Rattle.geometry.specs.Sectors.{Sector}
 use Rattle.durable.specs.declared.memory.Core.{Core}
 use Rattle.durable.specs.Updates.{Update}
-use Rattle.durable.specs.Flash.{Flash, HoldsNewest, IsErased}
+use Rattle.durable.specs.Flash.{Flash, HoldsNeeded, HoldsNewest, IsErased}
 use Rattle.durable.specs.Device.{Device, device_of, device_in, losses_of}
 use Rattle.durable.specs.Failures.{HasVersionlessBlock, IsRenumbered}
 use Rattle.durable.specs.Losses.{IsGapless, version_count}
@@ -17,8 +17,8 @@ use Rattle.durable.proofs.Promises.{version_before}
 -- an erased flash has lost no page
 pub erased_unharmed : (f : Flash) (device : Device) → IsErased f → 0 < device.blocks → IsUnharmed f device
 erased_unharmed f device erased some = record {
-  no_loss = λ s b p v lt shows. absurd (erased_has_none f b p s shows.number v (erased b p) shows.held);
-  spare = (0, some, λ s p v lt shows. absurd (erased_has_none f 0 p s shows.number v (erased 0 p) shows.held));
+  no_loss = λ s b p v lt shows. absurd (erased_has_none f b p s shows.newest.number v (erased b p) shows.newest.held);
+  spare = (0, some, λ s p v lt shows. absurd (erased_has_none f 0 p s shows.newest.number v (erased 0 p) shows.newest.held));
 }
 
 -- nor has one whose blocks are numbered anew, with one in use that has no version
@@ -40,12 +40,19 @@ module _ (f t : Flash) (blocks : ℕ) (renumbered : IsRenumbered f t blocks) whe
     newest = λ b q m w e. shows.newest (renumbered.to b) q m w (e.0, renumbered.moved b q ∙ e.1, e.2);
   }
 
+  needed_before : (s : ℕ) (v : Sector) (c p : ℕ) → HoldsNeeded t s v c p → HoldsNeeded f s v (renumbered.from c) p
+  needed_before s v c p shows = record {
+    newest = newest_before s v c p shows.newest;
+    valued = let has = shows.valued in
+        (renumbered.from has.0, has.1, has.2, has.3, version_before f t blocks renumbered has.0 has.1 s has.2 (Some has.3) has.4);
+  }
+
   pub renumbered_unharmed : (old new : Device) → new.sectors ≡ old.sectors → HasVersionlessBlock t new → IsUnharmed f old → IsUnharmed t new
   renumbered_unharmed old new sectors blank unharmed = record {
     no_loss = λ s b p v lt shows.
-        let there = unharmed.no_loss s (renumbered.from b) p v (omega (arith, lt, sectors)) (newest_before s v b p shows) in
+        let there = unharmed.no_loss s (renumbered.from b) p v (omega (arith, lt, sectors)) (needed_before s v b p shows) in
         (renumbered.to there.0, there.1, there.2, renumbered_whole there.0 there.3, renumbered_newest s there.2 there.0 there.1 there.4);
-    spare = (blank.0, blank.1, λ s p v lt shows. absurd (blank.2 p shows.held.0 shows.number v shows.held.1));
+    spare = (blank.0, blank.1, λ s p v lt shows. absurd (blank.2 p shows.newest.held.0 shows.newest.number v shows.newest.held.1));
   }
 
 -- such a run is one of those that keep what was acknowledged

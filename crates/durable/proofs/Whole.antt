@@ -9,23 +9,23 @@ use Rattle.durable.specs.declared.command.Command.{Command}
 use Rattle.durable.specs.declared.command.Command.TheVariants.{Program, Copy, Erase, Refused}
 use Rattle.durable.specs.declared.memory.Core.{Core}
 use Rattle.durable.specs.declared.extent.Extent.{Extent}
-use Rattle.durable.specs.Flash.{PageContents, Erased, Torn, Version, Flash, IsVersionOf, HasVersion, HoldsNewest, SetsPage, LosesPages}
+use Rattle.durable.specs.Flash.{PageContents, Erased, Torn, Version, Flash, IsVersionOf, HasVersion, HoldsNewest, HoldsNeeded, HoldsNoValue, SetsPage}
+use Rattle.durable.specs.Flash.{LosesPages}
 use Rattle.durable.specs.Collecting.{IsFree, MapsAll}
 use Rattle.durable.specs.Commands.{CutLeaves, Completes}
 use Rattle.durable.specs.Device.{device_of}
 use Rattle.durable.specs.Losses.{version_count, IsGapless, HasNoLoss}
 use Rattle.durable.specs.Memory.{Represents, IsMappedTo, IsErasedFrom, map_entry}
 use Rattle.durable.specs.Choice.{IsNext}
-use Rattle.durable.specs.Spare.{LeavesSpare}
 use Rattle.durable.specs.Whole.{IsSafelyDuplicated, IsUnharmed, IsFullBefore, IsSafelySpared, KeepsWhole}
 use Rattle.durable.specs.Whole.{CutsUnharmed, CutsIdleUnharmed, StaysWhole}
 use Rattle.durable.specs.Updates.{array_after}
 use Rattle.durable.proofs.Extents.{cases_covered, none_all}
-use Rattle.durable.proofs.Cells.{was, stays, version_is, torn_has_none, erased_holds_none, erased_has_none, had, kept_in_loss}
+use Rattle.durable.proofs.Cells.{was, stays, torn_has_none, erased_holds_none, erased_has_none, kept_in_loss}
 use Rattle.durable.proofs.Moments.{erased_next, source_shows, torn_kept, programmed_kept, programmed_shows, copied_kept, copied_shows}
 use Rattle.durable.proofs.Done.{IsPageAfter, BecomesCore}
 use Rattle.durable.proofs.Collects.{not_last, copy_apart}
-use Rattle.durable.proofs.Spares.{nothing_put, none_set}
+use Rattle.durable.proofs.Spares.{no_value, none_set, valued_before}
 
 module _ (f t : Flash) where
   -- a block whose pages are the same has no gap still
@@ -51,17 +51,17 @@ module _ (f t : Flash) where
   lost_whole : (b : ℕ) → LosesPages f t b → (c : ℕ) → c ≢ b → IsGapless f c → IsGapless t c
   lost_whole b loses c differs whole = same_whole c (λ q. loses.outside c q differs) whole
 
--- the sector's newest version is in such a block, or it has none
+-- the sector's newest version is in such a block, or no page has a value of it
 abbrev Stands : Flash → (ℕ → Type 0) → ℕ → Type 0
-Stands t P s = ((d : ℕ) × (q : ℕ) × (v : Sector) × P d × HoldsNewest t s v d q) ⊎ ((d q m : ℕ) (v : Sector) → ¬ HasVersion t d q s m v)
+Stands t P s = ((d : ℕ) × (q : ℕ) × (v : Sector) × P d × HoldsNewest t s v d q) ⊎ HoldsNoValue t s
 
 kept_stands : (t : Flash) (P : ℕ → Type 0) (s : ℕ) (c : Sector) (k : Option PageAddr) → IsMappedTo t s c k
-    → (k ≡ None → (d q m : ℕ) (v : Sector) → ¬ HasVersion t d q s m v) → ((at : PageAddr) → k ≡ Some at → P at.block) → Stands t P s
-kept_stands t P s c None kept none holds = inr (none refl)
-kept_stands t P s c (Some at) kept none holds = inl (at.block, at.page, c, holds at refl, kept)
+    → ((at : PageAddr) → k ≡ Some at → P at.block) → Stands t P s
+kept_stands t P s c None kept holds = inr kept.1
+kept_stands t P s c (Some at) kept holds = inl (at.block, at.page, c, holds at refl, kept)
 
 no_loss_of : (t : Flash) (sectors : ℕ) → ((s : ℕ) → s < sectors → Stands t (IsGapless t) s) → HasNoLoss t sectors
-no_loss_of t sectors all = λ s b p v lt shows. ⊎_elim (λ there. there) (λ none. absurd (none b p shows.number v shows.held)) (all s lt)
+no_loss_of t sectors all = λ s b p v lt shows. ⊎_elim (λ there. there) (λ none. absurd (no_value t s none shows.valued)) (all s lt)
 
 abbrev WholeBeside : Flash → ℕ → ℕ → Type 0
 WholeBeside t b d = (d ≢ b) × IsGapless t d
@@ -69,7 +69,7 @@ WholeBeside t b d = (d ≢ b) × IsGapless t d
 safe_of : (t : Flash) (sectors b : ℕ) → ((s : ℕ) → s < sectors → Stands t (WholeBeside t b) s) → IsSafelyDuplicated t sectors b
 safe_of t sectors b all = λ s p v lt shows. ⊎_elim
     (λ there. (there.0, there.1, there.2, there.3.0, there.3.1, there.4))
-    (λ none. absurd (none b p shows.number v shows.held))
+    (λ none. absurd (no_value t s none shows.valued))
     (all s lt)
 
 module _ (f t : Flash) (b p : ℕ) (x : PageContents) (erased : f b p ≡ Erased) (puts : SetsPage f t b p x)
@@ -79,22 +79,25 @@ module _ (f t : Flash) (b p : ℕ) (x : PageContents) (erased : f b p ≡ Erased
       → ((s m : ℕ) (v : Sector) → IsVersionOf x s m v → (d : ℕ) × (q : ℕ) × (d ≢ c) × IsGapless f d × HasVersion f d q s m v)
       → IsSafelyDuplicated t sectors c
   safe_put sectors c doubled source = λ s q v lt shows. ⊎_elim
-      (λ h. let from = source s shows.number v h in (
+      (λ h. let from = source s shows.newest.number v h in (
         from.0,
         from.1,
         v,
         from.2,
         stay from.0 from.3,
         record {
-          number = shows.number;
-          held = stays f t b p x erased puts from.0 from.1 s shows.number v from.4;
-          newest = shows.newest;
+          number = shows.newest.number;
+          held = stays f t b p x erased puts from.0 from.1 s shows.newest.number v from.4;
+          newest = shows.newest.newest;
         },
       ))
-      (λ h. let before : HoldsNewest f s v c q = record {
-        number = shows.number;
-        held = h;
-        newest = λ e r m w g. shows.newest e r m w (stays f t b p x erased puts e r s m w g);
+      (λ h. let before : HoldsNeeded f s v c q = record {
+        newest = record {
+          number = shows.newest.number;
+          held = h;
+          newest = λ e r m w g. shows.newest.newest e r m w (stays f t b p x erased puts e r s m w g);
+        };
+        valued = valued_before f t b p x erased puts (λ r m w g. let from = source r m w g in (from.0, from.1, from.4)) s shows.valued;
       } in
       let other = doubled s q v lt before in (
         other.0,
@@ -109,14 +112,14 @@ module _ (f t : Flash) (b p : ℕ) (x : PageContents) (erased : f b p ≡ Erased
               (was f t b p x erased puts e r s m w g);
         },
       ))
-      (was f t b p x erased puts c q s shows.number v shows.held)
+      (was f t b p x erased puts c q s shows.newest.number v shows.newest.held)
 
-module _ (f t : Flash) (core : Core) (array : ℕ → Sector) (stands : Represents f core array) (clears : LeavesSpare f core) (keeps : KeepsWhole f core) where
+module _ (f t : Flash) (core : Core) (array : ℕ → Sector) (stands : Represents f core array) (keeps : KeepsWhole f core) where
   abbrev sectors : ℕ
   sectors = length core.map.items
 
   from_map : (P : ℕ → Type 0) → ((s : ℕ) (at : PageAddr) → s < sectors → map_entry core s ≡ Some at → P at.block) → (s : ℕ) → s < sectors → Stands f P s
-  from_map P holds = λ s lt. kept_stands f P s (array s) (map_entry core s) (stands.mapped s lt) (λ is d q m v. clears.known s d q m v lt is)
+  from_map P holds = λ s lt. kept_stands f P s (array s) (map_entry core s) (stands.mapped s lt)
       (λ at is. holds s at lt is)
 
   free_safe : (b : ℕ) → IsFree core.map.items b → IsSafelyDuplicated f sectors b
@@ -141,16 +144,10 @@ module _ (f t : Flash) (core : Core) (array : ℕ → Sector) (stands : Represen
     pub stay_whole : (c : ℕ) → IsGapless f c → IsGapless t c
     stay_whole = put_whole f t at.block at.page x (subst (IsErasedFrom f) is stands.erased) (subst (IsFullBefore f) is keeps.full) puts
 
-    pub nothing_there : (s : ℕ) → s < sectors → map_entry core s ≡ None → ((m : ℕ) (v : Sector) → ¬ IsVersionOf x s m v) → (d q m : ℕ) (v : Sector)
-        → ¬ HasVersion t d q s m v
-    nothing_there s lt nowhere other = nothing_put f t at.block at.page x (erased_next f t core array stands at is) puts s
-        (λ d q m v. clears.known s d q m v lt nowhere) other
-
   torn_unharmed : (at : PageAddr) → core.next_page ≡ Some at → SetsPage f t at.block at.page Torn → IsUnharmed t (device_of core)
   torn_unharmed at is puts = record {
     no_loss = no_loss_of t sectors (λ s lt. kept_stands t (IsGapless t) s (array s) (map_entry core s)
         (torn_kept f t core array stands at is puts s lt)
-        (λ nowhere. nothing_there at Torn is puts s lt nowhere (torn_has_none s))
         (λ to there. stay_whole at Torn is puts to.block (keeps.mapped s to lt there)));
     spare = torn_spare (spare_now core.next_page keeps.spared);
   }
@@ -171,7 +168,6 @@ module _ (f t : Flash) (core : Core) (array : ℕ → Sector) (stands : Represen
     program_stands P here holds = λ s lt. ⊎_elim
         (λ has. inl (at.block, at.page, c, here, programmed_shows f t core array stands at is e n c number puts s has))
         (λ out. kept_stands t P s (array s) (map_entry core s) (programmed_kept f t core array stands at is e n c number puts s lt out)
-        (λ nowhere. nothing_there at (Version e n c) is puts s lt nowhere (λ m v h. out (version_is e n c s m v h).0))
         (λ to there. holds s to lt there))
         (cases_covered e s)
 
@@ -203,7 +199,6 @@ module _ (f t : Flash) (core : Core) (array : ℕ → Sector) (stands : Represen
           subst (λ (j : ℕ). HoldsNewest t j (array k) to.block to.page) (sym same) (copied_shows f t core array stands to from is k klt at puts),
         ))
         (λ differs. kept_stands t P s (array s) (map_entry core s) (copied_kept f t core array stands to from is puts s lt)
-        (λ nowhere. nothing_there to (f from.block from.page) is puts s lt nowhere (λ m v h. clears.known s from.block from.page m v lt nowhere h))
         (λ a there. holds s a lt there))
         (cases_eq s k)
 
@@ -236,7 +231,6 @@ module _ (f t : Flash) (core : Core) (array : ℕ → Sector) (stands : Represen
       → Stands t P s =
       λ P holds s lt. kept_stands t P s (array s) (map_entry core s)
       (kept_in_loss f t b s (array s) (map_entry core s) (stands.mapped s lt) (λ at is. none s at lt is) loses)
-      (λ nowhere d q m v e. clears.known s d q m v lt nowhere (had f t b loses d q s m v e))
       (λ at is. holds s at lt is) in
       record {
         no_loss = no_loss_of t sectors (kept (IsGapless t) (λ s at lt is. lost_whole f t b loses at.block (none s at lt is) (keeps.mapped s at lt is)));
@@ -263,7 +257,7 @@ some_addr : (x y : PageAddr) → Some x ≡ Some y → x ≡ y
 some_addr x y e = cc e
 
 -- after a command that succeeds
-module _ (f t : Flash) (core new : Core) (array : ℕ → Sector) (stands : Represents f core array) (clears : LeavesSpare f core)
+module _ (f t : Flash) (core new : Core) (array : ℕ → Sector) (stands : Represents f core array)
     (keeps : KeepsWhole f core) (blocks : new.blocks ≡ core.blocks) (s : Extent) (x : Sector) where
   -- a page is put, and sectors mapped to it
   abbrev MapsTo : PageAddr → Type 0
@@ -292,8 +286,8 @@ module _ (f t : Flash) (core new : Core) (array : ℕ → Sector) (stands : Repr
       (one : version_count c ≡ 1) where
     put_mapped : (j : ℕ) (a : PageAddr) → j < length new.map.items → map_entry new j ≡ Some a → IsGapless t a.block
     put_mapped j a l entry = ⊎_elim
-        (λ here. subst (λ (y : PageAddr). IsGapless t y.block) (sym here) (opens f t core array stands clears keeps at c is puts))
-        (λ there. stay_whole f t core array stands clears keeps at c is puts a.block (keeps.mapped j a there.0 there.1))
+        (λ here. subst (λ (y : PageAddr). IsGapless t y.block) (sym here) (opens f t core array stands keeps at c is puts))
+        (λ there. stay_whole f t core array stands keeps at c is puts a.block (keeps.mapped j a there.0 there.1))
         (maps j a l entry)
 
     put_full : (next : Option PageAddr) → IsPageAfter at core.pages next → IsFullBefore t next
@@ -327,7 +321,7 @@ module _ (f t : Flash) (core new : Core) (array : ℕ → Sector) (stands : Repr
   copy_spared from to k (Some on) klt at apart is puts more next (inr here) =
       let same : on.block ≡ to.block = next.0.0 in
       let doubled = safe_put f t to.block to.page (f from.block from.page) (erased_next f t core array stands to is) puts
-      (stay_whole f t core array stands clears keeps to (f from.block from.page) is puts) (length core.map.items) to.block here.1
+      (stay_whole f t core array stands keeps to (f from.block from.page) is puts) (length core.map.items) to.block here.1
       (λ j m v e. (from.block, from.page, apart, keeps.mapped k from klt at, e)) in
       inr (
         omega (arith, same, here.0),
@@ -352,7 +346,7 @@ module _ (f t : Flash) (core new : Core) (array : ℕ → Sector) (stands : Repr
         same_whole f t a.block (λ q. gone.1 a.block q (next.2 j a inside there)) (keeps.mapped j a inside there);
     full = subst (IsFullBefore t) (sym becomes.2) (λ p less. absurd (omega (arith, less)));
     spared = subst (λ (k : Option PageAddr). IsSafelySpared t new.map.items new.blocks k) (sym becomes.2)
-        (inr (omega (arith, next.1, blocks), λ j q v l shows. absurd (erased_has_none t b q j shows.number v (gone.0 q) shows.held)));
+        (inr (omega (arith, next.1, blocks), λ j q v l shows. absurd (erased_has_none t b q j shows.newest.number v (gone.0 q) shows.newest.held)));
   }
   whole_after Refused next same becomes = subst (λ (g : Flash). KeepsWhole g new) (λ i b p. sym (same b p) i) (record {
     mapped = λ j a l entry. keeps.mapped j a (omega (arith, l, ap length becomes.0))
@@ -365,12 +359,12 @@ module _ (f t : Flash) (core new : Core) (array : ℕ → Sector) (stands : Repr
 
 pub cuts_unharmed : (core : Core) (s : Extent) (m : Command) → IsNext core m → CutsUnharmed core s m
 cuts_unharmed core s m next f t x acked begun is keeps cut =
-    cut_unharmed f t core (array_after is.updates) is.represents is.spare keeps s x m next cut
+    cut_unharmed f t core (array_after is.updates) is.represents keeps s x m next cut
 
 pub cuts_idle_unharmed : (core : Core) → CutsIdleUnharmed core
-cuts_idle_unharmed core f acked begun is keeps = idle_unharmed f f core (array_after is.updates) is.represents is.spare keeps
+cuts_idle_unharmed core f acked begun is keeps = idle_unharmed f f core (array_after is.updates) is.represents keeps
 
 pub remains_whole : (core new : Core) (s : Extent) (m : Command) → IsNext core m → BecomesCore core s m new
     → new.blocks ≡ core.blocks → StaysWhole core s m new
 remains_whole core new s m next becomes blocks f t x acked begun is keeps does =
-    whole_after f t core new (array_after is.updates) is.represents is.spare keeps blocks s x m next does becomes
+    whole_after f t core new (array_after is.updates) is.represents keeps blocks s x m next does becomes

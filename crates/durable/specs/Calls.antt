@@ -1,15 +1,18 @@
 -- What the public calls keep of the promise.
-use Rattle.std.specs.Prelude.{◌≡◌, ◌<◌, ℕ, List, ◌∷◌, length, None, slice_index_or}
+use Rattle.std.specs.Prelude.{◌≡◌, ◌<◌, ℕ, List, ◌∷◌, length, Option, None, slice_index_or}
 use Rattle.geometry.specs.Sectors.{Sector}
 use Rattle.durable.specs.declared.extent.Extent.{Extent}
 use Rattle.durable.specs.Updates.{Update}
-use Rattle.durable.specs.Flash.{Flash}
+use Rattle.durable.specs.Flash.{Flash, HoldsNoValue}
 use Rattle.durable.specs.Commands.{Completes, CutLeaves, IsAllowed, updates_with}
-use Rattle.durable.specs.Device.{device_of, device_in, IsWrittenOn, NamesOn}
-use Rattle.durable.specs.Mounting.{Finds}
-use Rattle.durable.specs.Losses.{CountsGaps, IsPreferred, HasNoLoss}
+use Rattle.durable.specs.Device.{device_of, device_in, losses_of, IsWrittenOn, NamesOn}
+use Rattle.durable.specs.Memory.{map_entry}
+use Rattle.durable.specs.Mounting.{Finds, TellsValues}
+use Rattle.durable.specs.Candidates.{AreNeeded}
+use Rattle.durable.specs.Losses.{CountsGaps, IsPreferred, HasNoLoss, losses_in}
 use Rattle.durable.specs.Promise.{IsReadable, IsRecoverable, IsConsistent}
 use Rattle.durable.specs.declared.command.Command.{Command}
+use Rattle.durable.specs.declared.found.Candidate.{Candidate}
 use Rattle.durable.specs.declared.memory.Core.{Core}
 use Rattle.durable.specs.declared.mount.Mount.{Mount}
 
@@ -33,9 +36,10 @@ Acknowledges old extent command new = (f t : Flash) (value : Sector) (acked begu
     → let update : Update = record { extent = extent; value = value } in IsConsistent t new (updates_with command update acked) (updates_with command
     update begun)
 
--- the stamps that were noted are those of the flash's pages, block by block, and their gaps were counted
+-- the stamps that were noted are those of the flash's pages, block by block, their gaps were counted, and their values marked
 pub record HasNoted (f : Flash) (mount : Mount) : Type 0 where
   pub finds : Finds f mount.pages mount.block mount.page mount.found.items mount.next_number
+  pub values : TellsValues f mount.pages mount.block mount.page (length mount.found.items) mount.valued.items
   pub counts : CountsGaps f mount.pages mount.block mount.page mount.gaps.items mount.versions
   pub prefers : (s : ℕ) → s < length mount.found.items
       → IsPreferred f mount.pages mount.block mount.page mount.gaps.items s (slice_index_or mount.found.items s None)
@@ -45,11 +49,20 @@ abbrev pub Remounts : Mount → Core → Type 0
 Remounts mount core = (f : Flash) (acked begun : List Update) → HasNoted f mount → IsReadable f (device_in mount) acked begun
     → IsConsistent f core acked begun
 
--- a mount that tells no loss has found the newest version of each sector in a block without a gap
+-- a mount keeps no page for a sector that no page has a value of
+abbrev pub DropsTrims : Mount → Core → Type 0
+DropsTrims mount core = (f : Flash) → HasNoted f mount → (s : ℕ) → s < (device_in mount).sectors → HoldsNoValue f s → map_entry core s ≡ None
+
+-- the losses that it tells are the gaps in blocks that have a page of what is kept
+abbrev pub CountsLosses : Mount → Core → Type 0
+CountsLosses mount core = (kept : List (Option Candidate)) × AreNeeded mount.valued.items mount.found.items kept
+    × (losses_of core ≡ losses_in kept mount.gaps.items mount.read_blocks)
+
+-- a mount that tells no loss has found each newest version that is needed in a block without a gap
 abbrev pub TellsLosses : Mount → Core → Type 0
 TellsLosses mount core = (f : Flash) → HasNoted f mount → IsWrittenOn (device_in mount) f → core.losses ≡ 0 → HasNoLoss f (device_in mount).sectors
 
--- a mount tells no loss where each sector's newest version is in a block without a gap
+-- a mount tells no loss where each newest version that is needed is in a block without a gap
 abbrev pub TellsNoFalseLoss : Mount → Core → Type 0
 TellsNoFalseLoss mount core = (f : Flash) (acked begun : List Update) → HasNoted f mount → IsReadable f (device_in mount) acked begun
     → HasNoLoss f (device_in mount).sectors → core.losses ≡ 0

@@ -1,11 +1,12 @@
 -- Which pages are found as their stamps are read, and which block can be freed.
-use Rattle.std.specs.Prelude.{◌≡◌, ◌≢◌, ◌⊎◌, ◌<◌, ◌+◌, ◌==◌, ℕ, false, max, List}
+use Rattle.std.specs.Prelude.{◌≡◌, ◌≢◌, ◌⊎◌, ◌<◌, ◌+◌, ◌==◌, ℕ, Bool, true, false, max, List}
 use Rattle.std.specs.Prelude.{[], ◌∷◌, length, Option, None, Some, if◌then◌else◌, nat_lt, slice_index_or}
 use Rattle.geometry.specs.declared.page_addr.PageAddr.{PageAddr}
 use Rattle.packed_map.specs.Entries.{IsPackable}
 use Rattle.durable.specs.declared.found.Candidate.{Candidate}
 use Rattle.durable.specs.declared.found.Stamp.{Stamp}
 use Rattle.durable.specs.Losses.{has_gap}
+use Rattle.durable.specs.Marks.{is_valued}
 use Rattle.durable.specs.Updates.{Covers}
 
 -- the twin of a page that was found: this one, unless there is one in a block without a gap
@@ -81,3 +82,19 @@ HasTwin gaps x b = (t : PageAddr) × (x.twin ≡ Some t) × (t.block ≢ b) × (
 -- each version that was found in the block has such a page in another one
 abbrev pub IsFreeable : List ℕ → List (Option Candidate) → ℕ → Type 0
 IsFreeable gaps found b = (s : ℕ) (x : Candidate) → s < length found → slice_index_or found s None ≡ Some x → x.at.block ≡ b → HasTwin gaps x b
+
+-- the page of a sector that has a value
+abbrev pub valued_page : Bool → Option PageAddr → Option PageAddr
+valued_page true page = page
+valued_page false page = None
+
+-- what is kept of what was found of a sector: nothing, if no page has a value of it
+abbrev pub needed_of : Bool → Option Candidate → Option Candidate
+needed_of true found = found
+needed_of false found = None
+
+-- the same of each sector
+abbrev pub AreNeeded : List ℕ → List (Option Candidate) → List (Option Candidate) → Type 0
+AreNeeded valued found kept =
+    (length kept ≡ length found)
+    × ((s : ℕ) → s < length found → slice_index_or kept s None ≡ needed_of (is_valued valued s) (slice_index_or found s None))

@@ -1,5 +1,5 @@
 -- What the pages of a flash hold, and what a mount reads from them.
-use Rattle.std.specs.Prelude.{◌≡◌, ◌≢◌, ◌⊎◌, ◌<◌, ℕ, List, None, Some}
+use Rattle.std.specs.Prelude.{◌≡◌, ◌≢◌, ◌⊎◌, ◌<◌, ℕ, Bool, true, false, List, None, Some}
 use Rattle.geometry.specs.Sectors.{Sector}
 use Rattle.durable.specs.Updates.{Covers}
 use Rattle.durable.specs.declared.extent.Extent.{Extent}
@@ -10,6 +10,11 @@ pub data PageContents : Type 0 where
   Erased : PageContents
   Torn : PageContents
   Version : (extent : Extent) (number : ℕ) (value : Sector) → PageContents
+
+-- whether a version is a trim
+abbrev pub is_trim : Sector → Bool
+is_trim None = true
+is_trim (Some bytes) = false
 
 -- the contents of each block's pages
 abbrev pub Flash : Type 0
@@ -40,6 +45,15 @@ pub record HoldsNewest (f : Flash) (s : ℕ) (value : Sector) (b p : ℕ) : Type
 -- no page has a value of the sector
 abbrev pub HoldsNoValue : Flash → ℕ → Type 0
 HoldsNoValue f s = (b p m : ℕ) (bytes : List ℕ) → ¬ HasVersion f b p s m (Some bytes)
+
+-- some page has a value of the sector
+abbrev pub HasValue : Flash → ℕ → Type 0
+HasValue f s = (b p m : ℕ) × (bytes : List ℕ) × HasVersion f b p s m (Some bytes)
+
+-- the page has the newest version of a sector that some page has a value of. It has to be kept: without it that value would be read
+pub record HoldsNeeded (f : Flash) (s : ℕ) (value : Sector) (b p : ℕ) : Type 0 where
+  pub newest : HoldsNewest f s value b p
+  pub valued : HasValue f s
 
 -- what a mount reads of a sector: its newest version, or nothing where no page has a value of it
 abbrev pub RecoversSector : Flash → ℕ → Sector → Type 0

@@ -16,5 +16,6 @@ pub mod Next
 pub mod Choice
 pub mod Spare
 pub mod Losses
+pub mod Marks
 pub mod Candidates
 pub mod Mounting

@@ -4,7 +4,7 @@ use Rattle.std.specs.Prelude.{◌≡◌, ◌≢◌, ◌<◌, ◌≤◌, ◌+◌,
 use Rattle.std.specs.Prelude.{Some, slice_index_or, slice_set}
 use Rattle.geometry.specs.Sectors.{Sector}
 use Rattle.geometry.specs.declared.page_addr.PageAddr.{PageAddr}
-use Rattle.durable.specs.Flash.{PageContents, Erased, Torn, Version, Flash, HasVersion, HoldsNewest}
+use Rattle.durable.specs.Flash.{PageContents, Erased, Torn, Version, Flash, HasVersion, HoldsNewest, HoldsNeeded}
 use Rattle.durable.specs.declared.extent.Extent.{Extent}
 use Rattle.durable.specs.declared.found.Candidate.{Candidate}
 use Rattle.durable.specs.declared.found.Stamp.{Stamp}
@@ -35,9 +35,9 @@ gaps_before f b (suc p) = gaps_with (f b p) p (versions_before f b p) (gaps_befo
 abbrev pub IsGapless : Flash → ℕ → Type 0
 IsGapless f b = (p q : ℕ) (e : Extent) (m : ℕ) (v : Sector) → p < q → f b q ≡ Version e m v → version_count (f b p) ≡ 1
 
--- the newest version of each sector is in a block without a gap
+-- the newest version of each sector, if it is needed, is in a block without a gap
 abbrev pub HasNoLoss : Flash → ℕ → Type 0
-HasNoLoss f sectors = (s b p : ℕ) (v : Sector) → s < sectors → HoldsNewest f s v b p
+HasNoLoss f sectors = (s b p : ℕ) (v : Sector) → s < sectors → HoldsNeeded f s v b p
     → (d : ℕ) × (q : ℕ) × (w : Sector) × IsGapless f d × HoldsNewest f s w d q
 
 -- the gaps of each block, by what a mount has counted

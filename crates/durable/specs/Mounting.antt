@@ -1,11 +1,13 @@
 -- What a mount has found, up to a page.
-use Rattle.std.specs.Prelude.{◌≡◌, ◌≢◌, ◌⊎◌, ◌<◌, ◌≤◌, ◌+◌, ℕ, if◌then◌else◌, nat_lt, List, length, Option, None, Some, slice_index_or}
+use Rattle.std.specs.Prelude.{◌≡◌, ◌≢◌, ◌⊎◌, ◌<◌, ◌≤◌, ◌+◌, ℕ, Bool, true, false, if◌then◌else◌, nat_lt, List, length, Option, None, Some}
+use Rattle.std.specs.Prelude.{slice_index_or}
 use Rattle.geometry.specs.Sectors.{Sector}
 use Rattle.geometry.specs.declared.page_addr.PageAddr.{PageAddr}
 use Rattle.durable.specs.declared.extent.Extent.{Extent}
 use Rattle.durable.specs.declared.found.Stamp.{Stamp}
 use Rattle.durable.specs.declared.found.Candidate.{Candidate}
-use Rattle.durable.specs.Flash.{Version, Flash, HasVersion}
+use Rattle.durable.specs.Flash.{Version, Flash, HasVersion, is_trim}
+use Rattle.durable.specs.Marks.{is_valued}
 use Rattle.durable.specs.declared.mount.Mount.{Mount}
 
 -- this page, if it lies on a device with so many blocks
@@ -26,10 +28,10 @@ after_in mount =
 abbrev pub IsRead : ℕ → ℕ → ℕ → ℕ → ℕ → Type 0
 IsRead pages b p c q = (q < pages) × ((c < b) ⊎ ((c ≡ b) × (q < p)))
 
--- the page has a version with this stamp, or none
+-- the page has a version with this stamp, which tells whether it is a trim; or none
 abbrev pub IsStampOf : Flash → ℕ → ℕ → Option Stamp → Type 0
 IsStampOf f b p None = (e : Extent) (m : ℕ) (v : Sector) → f b p ≢ Version e m v
-IsStampOf f b p (Some stamp) = (v : Sector) × (f b p ≡ Version stamp.extent stamp.number v)
+IsStampOf f b p (Some stamp) = (v : Sector) × (f b p ≡ Version stamp.extent stamp.number v) × (stamp.is_trim ≡ is_trim v)
 
 -- the page that was found has the greatest number of the sector among those that were read
 abbrev pub IsBest : Flash → ℕ → ℕ → ℕ → ℕ → Option Candidate → Type 0
@@ -52,3 +54,12 @@ pub record Finds (f : Flash) (pages b p : ℕ) (found : List (Option Candidate))
   pub best : (s : ℕ) → s < length found → IsBest f pages b p s (slice_index_or found s None)
   pub numbers : (c q : ℕ) (e : Extent) (m : ℕ) (v : Sector) → IsRead pages b p c q → f c q ≡ Version e m v → m < next
   pub lone : (s : ℕ) → s < length found → IsLone f pages b p s (slice_index_or found s None)
+
+-- whether a page before page p of block b has a value of the sector
+abbrev pub TellsValue : Flash → ℕ → ℕ → ℕ → ℕ → Bool → Type 0
+TellsValue f pages b p s true = (c q m : ℕ) × (bytes : List ℕ) × IsRead pages b p c q × HasVersion f c q s m (Some bytes)
+TellsValue f pages b p s false = (c q m : ℕ) (bytes : List ℕ) → IsRead pages b p c q → ¬ HasVersion f c q s m (Some bytes)
+
+-- the same of each sector
+abbrev pub TellsValues : Flash → ℕ → ℕ → ℕ → ℕ → List ℕ → Type 0
+TellsValues f pages b p sectors valued = (s : ℕ) → s < sectors → TellsValue f pages b p s (is_valued valued s)

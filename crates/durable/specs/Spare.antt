@@ -1,18 +1,17 @@
 -- What a mount needs of the flash to have a free block.
-use Rattle.std.specs.Prelude.{◌≡◌, ◌≢◌, ◌⊎◌, ◌<◌, ℕ, List, length, Option, None, Some}
+use Rattle.std.specs.Prelude.{◌≢◌, ◌⊎◌, ◌<◌, ℕ, List, length, Option, None, Some}
 use Rattle.geometry.specs.Sectors.{Sector}
 use Rattle.geometry.specs.declared.page_addr.PageAddr.{PageAddr}
-use Rattle.durable.specs.Flash.{Flash, HasVersion, HoldsNewest}
+use Rattle.durable.specs.Flash.{Flash, HoldsNeeded, HoldsNewest}
 use Rattle.durable.specs.declared.memory.Core.{Core}
 use Rattle.durable.specs.Collecting.{IsFree}
-use Rattle.durable.specs.Memory.{map_entry}
 
--- each newest version in the block is in another block too
+-- each newest version in the block that is needed is in another block too
 abbrev pub IsDuplicated : Flash → ℕ → ℕ → Type 0
-IsDuplicated f sectors b = (s p : ℕ) (v : Sector) → s < sectors → HoldsNewest f s v b p
+IsDuplicated f sectors b = (s p : ℕ) (v : Sector) → s < sectors → HoldsNeeded f s v b p
     → (d : ℕ) × (q : ℕ) × (w : Sector) × (d ≢ b) × HoldsNewest f s w d q
 
--- a mount can free some block, since all of its newest versions are elsewhere too
+-- a mount can free some block, since all of its newest versions that are needed are elsewhere too
 abbrev pub CanFree : Flash → ℕ → ℕ → Type 0
 CanFree f blocks sectors = (b : ℕ) × (b < blocks) × IsDuplicated f sectors b
 
@@ -21,7 +20,6 @@ abbrev pub IsSparedAt : Flash → List (Option PageAddr) → ℕ → Option Page
 IsSparedAt f map blocks None = (b : ℕ) × (b < blocks) × IsFree map b
 IsSparedAt f map blocks (Some to) = ((b : ℕ) × (b < blocks) × (b ≢ to.block) × IsFree map b) ⊎ ((to.block < blocks) × IsDuplicated f (length map) to.block)
 
--- whatever a power cut leaves, a mount can free a block: the map misses no version, and a block is spared
-pub record LeavesSpare (f : Flash) (core : Core) : Type 0 where
-  pub known : (s d q m : ℕ) (v : Sector) → s < length core.map.items → map_entry core s ≡ None → ¬ HasVersion f d q s m v
-  pub spared : IsSparedAt f core.map.items core.blocks core.next_page
+-- whatever a power cut leaves, a mount can free a block
+abbrev pub LeavesSpare : Flash → Core → Type 0
+LeavesSpare f core = IsSparedAt f core.map.items core.blocks core.next_page

@@ -2,7 +2,7 @@
 use Rattle.std.specs.Prelude.{◌≡◌, ◌≢◌, ◌⊎◌, ◌<◌, ℕ, List, [], ◌∷◌, length, Option, None, Some}
 use Rattle.geometry.specs.Sectors.{Sector}
 use Rattle.geometry.specs.declared.page_addr.PageAddr.{PageAddr}
-use Rattle.durable.specs.Flash.{Flash, HoldsNewest, IsErased}
+use Rattle.durable.specs.Flash.{Flash, HoldsNeeded, HoldsNewest, IsErased}
 use Rattle.durable.specs.Updates.{Update}
 use Rattle.durable.specs.declared.extent.Extent.{Extent}
 use Rattle.durable.specs.Device.{Device, device_of, device_in, losses_of}
@@ -18,12 +18,12 @@ use Rattle.durable.specs.declared.command.Command.{Command}
 use Rattle.durable.specs.declared.memory.Core.{Core}
 use Rattle.durable.specs.declared.mount.Mount.{Mount}
 
--- each newest version in the block is in another block too, which has no gap
+-- each newest version in the block that is needed is in another block too, which has no gap
 abbrev pub IsSafelyDuplicated : Flash → ℕ → ℕ → Type 0
-IsSafelyDuplicated f sectors b = (s p : ℕ) (v : Sector) → s < sectors → HoldsNewest f s v b p
+IsSafelyDuplicated f sectors b = (s p : ℕ) (v : Sector) → s < sectors → HoldsNeeded f s v b p
     → (d : ℕ) × (q : ℕ) × (w : Sector) × (d ≢ b) × IsGapless f d × HoldsNewest f s w d q
 
--- no page of the flash was lost: each newest version is in a block without a gap, and a mount can free a block that needs no others
+-- no page of the flash was lost: each newest version that is needed is in a block without a gap, and a mount can free a block that needs no others
 pub record IsUnharmed (f : Flash) (device : Device) : Type 0 where
   pub no_loss : HasNoLoss f device.sectors
   pub spare : (b : ℕ) × (b < device.blocks) × IsSafelyDuplicated f device.sectors b

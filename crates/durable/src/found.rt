@@ -1,21 +1,26 @@
-ghost use Rattle.std.specs.Prelude.{◌≡◌, ◌≢◌, ◌<◌, ◌≤◌, ◌^◌, ℕ, [], length, replicate, slice_set, slice_index_or, None, Some, IfOk};
+ghost use Rattle.std.specs.Prelude.{◌≡◌, ◌≢◌, ◌<◌, ◌≤◌, ◌*◌, ◌^◌, ℕ, [], length, replicate, slice_set, slice_index_or, None, Some, IfOk};
 ghost use Rattle.geometry.specs.declared.page_addr.PageAddr.{PageAddr as Addr};
 ghost use Rattle.packed_map.specs.Entries.{IsPackable};
 ghost use Rattle.durable.specs.declared.found.Candidate.{Candidate as Seen};
 ghost use Rattle.durable.specs.Collecting.{IsFree};
-ghost use Rattle.durable.specs.Candidates.{outside_of, IsEntryOf, IsFreeable, IsPackableVersion};
+ghost use Rattle.durable.specs.Marks.{is_valued};
+ghost use Rattle.durable.specs.Candidates.{outside_of, valued_page, AreNeeded, IsEntryOf, IsFreeable, IsPackableVersion};
 
 use crate::extent::Extent;
+use crate::marks::has_mark;
 use geometry::PageAddr;
 use packed_map::{PackedMap, SparseNumbers};
 use std::alloc::{AllocError, Global};
 use std::marker::Model;
 
-/// What the spare bytes of a page say: of which sectors its version is, and its number.
+/// What the spare bytes of a page say: of which sectors its version is, its number, and whether it is a trim. A mount keeps no trim of sectors that no
+/// page has a value of. That asks that each page reads the same at each mount. A driver whose half-erased pages may not calls no version a trim:
+/// a trim is a value to the layer then, and keeps its page.
 #[derive(Clone, Copy, Debug, PartialEq, Eq)]
 pub struct Stamp {
     pub extent: Extent,
     pub number: u64,
+    pub is_trim: bool,
 }
 
 /// The page with the newest version of a sector so far, its number, and the last page with the same version, if there is another.
@@ -95,6 +100,14 @@ impl Found {
         self.twins.set(sector, version.twin);
     }
 
+    /// Forgets what was found of sectors without a value.
+    pub fn forget_trims(&mut self, valued: &[u64])
+        requires { length self.old.items ≤ length valued.now * 64 }
+        ensures { AreNeeded valued.now self.old.items self.new.items }
+    {
+        keep_valued(&mut self.pages, valued);
+    }
+
     /// The map of the sectors, with as little as can be in a block. It takes the place of the pages that were found.
     pub fn into_map(self, avoided: u32) -> PackedMap
         ensures size { length result.items ≡ length self.items }
@@ -108,6 +121,21 @@ impl Found {
         let mut map = self.pages;
         move_out(&mut map, &self.twins, avoided);
         map
+    }
+}
+
+// Leaves no page to sectors without a value.
+fn keep_valued(map: &mut PackedMap, valued: &[u64])
+    requires { length map.old.items ≤ length valued.now * 64 }
+    ensures size { length map.new.items ≡ length map.old.items }
+    ensures entries { (s : ℕ) → s < length map.old.items
+        → slice_index_or map.new.items s None
+        ≡ valued_page (is_valued valued.now s) (slice_index_or map.old.items s None) }
+{
+    for s in 0..map.len() {
+        if !has_mark(valued, s) {
+            map.set(s, None);
+        }
     }
 }
 

@@ -2,8 +2,10 @@
 ghost use Rattle.std.specs.Prelude.{◌≡◌, ◌≢◌, ◌⊎◌, ◌<◌, ◌+◌, ◌-◌, ◌^◌, ℕ, List, [], ◌∷◌, Option, None, Some, true, false, length, codes, slice_index_or};
 ghost use Rattle.geometry.specs.Sectors.{Sector};
 ghost use Rattle.geometry.specs.declared.page_addr.PageAddr.{PageAddr as Addr};
-ghost use Rattle.durable.specs.Candidates.{IsEntryOf, IsFoundWith, IsFreeable, IsPackableVersion, candidates_of, number_above, with_twin};
-ghost use Rattle.durable.specs.Calls.{Acknowledges, HasNoted, IsSafe, Remounts, SurvivesCut, SurvivesIdleCut, TellsLosses, TellsNoFalseLoss};
+ghost use Rattle.durable.specs.Candidates.{AreNeeded, IsEntryOf, IsFoundWith, IsFreeable, IsPackableVersion, candidates_of, needed_of};
+ghost use Rattle.durable.specs.Candidates.{number_above, valued_page, with_twin};
+ghost use Rattle.durable.specs.Calls.{Acknowledges, CountsLosses, DropsTrims, HasNoted, IsSafe, Remounts, SurvivesCut, SurvivesIdleCut};
+ghost use Rattle.durable.specs.Calls.{TellsLosses, TellsNoFalseLoss};
 ghost use Rattle.durable.specs.Choice.{IsNext, Spends, StaysOpen, left, number_after};
 ghost use Rattle.durable.specs.declared.found.Candidate.{Candidate as Seen};
 ghost use Rattle.durable.specs.Collecting.{AreLiveCounts, CanCollect, HasCapacity, IsFree, IsPageOn, MapsAll, live_in};
@@ -11,10 +13,13 @@ ghost use Rattle.durable.specs.Commands.{Completes, CutLeaves, IsAllowed, is_pro
 ghost use Rattle.durable.specs.Device.{Device, IsReadOn, IsWrittenOn, NamesOn, device_in, device_of, losses_of, next_number_of, next_page_of};
 ghost use Rattle.durable.specs.Failures.{Changes, HasVersionlessBlock, HoldsNoVersion, IsRenumbered, IsSameFlashOf, IsSwapped, swapped};
 ghost use Rattle.durable.specs.Faults.{mount_fault_text};
-ghost use Rattle.durable.specs.Flash.{Erased, Flash, HasVersion, HoldsNewest, IsErased, RecoversSector, SetsPage, Torn, Version};
+ghost use Rattle.durable.specs.Flash.{Erased, Flash, HasValue, HasVersion, HoldsNeeded, HoldsNewest, HoldsNoValue, IsErased, RecoversSector};
+ghost use Rattle.durable.specs.Flash.{SetsPage, Torn, Version, is_trim};
 ghost use Rattle.durable.specs.Losses.{HasNoLoss, IsGapless, gaps_before, gaps_noted, losses_in, versions_before, versions_noted};
+ghost use Rattle.durable.specs.Marks.{IsMarkedWith, is_valued};
 ghost use Rattle.durable.specs.Memory.{IsMappedTo, map_entry};
-ghost use Rattle.durable.specs.Mounting.{IsStampOf, next_in, after_in};
+ghost use Rattle.durable.specs.Mounting.{IsStampOf, TellsValue, TellsValues, next_in, after_in};
+ghost use Rattle.durable.specs.Spare.{IsDuplicated};
 ghost use Rattle.durable.specs.Promise.{IsConsistent, IsReadable, IsRecoverable, KeepsAcknowledged};
 ghost use Rattle.durable.specs.Runs.{Completed, CutBetween, CutInside, Event, Failed, IsMountedFrom, Runs, RunsOnReserve};
 ghost use Rattle.durable.specs.Whole.{CutsIdleUnharmed, CutsUnharmed, IsMountedWhole, IsSafelyDuplicated, IsUnharmed, KeepsWhole, RunsWhole, StaysWhole};
@@ -104,6 +109,13 @@ pub fn versions_of_a_sector()
     ensures none { (f : Flash) (bytes : List ℕ) → IsErased f → ¬ RecoversSector f 7 (Some bytes) }
     ensures lost { (f : Flash) (bytes : List ℕ)
         → HoldsNewest f 7 (Some bytes) 0 0 → ¬ RecoversSector f 7 None }
+    ensures valued { (f : Flash) (bytes : List ℕ)
+        → f 2 3 ≡ Version (sole 7) 1 (Some bytes) → HasValue f 7 }
+    ensures valueless { (f : Flash) → HoldsNoValue f 7 → ¬ HasValue f 7 }
+    ensures needed { (f : Flash) (bytes : List ℕ) → f 2 3 ≡ Version (sole 7) 1 (Some bytes)
+        → HoldsNewest f 7 None 0 0 → HoldsNeeded f 7 None 0 0 }
+    ensures unneeded { (f : Flash) (v : Sector) → HoldsNoValue f 7 → ¬ HoldsNeeded f 7 v 0 0 }
+    ensures not_newest { (f : Flash) (v : Sector) → HoldsNeeded f 7 v 0 0 → HoldsNewest f 7 v 0 0 }
 {}
 
 /// What commands leave, and a power cut inside them.
@@ -272,14 +284,20 @@ pub fn stamps()
     ensures torn { (f : Flash) → f 1 2 ≡ Torn → IsStampOf f 1 2 None }
     ensures version { (f : Flash) (v : Sector)
         → f 1 2 ≡ Version (sole 7) 5 v → ¬ IsStampOf f 1 2 None }
-    ensures stamp { (f : Flash) (v : Sector) → f 1 2 ≡ Version (sole 7) 5 v
-        → IsStampOf f 1 2 (Some (record { extent = sole 7; number = 5 })) }
+    ensures stamp { (f : Flash) (bytes : List ℕ) → f 1 2 ≡ Version (sole 7) 5 (Some bytes)
+        → IsStampOf f 1 2 (Some (record { extent = sole 7; number = 5; is_trim = false })) }
+    ensures trim { (f : Flash) → f 1 2 ≡ Version (sole 7) 5 None
+        → IsStampOf f 1 2 (Some (record { extent = sole 7; number = 5; is_trim = true })) }
+    ensures no_trim { (f : Flash) (bytes : List ℕ) → f 1 2 ≡ Version (sole 7) 5 (Some bytes)
+        → ¬ IsStampOf f 1 2 (Some (record { extent = sole 7; number = 5; is_trim = true })) }
+    ensures no_value { (f : Flash) → f 1 2 ≡ Version (sole 7) 5 None
+        → ¬ IsStampOf f 1 2 (Some (record { extent = sole 7; number = 5; is_trim = false })) }
     ensures other { (f : Flash) (v : Sector) → f 1 2 ≡ Version (sole 7) 5 v
-        → ¬ IsStampOf f 1 2 (Some (record { extent = sole 8; number = 5 })) }
+        → ¬ IsStampOf f 1 2 (Some (record { extent = sole 8; number = 5; is_trim = false })) }
     ensures number { (f : Flash) (v : Sector) → f 1 2 ≡ Version (sole 7) 5 v
-        → ¬ IsStampOf f 1 2 (Some (record { extent = sole 7; number = 6 })) }
+        → ¬ IsStampOf f 1 2 (Some (record { extent = sole 7; number = 6; is_trim = false })) }
     ensures not_torn { (f : Flash) → f 1 2 ≡ Torn
-        → ¬ IsStampOf f 1 2 (Some (record { extent = sole 7; number = 5 })) }
+        → ¬ IsStampOf f 1 2 (Some (record { extent = sole 7; number = 5; is_trim = false })) }
     ensures here { (mount : Reading) → mount.read_blocks ≡ 3 → mount.block ≡ 2
         → mount.page ≡ 1 → next_in mount ≡ Some (record { block = 2; page = 1 }) }
     ensures end { (mount : Reading) → mount.read_blocks ≡ 3
@@ -292,9 +310,55 @@ pub fn stamps()
         → after_in mount ≡ Some (record { block = 2; page = 0 }) }
     ensures last { (mount : Reading) → mount.read_blocks ≡ 3 → mount.pages ≡ 4
         → mount.block ≡ 2 → mount.page ≡ 3 → after_in mount ≡ None }
-    ensures above { number_above 5 (Some (record { extent = sole 7; number = 5 })) ≡ 6 }
-    ensures below { number_above 9 (Some (record { extent = sole 7; number = 5 })) ≡ 9 }
+    ensures above { number_above 5 (Some (record { extent = sole 7; number = 5; is_trim = false }))
+        ≡ 6 }
+    ensures below { number_above 9 (Some (record { extent = sole 7; number = 5; is_trim = false }))
+        ≡ 9 }
     ensures no_stamp { number_above 5 None ≡ 5 }
+{}
+
+/// Which sectors have values, by the pages that were read.
+#[tactic(auto, unfolding(crate::specs::Marks::is_valued))]
+pub fn values()
+    ensures trim { is_trim None ≡ true }
+    ensures bytes { (bytes : List ℕ) → is_trim (Some bytes) ≡ false }
+    ensures read { (f : Flash) (bytes : List ℕ)
+        → f 1 0 ≡ Version (sole 7) 5 (Some bytes) → TellsValue f 4 1 1 7 true }
+    ensures not_read { (f : Flash) (bytes : List ℕ)
+        → f 1 0 ≡ Version (sole 7) 5 (Some bytes) → ¬ TellsValue f 4 1 1 7 false }
+    ensures erased { (f : Flash) → IsErased f → TellsValue f 4 1 1 7 false }
+    ensures no_value { (f : Flash) → HoldsNoValue f 7 → ¬ TellsValue f 4 1 1 7 true }
+    ensures unread { (f : Flash) → ¬ TellsValue f 4 0 0 7 true }
+    ensures each { (f : Flash) (bytes : List ℕ)
+        → f 1 0 ≡ Version (sole 1) 5 (Some bytes) → ¬ TellsValues f 4 1 1 2 (1 ∷ []) }
+    ensures bit { (is_valued (0 ∷ 2 ∷ []) 65 ≡ true)
+        × (is_valued (0 ∷ 2 ∷ []) 64 ≡ false) × (is_valued (0 ∷ 2 ∷ []) 1 ≡ false) }
+    ensures marked { (old new : List ℕ)
+        → IsMarkedWith old new (Some (record { extent = sole 1; number = 5; is_trim = false }))
+        → is_valued new 1 ≡ true }
+    ensures not_marked { (old new : List ℕ)
+        → IsMarkedWith old new (Some (record { extent = sole 1; number = 5; is_trim = false }))
+        → is_valued new 2 ≡ is_valued old 2 }
+    ensures unmarked { (new : List ℕ)
+        → IsMarkedWith (2 ∷ []) new (Some (record { extent = sole 0; number = 5; is_trim = true }))
+        → new ≡ 2 ∷ [] }
+    ensures no_stamp { (new : List ℕ) → IsMarkedWith (2 ∷ []) new None → new ≡ 2 ∷ [] }
+    ensures needed { needed_of true
+        (Some (record { at = record { block = 1; page = 0 }; number = 5; twin = None }))
+        ≡ Some (record { at = record { block = 1; page = 0 }; number = 5; twin = None }) }
+    ensures dropped { needed_of false
+        (Some (record { at = record { block = 1; page = 0 }; number = 5; twin = None })) ≡ None }
+    ensures page { valued_page true (Some (record { block = 1; page = 0 }))
+        ≡ Some (record { block = 1; page = 0 }) }
+    ensures no_page { valued_page false (Some (record { block = 1; page = 0 })) ≡ None }
+    ensures kept { (x y : Option Seen) (kept : List (Option Seen))
+        → AreNeeded (1 ∷ []) (x ∷ y ∷ []) kept → kept ≡ x ∷ None ∷ [] }
+    ensures noted { (f : Flash) (mount : Reading) → HasNoted f mount
+        → TellsValues f mount.pages mount.block mount.page
+        (length mount.found.items) mount.valued.items }
+    ensures drops { (f : Flash) (mount : Reading) (core : Layer)
+        → DropsTrims mount core → HasNoted f mount → 7 < (device_in mount).sectors
+        → HoldsNoValue f 7 → map_entry core 7 ≡ None }
 {}
 
 /// What was found of sectors, by tables of their pages, numbers and twins, and which pages have places there.
@@ -309,7 +373,8 @@ pub fn tables_of_candidates()
     ensures nothing { IsPackableVersion None }
     ensures small { IsPackableVersion
         (Some (record { at = record { block = 1; page = 0 }; number = 5; twin = None })) }
-    ensures last { ¬ IsPackableVersion (Some (record { at = record { block = 4294967295; page = 4294967295 }; number = 5; twin = None })) }
+    ensures last { ¬ IsPackableVersion
+        (Some (record { at = record { block = 4294967295; page = 4294967295 }; number = 5; twin = None })) }
     ensures last_twin { ¬ IsPackableVersion (Some (record {
       at = record { block = 1; page = 0 };
       number = 5;
@@ -331,33 +396,35 @@ pub fn candidates()
     ensures newer { (new : List (Option Seen))
         → IsFoundWith []
         (None ∷ Some (record { at = record { block = 1; page = 0 }; number = 5; twin = None }) ∷ [])
-        new (record { block = 2; page = 3 }) (Some (record { extent = record { first = 0; count = 2 }; number = 6 }))
+        new (record { block = 2; page = 3 }) (Some (record { extent = record { first = 0; count = 2 }; number = 6; is_trim = false }))
         → new ≡ Some (record { at = record { block = 2; page = 3 }; number = 6; twin = None })
         ∷ Some (record { at = record { block = 2; page = 3 }; number = 6; twin = None }) ∷ [] }
     ensures older { (new : List (Option Seen))
         → IsFoundWith []
         (Some (record { at = record { block = 1; page = 0 }; number = 5; twin = None }) ∷ [])
-        new (record { block = 2; page = 3 }) (Some (record { extent = sole 0; number = 4 }))
+        new (record { block = 2; page = 3 }) (Some (record { extent = sole 0; number = 4; is_trim = false }))
         → new ≡ Some (record { at = record { block = 1; page = 0 }; number = 5; twin = None }) ∷ [] }
     ensures twin { (new : List (Option Seen))
         → IsFoundWith []
         (Some (record { at = record { block = 1; page = 0 }; number = 5; twin = None }) ∷ [])
-        new (record { block = 2; page = 3 }) (Some (record { extent = sole 0; number = 5 }))
+        new (record { block = 2; page = 3 }) (Some (record { extent = sole 0; number = 5; is_trim = false }))
         → new ≡ Some (record { at = record { block = 1; page = 0 }; number = 5; twin = Some (record { block = 2; page = 3 }) }) ∷ [] }
     ensures gap { (new : List (Option Seen)) → IsFoundWith (0 ∷ 1 ∷ [])
         (Some (record { at = record { block = 1; page = 0 }; number = 5; twin = None }) ∷ []) new
-        (record { block = 2; page = 3 }) (Some (record { extent = sole 0; number = 5 }))
+        (record { block = 2; page = 3 }) (Some (record { extent = sole 0; number = 5; is_trim = false }))
         → new ≡ Some (record { at = record { block = 2; page = 3 }; number = 5; twin = Some (record { block = 1; page = 0 }) }) ∷ [] }
     ensures beside { (new : List (Option Seen))
         → IsFoundWith [] (None ∷ None ∷ []) new (record { block = 2; page = 3 })
-        (Some (record { extent = sole 0; number = 5 }))
+        (Some (record { extent = sole 0; number = 5; is_trim = false }))
         → new ≡ Some (record { at = record { block = 2; page = 3 }; number = 5; twin = None }) ∷ None ∷ [] }
     ensures unread { (old new : List (Option Seen))
         → IsFoundWith [] old new (record { block = 2; page = 3 }) None → new ≡ old }
-    ensures third { with_twin (0 ∷ 0 ∷ 1 ∷ []) (record { at = record { block = 1; page = 0 }; number = 5; twin = Some (record { block = 2; page = 3 }) })
+    ensures third { with_twin (0 ∷ 0 ∷ 1 ∷ [])
+        (record { at = record { block = 1; page = 0 }; number = 5; twin = Some (record { block = 2; page = 3 }) })
         (record { block = 4; page = 0 })
         ≡ record { at = record { block = 1; page = 0 }; number = 5; twin = Some (record { block = 4; page = 0 }) } }
-    ensures second { with_twin (0 ∷ 0 ∷ 0 ∷ []) (record { at = record { block = 1; page = 0 }; number = 5; twin = Some (record { block = 2; page = 3 }) })
+    ensures second { with_twin (0 ∷ 0 ∷ 0 ∷ [])
+        (record { at = record { block = 1; page = 0 }; number = 5; twin = Some (record { block = 2; page = 3 }) })
         (record { block = 4; page = 0 })
         ≡ record { at = record { block = 1; page = 0 }; number = 5; twin = Some (record { block = 2; page = 3 }) } }
     ensures within { with_twin []
@@ -369,7 +436,8 @@ pub fn candidates()
         (Some (record { at = record { block = 1; page = 0 }; number = 5; twin = None }) ∷ []) 1 }
     ensures elsewhere { IsFreeable []
         (Some (record { at = record { block = 1; page = 0 }; number = 5; twin = None }) ∷ []) 2 }
-    ensures same_block { ¬ IsFreeable [] (Some (record { at = record { block = 1; page = 0 }; number = 5; twin = Some (record { block = 1; page = 2 }) }) ∷ [])
+    ensures same_block { ¬ IsFreeable []
+        (Some (record { at = record { block = 1; page = 0 }; number = 5; twin = Some (record { block = 1; page = 2 }) }) ∷ [])
         1 }
     ensures behind_gap { ¬ IsFreeable (0 ∷ 0 ∷ 1 ∷ [])
         (Some (record { at = record { block = 1; page = 0 }; number = 5; twin = Some (record { block = 2; page = 2 }) }) ∷ []) 1 }
@@ -389,22 +457,29 @@ pub fn losses()
         → f 1 0 ≡ Version (sole 7) 5 v → f 1 1 ≡ Torn → gaps_before f 1 2 ≡ 0 }
     ensures versions { (f : Flash) (v : Sector) → f 1 0 ≡ Torn
         → f 1 1 ≡ Version (sole 7) 5 v → versions_before f 1 2 ≡ 1 }
-    ensures noted { gaps_noted (0 ∷ 0 ∷ []) 1 3 1 (Some (record { extent = sole 7; number = 5 }))
-        ≡ 0 ∷ 2 ∷ [] }
+    ensures noted { gaps_noted (0 ∷ 0 ∷ []) 1 3 1
+        (Some (record { extent = sole 7; number = 5; is_trim = false })) ≡ 0 ∷ 2 ∷ [] }
     ensures not_noted { gaps_noted (0 ∷ 4 ∷ []) 1 3 1 None ≡ 0 ∷ 4 ∷ [] }
-    ensures one_more { versions_noted 1 (Some (record { extent = sole 7; number = 5 })) ≡ 2 }
+    ensures one_more { versions_noted 1
+        (Some (record { extent = sole 7; number = 5; is_trim = false })) ≡ 2 }
     ensures as_many { versions_noted 1 None ≡ 1 }
     ensures new { (f : Flash) → IsErased f → HasNoLoss f 8 }
     ensures lost { (f : Flash) (v : Sector) → f 1 0 ≡ Torn
-        → HoldsNewest f 7 v 1 1 → ((d q : ℕ) → HoldsNewest f 7 v d q → d ≡ 1)
+        → HoldsNeeded f 7 v 1 1 → ((d q : ℕ) → HoldsNewest f 7 v d q → d ≡ 1)
         → ((d q : ℕ) (w : Sector) → HoldsNewest f 7 w d q → w ≡ v) → ¬ HasNoLoss f 8 }
+    ensures trims { (f : Flash) → ((s : ℕ) → HoldsNoValue f s)
+        → HasNoLoss f 8 × IsDuplicated f 8 1 × IsSafelyDuplicated f 8 1 }
     ensures elsewhere { (f : Flash) (s : ℕ) (v : Sector)
-        → HasNoLoss f 8 → s < 8 → HoldsNewest f s v 1 1
+        → HasNoLoss f 8 → s < 8 → HoldsNeeded f s v 1 1
         → (d : ℕ) × (q : ℕ) × (w : Sector) × IsGapless f d × HoldsNewest f s w d q }
     ensures in_use { losses_in
         (Some (record { at = record { block = 1; page = 1 }; number = 5; twin = None }) ∷ [])
         (3 ∷ 2 ∷ []) 2 ≡ 2 }
     ensures unused { losses_in (None ∷ []) (3 ∷ 2 ∷ []) 2 ≡ 0 }
+    ensures kept { (mount : Reading) (core : Layer)
+        → CountsLosses mount core → (kept : List (Option Seen))
+        × AreNeeded mount.valued.items mount.found.items kept
+        × (losses_of core ≡ losses_in kept mount.gaps.items mount.read_blocks) }
     ensures tells { (mount : Reading) (core : Layer) (f : Flash)
         → TellsLosses mount core → HasNoted f mount → IsWrittenOn (device_in mount) f
         → ¬ HasNoLoss f (device_in mount).sectors → core.losses ≢ 0 }
@@ -420,7 +495,7 @@ pub fn unharmed()
         → (b : ℕ) × (b < device.blocks) × IsSafelyDuplicated f device.sectors b }
     ensures no_loss { (f : Flash) (device : Device)
         → IsUnharmed f device → HasNoLoss f device.sectors }
-    ensures alone { (f : Flash) (v : Sector) → HoldsNewest f 7 v 1 1
+    ensures alone { (f : Flash) (v : Sector) → HoldsNeeded f 7 v 1 1
         → ((d q : ℕ) (w : Sector) → HoldsNewest f 7 w d q → d ≡ 1)
         → ¬ IsSafelyDuplicated f 8 1 }
     ensures mapped { (f : Flash) (layer : Layer) → KeepsWhole f layer

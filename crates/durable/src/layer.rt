@@ -34,7 +34,7 @@ impl Core {
         self.losses
     }
 
-    /// The page with the sector's value, or with its trim; none for a sector that was never written.
+    /// The page with the sector's value, or with its trim if that is needed; none where no page has a value of it.
     pub fn page(&self, sector: u32) -> Option<PageAddr>
         requires { sector < (device_of self.now).sectors }
         ensures { (f : Flash) (acked begun : List Update) (consistent : IsConsistent f self.now acked begun)

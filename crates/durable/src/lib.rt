@@ -11,6 +11,7 @@ mod found;
 mod gaps;
 mod laws;
 mod layer;
+mod marks;
 mod memory;
 mod mount;
 mod mounting;

@@ -1,4 +1,4 @@
-ghost use Rattle.std.specs.Prelude.{◌≡◌, ◌<◌, ◌≤◌, ◌^◌, length};
+ghost use Rattle.std.specs.Prelude.{◌≡◌, ◌<◌, ◌≤◌, ◌*◌, ◌^◌, length};
 ghost use Rattle.durable.specs.Collecting.{HasCapacity};
 
 use crate::found::Found;
@@ -13,6 +13,8 @@ pub struct Mount {
     pub(crate) pages: u32,
     pub(crate) found: Found,
     pub(crate) next_number: u64,
+    // The sectors that a page has a value of are marked.
+    pub(crate) valued: Vec<u64>,
     // How many gaps each block has that is read.
     pub(crate) gaps: Vec<u32>,
     // The page whose stamp comes next, and how many pages before it in its block have versions.
@@ -24,6 +26,7 @@ pub struct Mount {
     pub ghost page_within: { page < pages },
     pub ghost block_within: { block ≤ read_blocks },
     pub ghost all_read: { blocks ≤ read_blocks },
+    pub ghost valued_sized: { length found.items ≤ length valued.items * 64 },
     pub ghost gaps_sized: { length gaps.items ≡ read_blocks },
     pub ghost versions_within: { versions ≤ page },
 }

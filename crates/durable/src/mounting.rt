@@ -7,6 +7,7 @@ use crate::counting::counts_of;
 use crate::fault::MountFault;
 use crate::found::{Found, Stamp};
 use crate::gaps::{count_gaps, losses};
+use crate::marks::mark_values;
 use crate::memory::Core;
 use crate::mount::Mount;
 use crate::owners::Owners;
@@ -16,12 +17,11 @@ use std::alloc::Global;
 impl Mount {
     ghost use Rattle.durable.specs.Updates.{Update};
     ghost use Rattle.durable.specs.Device.{device_of, device_in, losses_of, IsWrittenOn};
-    ghost use Rattle.durable.specs.Losses.{losses_in};
     ghost use Rattle.durable.specs.Whole.{MountsWhole};
     ghost use Rattle.durable.specs.Collecting.{HasCapacity};
     ghost use Rattle.durable.specs.Mounting.{IsStampOf, next_in, after_in};
     ghost use Rattle.durable.specs.Promise.{IsRecoverable};
-    ghost use Rattle.durable.specs.Calls.{HasNoted, Remounts, TellsLosses, TellsNoFalseLoss};
+    ghost use Rattle.durable.specs.Calls.{CountsLosses, DropsTrims, HasNoted, Remounts, TellsLosses, TellsNoFalseLoss};
     ghost use Rattle.durable.specs.declared.fault.MountFault.TheVariants.{TooManySectors, ForeignStamp, NoFreeBlock, OutOfMemory};
 
     /// A mount that has noted nothing, of a device whose blocks are all in use.
@@ -48,7 +48,9 @@ impl Mount {
         sectors: u32,
     ) -> Result<Mount, MountFault>
         requires { blocks ≤ read_blocks }
-        ensures device { IfOk result (λ mount. device_in mount ≡ record { blocks = blocks; read_blocks = read_blocks; pages = pages; sectors = sectors }) }
+        ensures device { IfOk result
+            (λ mount. device_in mount
+            ≡ record { blocks = blocks; read_blocks = read_blocks; pages = pages; sectors = sectors }) }
         ensures first { IfOk result
             (λ mount. next_in mount ≡ Some (record { block = 0; page = 0 })) }
         ensures notes { IfOk result (λ mount. (f : Flash) → HasNoted f mount) }
@@ -62,6 +64,9 @@ impl Mount {
         let Ok(found) = Found::new(alloc, sectors) else {
             return Err(MountFault::OutOfMemory);
         };
+        let Ok(valued) = vec![in alloc; 0; sectors as usize / 64 + 1] else {
+            return Err(MountFault::OutOfMemory);
+        };
         let Ok(gaps) = vec![in alloc; 0; read_blocks as usize] else {
             return Err(MountFault::OutOfMemory);
         };
@@ -71,6 +76,7 @@ impl Mount {
             pages,
             found,
             next_number: 0,
+            valued,
             gaps,
             block: 0,
             page: 0,
@@ -116,6 +122,7 @@ impl Mount {
             at,
             stamp,
         );
+        mark_values(&mut self.valued, stamp);
         count_gaps(&mut self.gaps, &mut self.versions, at, stamp);
         if self.page + 1 < self.pages {
             self.page += 1;
@@ -132,10 +139,10 @@ impl Mount {
         requires { next_in self ≡ None }
         ensures device { IfOk result (λ core. device_of core ≡ device_in self) }
         ensures remounts { IfOk result (Remounts self) }
+        ensures drops { IfOk result (DropsTrims self) }
 
-        // The losses are the gaps in blocks that have a newest version which no block without a gap has.
-        ensures losses { IfOk result
-            (λ core. losses_of core ≡ losses_in self.found.items self.gaps.items self.read_blocks) }
+        // The losses are the gaps in blocks that have a needed newest version which no block without a gap has.
+        ensures losses { IfOk result (CountsLosses self) }
         ensures tells { IfOk result (TellsLosses self) }
         ensures quiet { IfOk result (TellsNoFalseLoss self) }
         ensures whole { IfOk result (MountsWhole self) }
@@ -143,14 +150,16 @@ impl Mount {
             → IsRecoverable f (device_in self) acked begun → result ≢ Err NoFreeBlock }
         ensures cause { OnErr result ((result ≡ Err NoFreeBlock) ⊎ (result ≡ Err OutOfMemory)) }
     {
-        let Ok(avoided) = freeable(alloc, &self.found, &self.gaps, self.blocks) else {
+        let mut found = self.found;
+        found.forget_trims(&self.valued);
+        let Ok(avoided) = freeable(alloc, &found, &self.gaps, self.blocks) else {
             return Err(MountFault::OutOfMemory);
         };
         if avoided >= self.blocks {
             return Err(MountFault::NoFreeBlock);
         }
-        let losses = losses(&self.found, &self.gaps);
-        let map = self.found.into_map(avoided);
+        let losses = losses(&found, &self.gaps);
+        let map = found.into_map(avoided);
         let Ok(counts) = counts_of(alloc, &map, self.blocks, self.pages) else {
             return Err(MountFault::OutOfMemory);
         };

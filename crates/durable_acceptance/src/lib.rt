@@ -12,3 +12,5 @@ mod random;
 mod rows;
 #[cfg(test)]
 mod several;
+#[cfg(test)]
+mod trims;

@@ -9,8 +9,8 @@ use Rattle.durable.specs.Memory.{IsMappedTo}
 use Rattle.durable.specs.Mounting.{IsStampOf, next_in, after_in}
 use Rattle.durable.specs.Choice.{IsNext, Spends, StaysOpen, left, number_after}
 use Rattle.durable.specs.Promise.{IsRecoverable, IsConsistent}
-use Rattle.durable.specs.Calls.{IsSafe, SurvivesCut, SurvivesIdleCut, Acknowledges, HasNoted, Remounts, TellsLosses, TellsNoFalseLoss}
-use Rattle.durable.specs.Losses.{losses_in}
+use Rattle.durable.specs.Calls.{IsSafe, SurvivesCut, SurvivesIdleCut, Acknowledges, CountsLosses, DropsTrims, HasNoted, Remounts}
+use Rattle.durable.specs.Calls.{TellsLosses, TellsNoFalseLoss}
 use Rattle.durable.specs.Whole.{CutsIdleUnharmed, CutsUnharmed, MountsWhole, StaysWhole}
 use Rattle.durable.specs.declared.command.Command.{Command}
 use Rattle.durable.specs.declared.command.Command.TheVariants.{Refused}
@@ -103,7 +103,7 @@ FreesBlock code m = (f : Flash) (acked begun : List Update) → HasNoted f m →
 abbrev pub IsMounted : Mount → Layer → Type 0
 IsMounted m l =
     (layer_device l ≡ device_in m) × Remounts m l.core × (l.totals ≡ no_totals)
-    × (layer_losses l ≡ losses_in m.found.items m.gaps.items m.read_blocks) × TellsLosses m l.core × TellsNoFalseLoss m l.core
+    × CountsLosses m l.core × DropsTrims m l.core × TellsLosses m l.core × TellsNoFalseLoss m l.core
     × MountsWhole m l.core
 
 -- the code of a call for a sector of a layer
@@ -137,6 +137,6 @@ IsDone e did l after =
     × StaysOpen command (layer_device l).pages (next_page_of after.core)
     × (after.totals ≡ totals_with command l.totals)
 
--- the stamp that a note passes, if the page has a version
+-- the stamp that a note passes: none with 0, that of a version with 1, and with 2 that of a trim
 abbrev pub stamp_of : ℕ → Extent → ℕ → Option Stamp
-stamp_of has_version e n = if has_version == 0 then None else Some (record { extent = e; number = n })
+stamp_of has_version e n = if has_version == 0 then None else Some (record { extent = e; number = n; is_trim = has_version == 2 })

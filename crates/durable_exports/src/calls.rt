@@ -1,5 +1,5 @@
 //! The calls of C. Each but the close takes the seat out of its handle, and puts it back.
-ghost use Rattle.std.specs.Prelude.{◌≡◌, ◌≢◌, ◌<◌, ◌≤◌, ◌+◌, ◌-◌, ◌*◌, ◌^◌, ◌&&◌, Some, None, nat_eq, nat_le, nat_lt, if◌then◌else◌, ◌==◌};
+ghost use Rattle.std.specs.Prelude.{◌≡◌, ◌≢◌, ◌<◌, ◌≤◌, ◌+◌, ◌-◌, ◌*◌, ◌^◌, ◌&&◌, true, Some, None, nat_eq, nat_le, nat_lt, if◌then◌else◌, ◌==◌};
 ghost use Rattle.durable.specs.Device.{next_number_of};
 ghost use Rattle.durable.specs.Mounting.{next_in};
 ghost use Rattle.durable_exports.specs.Handles.{seat_of};
@@ -104,7 +104,8 @@ fn has_capacity(blocks: u32, pages: u32, sectors: u32) -> bool
     blocks > 0 && u64::from(sectors) < u64::from(blocks - 1) * u64::from(pages)
 }
 
-/// Notes the stamp of the next page: its sectors, from the first one on, and its number if the page has a version, and otherwise nothing.
+/// Notes the stamp of the next page: nothing with 0; with 1 and 2 its sectors, from the first one on, and its number. 2 tells that it is a trim, which
+/// keeps no page where no page has a value of its sectors. Another number is refused.
 #[unsafe(no_mangle)]
 pub extern "C" fn mintlintel_core_note(
     alloc: Global,
@@ -116,7 +117,9 @@ pub extern "C" fn mintlintel_core_note(
 ) -> u32
     ensures code { result ≡ code_of_mount (seat_of handle.old)
         (λ m. note_code (next_in m) (nat_eq result 30)) }
-    ensures accepts { OfMount (seat_of handle.old)
+    ensures kinds { 2 < has_version → result ≢ 0 }
+    ensures accepts { has_version ≤ 2
+        → OfMount (seat_of handle.old)
         (Accepts (stamp_of has_version (record { first = first; count = count }) number) result) }
     ensures noted { result ≡ 0 → OfMount (seat_of handle.old)
         (λ m. HasMount (seat_of handle.new) (IsNoted (stamp_of has_version (record { first = first; count = count }) number) m)) }
@@ -126,14 +129,34 @@ pub extern "C" fn mintlintel_core_note(
         return CLOSED;
     };
     let extent = Extent { first, count };
+    let is_trim = has_version == 2;
     let stamp = if has_version == 0 {
         None
     } else {
-        Some(Stamp { extent, number })
+        Some(Stamp {
+            extent,
+            number,
+            is_trim,
+        })
     };
-    let code = note(&mut seat, stamp);
+    let code = if has_version > 2 {
+        refuse(&seat)
+    } else {
+        note(&mut seat, stamp)
+    };
     handle.put(seat);
     code
+}
+
+// The code of a note of something that is no stamp.
+fn refuse(seat: &Seat) -> u32
+    ensures code { result ≡ code_of_mount (Some seat.now) (λ m. note_code (next_in m) true) }
+    ensures refused { result ≢ 0 }
+{
+    match seat {
+        Seat::Mounting(mount) => mounts::refuse(mount),
+        Seat::Mounted(_) => WRONG_KIND,
+    }
 }
 
 fn note(seat: &mut Seat, stamp: Option<Stamp>) -> u32

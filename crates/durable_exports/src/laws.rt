@@ -7,8 +7,7 @@ ghost use Rattle.durable.specs.Updates.{Update};
 ghost use Rattle.durable.specs.Device.{Device, device_in};
 ghost use Rattle.durable.specs.Mounting.{next_in, after_in};
 ghost use Rattle.durable.specs.Promise.{IsRecoverable};
-ghost use Rattle.durable.specs.Calls.{HasNoted, Remounts, TellsLosses, TellsNoFalseLoss};
-ghost use Rattle.durable.specs.Losses.{losses_in};
+ghost use Rattle.durable.specs.Calls.{CountsLosses, DropsTrims, HasNoted, Remounts, TellsLosses, TellsNoFalseLoss};
 ghost use Rattle.durable.specs.Whole.{CutsIdleUnharmed, CutsUnharmed, MountsWhole, StaysWhole};
 ghost use Rattle.durable.specs.declared.command.Command.{Command as Next};
 ghost use Rattle.durable.specs.declared.command.Command.TheVariants as command;
@@ -75,8 +74,9 @@ pub fn handles()
 pub fn reports()
     ensures no_stamp { stamp_of 0 (sole 7) 5 ≡ None }
     ensures stamp { stamp_of 1 (record { first = 7; count = 2 }) 5
-        ≡ Some (record { extent = record { first = 7; count = 2 }; number = 5 }) }
-    ensures other { stamp_of 2 (sole 7) 5 ≡ Some (record { extent = sole 7; number = 5 }) }
+        ≡ Some (record { extent = record { first = 7; count = 2 }; number = 5; is_trim = false }) }
+    ensures trim { stamp_of 2 (sole 7) 5
+        ≡ Some (record { extent = sole 7; number = 5; is_trim = true }) }
     ensures no_page { (at : PlaceReport) → found_page 0 at ≡ None }
     ensures page { found_page 1 (record { block = 1; page = 2 })
         ≡ Some (record { block = 1; page = 2 }) }
@@ -118,8 +118,8 @@ pub fn calls()
     ensures mounted { (m : Mount) (l : Layer) → IsMounted m l → Remounts m l.core }
     ensures idle { (m : Mount) (l : Layer) → IsMounted m l → l.totals ≡ no_totals }
     ensures sizes { (m : Mount) (l : Layer) → IsMounted m l → layer_device l ≡ device_in m }
-    ensures losses { (m : Mount) (l : Layer) → IsMounted m l
-        → layer_losses l ≡ losses_in m.found.items m.gaps.items m.read_blocks }
+    ensures losses { (m : Mount) (l : Layer) → IsMounted m l → CountsLosses m l.core }
+    ensures drops { (m : Mount) (l : Layer) → IsMounted m l → DropsTrims m l.core }
     ensures tells { (m : Mount) (l : Layer) → IsMounted m l → TellsLosses m l.core }
     ensures quiet { (m : Mount) (l : Layer) → IsMounted m l → TellsNoFalseLoss m l.core }
     ensures whole { (m : Mount) (l : Layer) → IsMounted m l → MountsWhole m l.core }

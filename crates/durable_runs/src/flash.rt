@@ -70,6 +70,7 @@ impl Flash {
         Some(Stamp {
             extent: version.extent,
             number: version.number,
+            is_trim: version.value == 0,
         })
     }
 

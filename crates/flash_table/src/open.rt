@@ -32,7 +32,8 @@ fn opening(alloc: Global, geometry: &Geometry) -> Result<Vec<u64>, AllocError>
 
 // The blocks of a broom that has done nothing.
 fn blocks_with_spare(block: u32) -> BroomBlocks
-    ensures { result ≡ record { destination = None; spare = Some (record { block = block; generation = 0; written = 0 }); reclaiming = reclaiming.Nothing } }
+    ensures { result
+        ≡ record { destination = None; spare = Some (record { block = block; generation = 0; written = 0 }); reclaiming = reclaiming.Nothing } }
 {
     BroomBlocks {
         destination: None,

@@ -116,7 +116,8 @@ pub fn pages_and_states_of_devices()
     ensures not_least { ¬ IsGreedy (2 ∷ 1 ∷ []) (true ∷ true ∷ []) 0 }
     ensures not_lowest { ¬ IsGreedy (1 ∷ 1 ∷ []) (true ∷ true ∷ []) 1 }
     ensures not_closed { ¬ IsGreedy (1 ∷ []) (false ∷ []) 0 }
-    ensures in_order { numbers_in (record { luns = 1; blocks = 2; pages = 3; words = 4; sectors = 5; endurance = 6; hosts = 7; brooms = 8 })
+    ensures in_order { numbers_in
+        (record { luns = 1; blocks = 2; pages = 3; words = 4; sectors = 5; endurance = 6; hosts = 7; brooms = 8 })
         ≡ numbers 1 2 3 4 5 6 7 8 }
     ensures put { step (None ∷ None ∷ []) (Write 3 1 (7 ∷ [])) ≡ None ∷ Some (7 ∷ []) ∷ [] }
     ensures put_new { (step (None ∷ []) (WriteNew 3 0 (7 ∷ [])) ≡ Some (7 ∷ []) ∷ [])

@@ -92,7 +92,8 @@ pub fn texts_of_a_stock()
     ensures no_room { (a : Answers) (x : List ℕ)
         → HasSpaceFor a (write_by 1 5 x ∷ []) → HasSpace a 1 0 }
     ensures owned { owned_of (an_open 3 1 2) ≡ an_owned 3 phase.Open 1 2 }
-    ensures to_fill { pages_to_fill 3 (record { destination = Some (an_open 3 1 1); spare = Some (an_open 4 0 2); reclaiming = reclaiming.Nothing })
+    ensures to_fill { pages_to_fill 3
+        (record { destination = Some (an_open 3 1 1); spare = Some (an_open 4 0 2); reclaiming = reclaiming.Nothing })
         ≡ a_page 1 3 1 ∷ a_page 1 3 2 ∷ a_page 0 4 2 ∷ [] }
 {}
 

@@ -27,7 +27,8 @@ pub fn blocks_of_a_seat()
     ensures one { owned_list (Some (an_open 3 1 2)) ≡ an_owned 3 phase.Open 1 2 ∷ [] }
     ensures order { blocks_list some_blocks
         ≡ an_owned 3 phase.Open 1 2 ∷ an_owned 4 phase.Open 0 0 ∷ an_owned 5 phase.Victim 2 4 ∷ [] }
-    ensures erasing { blocks_list (record { destination = None; spare = None; reclaiming = reclaiming.Erasing (a_reclaimed 5 2 4) })
+    ensures erasing { blocks_list
+        (record { destination = None; spare = None; reclaiming = reclaiming.Erasing (a_reclaimed 5 2 4) })
         ≡ an_owned 5 phase.Erasing 2 4 ∷ [] }
     ensures just { OwnsJust (an_owned 3 phase.Open 1 2 ∷ []) (an_owned 3 phase.Open 1 2 ∷ []) }
     ensures twice { (o : Owned) (owns : List Owned)
@@ -60,7 +61,8 @@ pub fn blocks_of_a_seat()
     ensures broom { (v : View)
         → (closed_broom v (record { destination = Some (an_open 3 1 2); spare = Some (an_open 4 0 0); reclaiming = reclaiming.Nothing })).ceded
         ≡ (v.ceded ++ an_owned 3 phase.Closed 1 2 ∷ []) ++ an_owned 4 phase.Closed 0 0 ∷ [] }
-    ensures first { first_blocks (numbers 1 9 1 1 1 1 1 3) 1 ≡ record { destination = None; spare = Some (an_open 7 0 0); reclaiming = reclaiming.Nothing } }
+    ensures first { first_blocks (numbers 1 9 1 1 1 1 1 3) 1
+        ≡ record { destination = None; spare = Some (an_open 7 0 0); reclaiming = reclaiming.Nothing } }
     ensures words { words_in_block (numbers 1 3 4 2 5 1 0 0) ≡ 12 }
 {}
 

@@ -28,7 +28,7 @@ none_noted f b p outcome.Erased none holds = holds
 none_noted f b p outcome.Unreadable none holds = holds
 
 noted_at : (f : Flash) (b p : ℕ) (page : PageContents) → f b p ≡ page → (reading : Reading) → ReadsStamp page reading → IsStampOf f b p (noted_of reading)
-noted_at f b p (Version s n v) is reading reads = subst (λ (x : Reading). IsStampOf f b p (noted_of x)) (sym reads) (v, is)
+noted_at f b p (Version s n v) is reading reads = subst (λ (x : Reading). IsStampOf f b p (noted_of x)) (sym reads) (v, is, refl)
 noted_at f b p Erased is reading reads = none_noted f b p reading reads (λ s m v e. erased_holds_none s m v (sym is ∙ e))
 noted_at f b p Torn is reading reads = none_noted f b p reading reads (λ s m v e. torn_holds_none s m v (sym is ∙ e))
 

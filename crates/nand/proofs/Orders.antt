@@ -1,6 +1,6 @@
 -- A chip's blocks in the layer's order.
 use Rattle.std.proofs.Common.{◌≡◌, ◌≢◌, ◌∙◌, inl, inr, ⊎_elim, ◌+◌, ◌<◌, ◌≤◌, ℕ, zero, suc, Bool, true, false, List, [], ◌∷◌, length}
-use Rattle.std.proofs.Common.{None, Result, Ok, Err, OnOk, OnErr, ◌++◌, get_or, set, min, max, ◌-◌, ◌*◌, ◌/◌, if◌then◌else◌, refl, sym, ap, subst, arith}
+use Rattle.std.proofs.Common.{None, Some, Result, Ok, Err, OnOk, OnErr, ◌++◌, get_or, set, min, max, ◌-◌, ◌*◌, ◌/◌, if◌then◌else◌, refl, sym, ap, subst, arith}
 use Rattle.std.proofs.lemmas.Bool.{cases_eq, cases_lt, false≢true}
 use Rattle.std.proofs.lemmas.Bool.Decides.{nat_tests}
 use Rattle.std.proofs.Math.Nat.{lt-div-mul-add, mul-le-mul_right}
@@ -132,7 +132,7 @@ erased_opens f shape bad sectors erased some =
         good.0,
         good.1,
         (good.2, omega (arith, good.3, at_least_two shape sectors)),
-        λ s p v lt newest. absurd (erased_has_none f good.0 p s newest.number v (erased good.0 p) newest.held),
+        λ s p v lt needed. absurd (erased_has_none f good.0 p s needed.newest.number v (erased good.0 p) needed.newest.held),
       );
       blank = λ b lt is p s n v held. erased_holds_none s n v (sym (erased b p) ∙ held);
     }
@@ -261,8 +261,12 @@ module _ (f t : Flash) (blocks sectors : ℕ) (r : IsRenumbered f t blocks) (who
   }
 
   pub duplicated_there : (b : ℕ) → IsDuplicated f sectors b → IsDuplicated t sectors (r.to b)
-  duplicated_there b is s p v lt newest =
-      let other = is s p v lt (newest_before s b p v newest) in (
+  duplicated_there b is s p v lt needed =
+      let has = needed.valued in
+      let other = is s p v lt (record {
+        newest = newest_before s b p v needed.newest;
+        valued = (r.from has.0, has.1, has.2, has.3, version_before f t blocks r has.0 has.1 s has.2 (Some has.3) has.4);
+      }) in (
         r.to other.0,
         other.1,
         other.2,

@@ -5,7 +5,7 @@ use Rattle.geometry.specs.declared.answer.Was.TheVariants as was
 use Rattle.geometry.specs.declared.answer.Got.TheVariants as got
 use Rattle.geometry.specs.declared.page_addr.PageAddr.{PageAddr}
 use Rattle.geometry.specs.Sectors.{Sector, was_of}
-use Rattle.durable.specs.Flash.{Flash, PageContents, HoldsNewest}
+use Rattle.durable.specs.Flash.{Flash, PageContents, HoldsNewest, is_trim}
 use Rattle.durable.specs.Memory.{IsMappedTo}
 use Rattle.durable.specs.Promise.{IsConsistent}
 use Rattle.durable.specs.Updates.{Covers, Update, array_after}
@@ -14,7 +14,7 @@ use Rattle.durable.specs.declared.memory.Core.{Core}
 use Rattle.nand.specs.declared.failure.Failure.{Failure}
 use Rattle.nand.specs.declared.flash.Reading.{Reading}
 use Rattle.nand.specs.declared.flash.Reading.TheVariants as outcome
-use Rattle.nand.specs.Nand.{ReadsStamp, ReadsMain, is_trim}
+use Rattle.nand.specs.Nand.{ReadsStamp, ReadsMain}
 use Rattle.nand.specs.Numbers.{chip_page, numbered}
 use Rattle.nand.specs.declared.flash.Shape.{Shape}
 use Rattle.nand.specs.declared.layer.Durable.{Durable}

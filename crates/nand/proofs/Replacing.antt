@@ -93,7 +93,7 @@ module _ (f : Flash) (shape : Shape) (bad marks : List Bool) (numbers : List ℕ
           b,
           within,
           (is.1 b other ∙ good, omega (arith, fewer_good bad marks d is failed b after, first)),
-          λ s p v few newest. absurd (blank b within (good, omega (arith, first)) p newest.held.0 newest.number v newest.held.1),
+          λ s p v few needed. absurd (blank b within (good, omega (arith, first)) p needed.newest.held.0 needed.newest.number v needed.newest.held.1),
         );
         blank = λ c few reserved. blank c few (still_good bad marks d is c reserved.0, omega (arith, reserved.1, no_more_good bad marks d is c));
       }

@@ -4,7 +4,7 @@ use Rattle.geometry.specs.Sectors.{Sector}
 use Rattle.durable.specs.declared.extent.Extent.{Extent}
 use Rattle.durable.specs.declared.command.Command.{Command}
 use Rattle.durable.specs.declared.found.Stamp.{Stamp as Noted}
-use Rattle.durable.specs.Flash.{Flash, PageContents, Erased, Torn, Version}
+use Rattle.durable.specs.Flash.{Flash, PageContents, Erased, Torn, Version, is_trim}
 use Rattle.durable.specs.Commands.{IsAllowed, Completes, CutLeaves}
 use Rattle.nand.specs.declared.flash.Fault.{Fault}
 use Rattle.nand.specs.declared.flash.Fault.TheVariants as fault
@@ -16,14 +16,9 @@ use Rattle.nand.specs.declared.flash.Reading.TheVariants as outcome
 abbrev pub value_with : Bool → List ℕ → Sector
 value_with trimmed main = if trimmed then None else Some main
 
--- whether a version is a trim
-abbrev pub is_trim : Sector → Bool
-is_trim None = true
-is_trim (Some bytes) = false
-
 -- the stamp that a mount notes of a page that was read so
 abbrev pub noted_of : Reading → Option Noted
-noted_of (outcome.Version stamp) = Some (record { extent = stamp.extent; number = stamp.number })
+noted_of (outcome.Version stamp) = Some (record { extent = stamp.extent; number = stamp.number; is_trim = stamp.trimmed })
 noted_of outcome.Erased = None
 noted_of outcome.Unreadable = None
 

@@ -48,7 +48,7 @@ number_of {N} layer = next_number_of layer.core
 abbrev pub update_of : Extent → Sector → Update
 update_of extent value = record { extent = extent; value = value }
 
--- a block in use can be freed, since all of its newest versions are elsewhere too
+-- a block in use can be freed, since all of its newest versions that are needed are elsewhere too
 abbrev pub CanFreeInUse : Flash → Shape → List Bool → ℕ → Type 0
 CanFreeInUse f shape bad sectors = (b : ℕ) × (b < shape.blocks) × IsInUse bad (most_used shape sectors) b × IsDuplicated f sectors b
 

@@ -66,7 +66,10 @@ pub fn readings()
     ensures erased_main { ReadsMain Erased (6 ∷ []) }
     ensures noted { noted_of
         (outcome.Version (record { extent = sole 7; number = 3; trimmed = true }))
-        ≡ Some (record { extent = sole 7; number = 3 }) }
+        ≡ Some (record { extent = sole 7; number = 3; is_trim = true }) }
+    ensures noted_value { noted_of
+        (outcome.Version (record { extent = sole 7; number = 3; trimmed = false }))
+        ≡ Some (record { extent = sole 7; number = 3; is_trim = false }) }
     ensures not_noted { noted_of outcome.Unreadable ≡ None }
     ensures none_noted { noted_of outcome.Erased ≡ None }
     ensures some_written { (array : ℕ → Sector) → array 8 ≡ Some (5 ∷ [])

@@ -25,6 +25,7 @@ fn noted(reading: Reading) -> Option<durable::Stamp>
         Reading::Version(stamp) => Some(durable::Stamp {
             extent: stamp.extent,
             number: stamp.number,
+            is_trim: stamp.trimmed,
         }),
         Reading::Erased | Reading::Unreadable => None,
     }

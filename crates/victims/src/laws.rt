@@ -26,13 +26,15 @@ pub fn four_blocks()
 
 /// Each block has its counts.
 pub fn counted_blocks()
-    ensures counted { AreCounted (record { pages = 4; kept = 4 ∷ 0 ∷ []; erases = 5 ∷ 6 ∷ []; eligible = true ∷ false ∷ [] }) }
+    ensures counted { AreCounted
+        (record { pages = 4; kept = 4 ∷ 0 ∷ []; erases = 5 ∷ 6 ∷ []; eligible = true ∷ false ∷ [] }) }
     ensures few_erases { ¬ (AreCounted
         (record { pages = 4; kept = 4 ∷ 0 ∷ []; erases = 5 ∷ []; eligible = true ∷ false ∷ [] })) }
     ensures few_marks { ¬ (AreCounted
         (record { pages = 4; kept = 4 ∷ 0 ∷ []; erases = 5 ∷ 6 ∷ []; eligible = true ∷ [] })) }
     ensures too_many { (s : Blocks) → block_count s ≡ 2 ^ 32 → ¬ (AreCounted s) }
-    ensures too_full { ¬ (AreCounted (record { pages = 4; kept = 5 ∷ 0 ∷ []; erases = 5 ∷ 6 ∷ []; eligible = true ∷ false ∷ [] })) }
+    ensures too_full { ¬ (AreCounted
+        (record { pages = 4; kept = 5 ∷ 0 ∷ []; erases = 5 ∷ 6 ∷ []; eligible = true ∷ false ∷ [] })) }
 {}
 
 /// Spares are eligible and keep nothing.

@@ -55,7 +55,9 @@ impl Victims {
         requires blocks { length kept.items < 2 ^ 32 }
         requires erases { length erases.items ≡ length kept.items }
         requires within { All (λ n. n ≤ pages) kept.items }
-        ensures { IfOk result (λ s. s ≡ record { pages = pages; kept = kept.items; erases = erases.items; eligible = replicate (length kept.items) true }) }
+        ensures { IfOk result
+            (λ s. s
+            ≡ record { pages = pages; kept = kept.items; erases = erases.items; eligible = replicate (length kept.items) true }) }
     {
         let blocks = kept.len() as u32;
         let mut queue = BucketQueue::new(alloc, blocks, pages as usize + 2)?;
@@ -137,7 +139,8 @@ impl Victims {
     pub fn keep(&mut self, block: u32)
         requires block { block < block_count self.old }
         requires room { kept_pages self.old block < self.old.pages }
-        ensures { self.new ≡ record self.old { kept = slice_set self.old.kept block (kept_pages self.old block + 1) } }
+        ensures { self.new
+            ≡ record self.old { kept = slice_set self.old.kept block (kept_pages self.old block + 1) } }
     {
         if self.queue.keys[block as usize] != EXCLUDED {
             self.queue.raise(block);
@@ -149,7 +152,8 @@ impl Victims {
     pub fn release(&mut self, block: u32)
         requires block { block < block_count self.old }
         requires some { 0 < kept_pages self.old block }
-        ensures { self.new ≡ record self.old { kept = slice_set self.old.kept block (kept_pages self.old block - 1) } }
+        ensures { self.new
+            ≡ record self.old { kept = slice_set self.old.kept block (kept_pages self.old block - 1) } }
     {
         if self.queue.keys[block as usize] != EXCLUDED {
             self.queue.lower(block);
@@ -161,7 +165,8 @@ impl Victims {
     pub fn erased(&mut self, block: u32)
         requires block { block < block_count self.old }
         requires room { erase_count self.old block + 1 < 2 ^ 32 }
-        ensures { self.new ≡ record self.old { erases = slice_set self.old.erases block (erase_count self.old block + 1) } }
+        ensures { self.new
+            ≡ record self.old { erases = slice_set self.old.erases block (erase_count self.old block + 1) } }
     {
         self.erases[block as usize] += 1;
     }

@@ -219,7 +219,8 @@ fn shift<'a, R: Threads + Wait + Clock + Sync, G: Gate + Send>(
             requires workers { length round.team.workers.items ≡ length round.worker_gates.now }
             requires collectors { length round.team.collectors.items
                 ≡ length round.collector_gates.now }
-            ensures played { IfOk result (λ team. HavePlayed round.entry.limits round.entry.team.workers.items team.workers.items) }
+            ensures played { IfOk result
+                (λ team. HavePlayed round.entry.limits round.entry.team.workers.items team.workers.items) }
             ensures collected { IfOk result
                 (λ team. HaveCollected round.entry.team.collectors.items team.collectors.items) }
         { run_all(scope, rt, round) },

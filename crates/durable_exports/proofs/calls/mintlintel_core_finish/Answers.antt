@@ -1,8 +1,13 @@
-use Rattle.std.proofs.Common.{◌≡◌, ◌∙◌, Option, Some, Err, option_map, refl, sym, ap, subst}
-use Rattle.durable.specs.Calls.{Remounts, TellsLosses, TellsNoFalseLoss}
-use Rattle.durable.specs.Device.{device_of, losses_of}
+use Rattle.std.proofs.Common.{◌≡◌, ◌∙◌, false, Option, None, Some, Err, option_map, refl, sym, ap, subst}
+use Rattle.durable.specs.Calls.{CountsLosses, DropsTrims, Remounts, TellsLosses, TellsNoFalseLoss}
+use Rattle.durable.specs.Device.{device_of}
 use Rattle.durable.specs.Whole.{MountsWhole}
-use Rattle.durable_exports.specs.Calls.{OfMount, HasLayer, FreesBlock, IsMounted}
+use Rattle.durable_exports.specs.Calls.{OfMount, HasLayer, FreesBlock, IsMounted, code_of_mount, finish_code}
+use Rattle.std.proofs.lemmas.Bool.{false≢true}
+use Rattle.core.specs.Option.{is_some}
+use Rattle.durable.specs.Mounting.{next_in}
+use Rattle.durable.specs.declared.mount.Mount.{Mount}
+use Rattle.geometry.specs.declared.page_addr.PageAddr.{PageAddr}
 use Rattle.durable_exports.specs.Handles.{seat_of}
 use Rattle.handles.specs.Kept.{boxed}
 use Rattle.durable_exports.specs.declared.seat.Seat.{Seat}
@@ -28,10 +33,30 @@ returns-then-fill-clause-mounted c _ =
       ap device_of core ∙ c.in-Ok.ensures.device,
       subst (Remounts mount) (sym core) c.in-Ok.ensures.remounts,
       c.new.ensures.totals,
-      ap losses_of core ∙ c.in-Ok.ensures.losses,
+      subst (CountsLosses mount) (sym core) c.in-Ok.ensures.losses,
+      subst (DropsTrims mount) (sym core) c.in-Ok.ensures.drops,
       subst (TellsLosses mount) (sym core) c.in-Ok.ensures.tells,
       subst (TellsNoFalseLoss mount) (sym core) c.in-Ok.ensures.quiet,
       subst (MountsWhole mount) (sym core) c.in-Ok.ensures.whole,
     ) in
     subst (λ (x : Option Seat). OfMount x (λ m. HasLayer (seat_of c.fill.new.self) (IsMounted m))) (sym has)
     (subst (λ (y : Option Seat). HasLayer y (IsMounted mount)) (sym (c.if-fill.ensures.filled refl)) mounted)
+
+same_mount : (a b : Mount) → Mounting a ≡ Mounting b → a ≡ b
+same_mount a b e = cc e
+
+not_some : (k : Option PageAddr) → false ≡ is_some k → k ≡ None
+not_some None e = refl
+not_some (Some at) e = absurd (false≢true e)
+
+pub returns-else-fill-clause-code : goal.returns-else-fill-clause-code
+returns-else-fill-clause-code c =
+    let mount = c.in-Mounting-into_inner.mount in
+    let held : Some c.in-Some.seat.value ≡ Some (Mounting mount) = ap (λ (x : Seat). Some x) (sym c.into_inner.ensures ∙ c.in-Mounting-into_inner.is) in
+    let has : seat_of c.args.handle.now ≡ Some (Mounting mount) = sym c.take.ensures.seat ∙ ap (option_map boxed) c.in-Some.is ∙ held in
+    let same = same_mount c.in-Mounting.mount mount
+    (sym c.in-Mounting.is ∙ c.deref.ensures ∙ sym c.into_inner.ensures ∙ c.in-Mounting-into_inner.is) in
+    let none : next_in mount ≡ None =
+    subst (λ (m : Mount). next_in m ≡ None) same (sym c.next_page.ensures ∙ not_some c.next_page.result c.if-is_some.ensures) in
+    subst (λ (x : Option Seat). 6 ≡ code_of_mount x (λ m. finish_code (next_in m) 6)) (sym has)
+    (ap (λ (n : Option PageAddr). finish_code n 6) (sym none))

@@ -1,0 +1,21 @@
+use Rattle.std.proofs.Common.{inr, false, refl, arith}
+use Rattle.durable.specs.Updates.{sole}
+use Rattle.durable.specs.Marks.{is_valued}
+use Rattle.durable.specs.Mounting.{TellsValue}
+use Rattle.durable.proofs.laws.values.Goals as goal
+
+pub returns-clause-not_read : goal.returns-clause-not_read
+returns-clause-not_read c f bytes is told =
+    told 1 0 5 bytes (omega arith, inr (refl, omega arith)) (sole 7, is, (omega arith, omega arith))
+
+pub returns-clause-no_value : goal.returns-clause-no_value
+returns-clause-no_value c f none told = none told.0 told.1 told.2 told.3 told.5
+
+pub returns-clause-each : goal.returns-clause-each
+unfolding is_valued
+returns-clause-each c f bytes is told =
+    let none : TellsValue f 4 1 1 1 false = told 1 (omega arith) in
+    none 1 0 5 bytes (omega arith, inr (refl, omega arith)) (sole 1, is, (omega arith, omega arith))
+
+pub returns-clause-not_marked : goal.returns-clause-not_marked
+returns-clause-not_marked c old new marks = marks.others 2 (λ has. omega (arith, has))
