@@ -207,6 +207,11 @@ def cold_data(shop):
     return over_device(shop, "cold")
 
 
+def clients_apart(shop):
+    """Clients that write in order at different rates: hardly a page is copied."""
+    return over_device(shop, "apart")
+
+
 def handles(shop):
     """Few handles for many requests, and many, with hardly a spare block: four connections of 16 requests each."""
     told = []
@@ -434,7 +439,7 @@ def sanitized(shop, kind):
 # The parts that have to refuse wrong plugins.
 REFUSING = {part.__name__: part for part in (
     overlaps, handles, resting_brooms, worn_out, by_qemu_io, a_map_of_holes, mixed_sizes, there_and_back, stock_by_itself, refusals_at_the_end, cold_data,
-    trims_inwards, worn_choices, marks_out_of_reach, faults.refused_resources, reports.statistics, reports.aged_at_start, images.image_file, images.killed,
+    clients_apart,     trims_inwards, worn_choices, marks_out_of_reach, faults.refused_resources, reports.statistics, reports.aged_at_start, images.image_file, images.killed,
     images.reads_beside_writes, images.power_cuts, guests.files_and_a_database, failures.failing_image, times.of_commands, times.under_collection)}
 REFUSING |= {f"{kind}_sanitizer": functools.partial(sanitized, kind=kind) for kind in ("address", "thread")}
 REFUSING["image_thread_sanitizer"] = functools.partial(images.image_sanitized, kind="thread")
@@ -486,6 +491,7 @@ def chosen(options):
         "stock by itself": stock_by_itself,
         "refusals at the end": refusals_at_the_end,
         "cold data by itself": cold_data,
+        "clients in order, some faster": clients_apart,
         "parts and whole pages at once": overlaps,
         "1, 4, 16 and 64 handles": handles,
         "pages of other sizes": other_pages,
