@@ -438,9 +438,10 @@ def sanitized(shop, kind):
 
 # The parts that have to refuse wrong plugins.
 REFUSING = {part.__name__: part for part in (
-    overlaps, handles, resting_brooms, worn_out, by_qemu_io, a_map_of_holes, mixed_sizes, there_and_back, stock_by_itself, refusals_at_the_end, cold_data, lives,
-    trims_inwards, worn_choices, marks_out_of_reach, faults.refused_resources, reports.statistics, reports.aged_at_start, images.image_file, images.killed,
-    images.reads_beside_writes, images.power_cuts, guests.files_and_a_database, failures.failing_image, times.of_commands, times.under_collection)}
+    overlaps, handles, resting_brooms, worn_out, by_qemu_io, a_map_of_holes, mixed_sizes, there_and_back, stock_by_itself, refusals_at_the_end, cold_data,
+    lives, trims_inwards, worn_choices, marks_out_of_reach, faults.refused_resources, reports.statistics, reports.aged_at_start, images.image_file,
+    images.killed, images.reads_beside_writes, images.power_cuts, guests.files_and_a_database, failures.failing_image, times.of_commands,
+    times.under_collection)}
 REFUSING |= {f"{kind}_sanitizer": functools.partial(sanitized, kind=kind) for kind in ("address", "thread")}
 REFUSING["image_thread_sanitizer"] = functools.partial(images.image_sanitized, kind="thread")
 
