@@ -18,8 +18,8 @@ enum {
     EVEN_PART = 16, // on a device that is more than half full no block has many more erases than others: this part of all that a block has
     MOST_WAITING = 2, // drained blocks that a broom keeps for copies
     MOST_LOOSE = 8, // blocks of cold data that are loosened ahead
-    TURNS_OF_A_TRIAL = 8, // so often the choice that costs more is tried again
-    MEMORY = 8, // the drains whose cost is remembered
+    TURNS_OF_A_TRIAL = 8, // each so many choices the other one is tried
+    DRAINS_REMEMBERED = 8, // an average of costs is over about so many
     POOR_PART = 8, // a drain that wins back less than this part of a block is made when a write waits, and not ahead of it
     HEAD_START = 10, // how many nice values a broom's thread is below those of the requests
 };
@@ -234,12 +234,12 @@ static uint32_t drain_loose(struct broom *broom, uint32_t *block, uint32_t *move
 
 static void note_cost(struct broom *broom, uint32_t copies) {
     uint32_t *cost = &broom->costs[broom->choice];
-    *cost += copies - *cost / MEMORY;
+    *cost += copies - *cost / DRAINS_REMEMBERED;
 }
 
 // Wears the blocks evenly, unless this costs an eighth of a block more. Now and then a single drain tells what the other choice costs.
 static enum choice choose(struct broom *broom) {
-    int is_dear = broom->costs[EVEN] > broom->costs[PLAIN] + broom->all->pages * MEMORY / POOR_PART;
+    int is_dear = broom->costs[EVEN] > broom->costs[PLAIN] + broom->all->pages * DRAINS_REMEMBERED / POOR_PART;
     int is_trial = ++broom->choices % TURNS_OF_A_TRIAL == 0;
     if (is_trial)
         broom->drains_of_survey = DRAINS_OF_A_SURVEY;
