@@ -14,7 +14,7 @@ void age(struct device *device) {
     stock_hold_brooms(&device->stock, 1);
     while (writes < most) {
         uint64_t sector = writes < sectors ? writes : next_number(&state) % sectors;
-        if (device_zero(device, options->page, sector * options->page, 0) == -1)
+        if (device_zero(device, 0, options->page, sector * options->page, 0) == -1)
             break;
         stock_turn_of_brooms(&device->stock);
         writes++;

@@ -18,6 +18,8 @@ enum {
     EVEN_PART = 16, // on a device that is more than half full no block has many more erases than others: this part of all that a block has
     MOST_WAITING = 2, // drained blocks that a broom keeps for copies
     MOST_LOOSE = 8, // blocks of cold data that are loosened ahead
+    TURNS_OF_A_TRIAL = 8, // each so many choices the other one is tried
+    DRAINS_REMEMBERED = 8, // an average of costs is over about so many
     POOR_PART = 8, // a drain that wins back less than this part of a block is made when a write waits, and not ahead of it
     HEAD_START = 10, // how many nice values a broom's thread is below those of the requests
 };
@@ -223,20 +225,37 @@ static uint32_t drain_loose(struct broom *broom, uint32_t *block, uint32_t *move
     if (loose == all->blocks)
         return MINTLINTEL_NOTHING_TO_GAIN;
     broom->drains_of_survey = 0;
+    broom->choice = LOOSE;
     uint32_t code = drain_chosen(broom, UINT64_MAX, loose, block, moved);
     if (code != MINTLINTEL_DONE)
         forget_loose(all, loose);
     return code;
 }
 
-// Drains a block by a new survey: one with few erases, or if these gain nothing one with more erases. A loose one is drained where cold data is wanted,
-// or when nothing else is left.
+static void note_cost(struct broom *broom, uint32_t copies) {
+    uint32_t *cost = &broom->costs[broom->choice];
+    *cost += copies - *cost / DRAINS_REMEMBERED;
+}
+
+// Wears the blocks evenly, unless this costs an eighth of a block more. Now and then a single drain tells what the other choice costs.
+static enum choice choose(struct broom *broom) {
+    int is_dear = broom->costs[EVEN] > broom->costs[PLAIN] + broom->all->pages * DRAINS_REMEMBERED / POOR_PART;
+    int is_trial = ++broom->choices % TURNS_OF_A_TRIAL == 0;
+    if (is_trial)
+        broom->drains_of_survey = DRAINS_OF_A_SURVEY;
+    return is_dear == is_trial ? EVEN : PLAIN;
+}
+
+// Drains a block by a new survey: one with few erases, or if these gain nothing or cost much one with more erases. A loose one is drained where cold data
+// is wanted, or when nothing else is left.
 static uint32_t drain_evenly(struct broom *broom, uint32_t *block, uint32_t *moved) {
     uint32_t code = wants_cold(broom) ? drain_loose(broom, block, moved) : MINTLINTEL_NOTHING_TO_GAIN;
-    if (code == MINTLINTEL_NOTHING_TO_GAIN)
+    if (code == MINTLINTEL_NOTHING_TO_GAIN && (broom->choice = choose(broom)) == EVEN)
         code = drain_chosen(broom, even_erases(broom->all), NO_BLOCK, block, moved);
-    if (code == MINTLINTEL_NOTHING_TO_GAIN)
+    if (code == MINTLINTEL_NOTHING_TO_GAIN) {
+        broom->choice = PLAIN;
         code = drain_chosen(broom, UINT64_MAX, NO_BLOCK, block, moved);
+    }
     return code == MINTLINTEL_NOTHING_TO_GAIN && broom->drained_count == 0 ? drain_loose(broom, block, moved) : code;
 }
 
@@ -252,6 +271,7 @@ static uint32_t drain_next(struct broom *broom, uint32_t *block, uint32_t *moved
 
 static uint32_t drain_by_survey(struct broom *broom, uint32_t *block, uint32_t *moved) {
     uint32_t code = mintlintel_broom_drain(announced(broom->seat), block, moved);
+    broom->choice = PLAIN;
     note_drained(broom, code, *block);
     return code;
 }
@@ -349,6 +369,7 @@ static int drain(struct broom *broom) {
     switch (code) {
     case MINTLINTEL_DONE:
         tally_add(&broom->drains, 1);
+        note_cost(broom, copies);
         take_copies(broom, block, copies);
         return 1;
     case MINTLINTEL_LOST:

@@ -16,6 +16,9 @@
 #include "sector_locks.h"
 #include "stock.h"
 
+// How a block is chosen that is drained: the one with the fewest live pages, one of those with few erases, or a loose one.
+enum choice { PLAIN, EVEN, LOOSE, CHOICES };
+
 struct broom {
     _Alignas(64) struct mintlintel_seat *seat;
     struct brooms *all;
@@ -25,6 +28,9 @@ struct broom {
     uint32_t drained_count;
     uint32_t drains_of_survey; // drains by the survey that it keeps
     int has_failed;
+    enum choice choice;       // that of its survey
+    uint32_t costs[CHOICES];  // the copies of a drain by each choice of late, eight times the average
+    uint32_t choices;         // how often it has chosen between the first two
     int was_poor; // its last drain moved nearly a whole block
     uint32_t destination, filled; // the block that it copies to, and how many of its pages are copies; or NO_BLOCK
     uint32_t spare;               // the block after that, or NO_BLOCK

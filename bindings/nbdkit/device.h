@@ -36,10 +36,11 @@ int device_start(struct device *device);
 void device_stop(struct device *device);
 void device_close(struct device *device);
 
-// The requests: 0, or -1 with an error set and reported.
+// The requests: 0, or -1 with an error set and reported. Clients have numbers; the pages that one writes go into blocks of its own, if the device has
+// the blocks.
 int device_read(struct device *device, uint8_t *to, uint32_t count, uint64_t offset);
-int device_write(struct device *device, const uint8_t *from, uint32_t count, uint64_t offset);
-int device_zero(struct device *device, uint32_t count, uint64_t offset, int may_trim);
+int device_write(struct device *device, uint32_t client, const uint8_t *from, uint32_t count, uint64_t offset);
+int device_zero(struct device *device, uint32_t client, uint32_t count, uint64_t offset, int may_trim);
 int device_trim(struct device *device, uint32_t count, uint64_t offset);
 
 // Whether a sector is empty: 1 or 0, or -1 with an error set and reported. A handle is taken for a run of such looks.

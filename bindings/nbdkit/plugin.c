@@ -47,15 +47,22 @@ static void dump_plugin(void) {
     printf("mintlintel_max_page=%d\n", MAX_PAGE_BYTES);
 }
 
-// A client's connection to the export of statistics, with the report of its beginning. All connections to the disk are one.
+// A client's connection to the export of statistics, with the report of its beginning. Connections to the disk differ by their client's number alone, of
+// which there are as many as handles may be.
 struct connection {
     char *report;
     size_t report_bytes;
 };
-static struct connection to_disk;
+static struct connection to_disk[MINTLINTEL_MAX_HOSTS];
+static _Atomic uint32_t connections_to_disk;
+
+static uint32_t client_of(void *handle) {
+    return (uint32_t) ((struct connection *) handle - to_disk);
+}
 
 static int is_of_disk(void *handle) {
-    return handle == &to_disk;
+    struct connection *connection = handle;
+    return connection >= to_disk && connection < to_disk + MINTLINTEL_MAX_HOSTS;
 }
 
 static int64_t disk_bytes(void) {
@@ -140,7 +147,7 @@ static void *open_connection(int is_readonly) {
         return NULL;
     }
     if (!is_stats)
-        return &to_disk;
+        return &to_disk[atomic_fetch_add(&connections_to_disk, 1) % MINTLINTEL_MAX_HOSTS];
     return connect_to_stats();
 }
 
@@ -177,20 +184,18 @@ static int read_request(void *handle, void *to, uint32_t count, uint64_t offset,
 }
 
 static int write_request(void *handle, const void *from, uint32_t count, uint64_t offset, uint32_t flags) {
-    (void) handle;
     (void) flags;
-    return has_image() ? image_disk_write(&image_disk, from, count, offset) : device_write(&device, from, count, offset);
+    return has_image() ? image_disk_write(&image_disk, from, count, offset) : device_write(&device, client_of(handle), from, count, offset);
 }
 
 // If trimming isn't allowed, zeros are as slow as a write, and the client has asked for a refusal then.
 static int zero_request(void *handle, uint32_t count, uint64_t offset, uint32_t flags) {
-    (void) handle;
     int may_trim = (flags & NBDKIT_FLAG_MAY_TRIM) != 0;
     if ((flags & NBDKIT_FLAG_FAST_ZERO) && !may_trim) {
         nbdkit_set_error(EOPNOTSUPP);
         return -1;
     }
-    return has_image() ? image_disk_zero(&image_disk, count, offset, may_trim) : device_zero(&device, count, offset, may_trim);
+    return has_image() ? image_disk_zero(&image_disk, count, offset, may_trim) : device_zero(&device, client_of(handle), count, offset, may_trim);
 }
 
 static int trim_request(void *handle, uint32_t count, uint64_t offset, uint32_t flags) {

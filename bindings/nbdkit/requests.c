@@ -131,27 +131,37 @@ int device_read(struct device *device, uint8_t *to, uint32_t count, uint64_t off
     return result;
 }
 
-// Gives the handle back that a request has kept from its last page, if any.
-static void give_kept(struct device *device, struct host **kept) {
-    if (*kept)
-        stock_give_changed(&device->stock, *kept);
-    *kept = NULL;
+// Of a request: the number of the handle that its client's writes prefer, and the handle that it has kept from its last page, or NULL.
+struct handles {
+    uint32_t own;
+    struct host *kept;
+};
+
+static struct handles handles_of(const struct device *device, uint32_t client) {
+    return (struct handles){.own = client % device->options.hosts};
+}
+
+// Gives the handle back that a request has kept, if any.
+static void give_kept(struct device *device, struct handles *handles) {
+    if (handles->kept)
+        stock_give_changed(&device->stock, handles->kept);
+    handles->kept = NULL;
 }
 
 // Locks the next sector of a request. Who has a handle waits for nothing: so the lock is tried first, and if another request has it, the handle
 // is given back.
-static void lock_next(struct device *device, uint32_t sector, struct host **kept) {
-    if (*kept && try_lock_sector(&device->locks, sector))
+static void lock_next(struct device *device, uint32_t sector, struct handles *handles) {
+    if (handles->kept && try_lock_sector(&device->locks, sector))
         return;
-    give_kept(device, kept);
+    give_kept(device, handles);
     lock_sector(&device->locks, sector);
 }
 
 // Writes a page to a sector whose lock is held, with the handle that was kept for it, if any. It holds no handle while it waits for a block.
-static int store(struct device *device, uint32_t sector, const uint8_t *page, struct host **kept, struct times *times) {
-    struct attempt attempt = {0};
-    struct host *host = *kept;
-    for (*kept = NULL;; host = NULL) {
+static int store(struct device *device, uint32_t sector, const uint8_t *page, struct handles *handles, struct times *times) {
+    struct attempt attempt = {.own = handles->own};
+    struct host *host = handles->kept;
+    for (handles->kept = NULL;; host = NULL) {
         if (!host)
             host = stock_take_to_write(&device->stock, &attempt);
         uint32_t code = mintlintel_host_write(announced(host->seat), sector, page, device->options.page);
@@ -160,7 +170,7 @@ static int store(struct device *device, uint32_t sector, const uint8_t *page, st
             tally_add(&host->filled, code == MINTLINTEL_EMPTY);
             take_program(device, host, sector, times);
             unreadable_renew(&device->unreadable, sector);
-            *kept = stock_keep_written(&device->stock, host, &attempt);
+            handles->kept = stock_keep_written(&device->stock, host, &attempt);
             note_stored(device);
             return 0;
         }
@@ -175,10 +185,10 @@ static int store(struct device *device, uint32_t sector, const uint8_t *page, st
 
 // Puts bytes, or zeros if there are none, into a part of a sector whose lock is held. Zeros leave an empty sector empty if
 // they may trim.
-static int change(struct device *device, const struct piece *piece, const uint8_t *from, int may_trim, struct host **kept, struct times *times) {
+static int change(struct device *device, const struct piece *piece, const uint8_t *from, int may_trim, struct handles *handles, struct times *times) {
     uint8_t page[MAX_PAGE_BYTES];
     int is_empty;
-    give_kept(device, kept);
+    give_kept(device, handles);
     struct host *host = stock_take(&device->stock);
     int result = load(device, host, piece->sector, page, &is_empty, times);
     stock_give(&device->stock, host);
@@ -188,58 +198,58 @@ static int change(struct device *device, const struct piece *piece, const uint8_
         memcpy(page + piece->at, from, piece->count);
     else
         memset(page + piece->at, 0, piece->count);
-    return store(device, piece->sector, page, kept, times);
+    return store(device, piece->sector, page, handles, times);
 }
 
-int device_write(struct device *device, const uint8_t *from, uint32_t count, uint64_t offset) {
+int device_write(struct device *device, uint32_t client, const uint8_t *from, uint32_t count, uint64_t offset) {
     struct range range = range_of(device, count, offset);
     struct piece piece;
-    struct host *kept = NULL;
+    struct handles handles = handles_of(device, client);
     struct times times = {0};
     int result = is_readonly(device) ? -1 : 0;
     while (result == 0 && next_piece(&range, &piece)) {
-        lock_next(device, piece.sector, &kept);
+        lock_next(device, piece.sector, &handles);
         times.page = 0;
-        result = piece.is_whole ? store(device, piece.sector, from, &kept, &times) : change(device, &piece, from, 0, &kept, &times);
+        result = piece.is_whole ? store(device, piece.sector, from, &handles, &times) : change(device, &piece, from, 0, &handles, &times);
         unlock_sector(&device->locks, piece.sector);
         from += piece.count;
     }
-    give_kept(device, &kept);
+    give_kept(device, &handles);
     luns_sleep(times.request);
     return result;
 }
 
 // Empties a sector whose lock is held.
-static int drop(struct device *device, uint32_t sector, struct host **kept) {
-    struct host *host = *kept ? *kept : stock_take(&device->stock);
+static int drop(struct device *device, uint32_t sector, struct handles *handles) {
+    struct host *host = handles->kept ? handles->kept : stock_take(&device->stock);
     uint32_t code = mintlintel_host_trim(announced(host->seat), sector);
     tally_add(&host->trims, 1);
     tally_add(&host->emptied, code == MINTLINTEL_WRITTEN);
     unreadable_renew(&device->unreadable, sector);
-    *kept = stock_keep_changed(&device->stock, host);
+    handles->kept = stock_keep_changed(&device->stock, host);
     return code <= MINTLINTEL_WRITTEN ? 0 : fail("trim", code);
 }
 
-static int zero_piece(struct device *device, const struct piece *piece, int may_trim, struct host **kept, struct times *times) {
+static int zero_piece(struct device *device, const struct piece *piece, int may_trim, struct handles *handles, struct times *times) {
     static const uint8_t zeros[MAX_PAGE_BYTES];
     if (!piece->is_whole)
-        return change(device, piece, NULL, may_trim, kept, times);
-    return may_trim ? drop(device, piece->sector, kept) : store(device, piece->sector, zeros, kept, times);
+        return change(device, piece, NULL, may_trim, handles, times);
+    return may_trim ? drop(device, piece->sector, handles) : store(device, piece->sector, zeros, handles, times);
 }
 
-int device_zero(struct device *device, uint32_t count, uint64_t offset, int may_trim) {
+int device_zero(struct device *device, uint32_t client, uint32_t count, uint64_t offset, int may_trim) {
     struct range range = range_of(device, count, offset);
     struct piece piece;
-    struct host *kept = NULL;
+    struct handles handles = handles_of(device, client);
     struct times times = {0};
     int result = is_readonly(device) ? -1 : 0;
     while (result == 0 && next_piece(&range, &piece)) {
-        lock_next(device, piece.sector, &kept);
+        lock_next(device, piece.sector, &handles);
         times.page = 0;
-        result = zero_piece(device, &piece, may_trim, &kept, &times);
+        result = zero_piece(device, &piece, may_trim, &handles, &times);
         unlock_sector(&device->locks, piece.sector);
     }
-    give_kept(device, &kept);
+    give_kept(device, &handles);
     luns_sleep(times.request);
     return result;
 }
@@ -247,14 +257,14 @@ int device_zero(struct device *device, uint32_t count, uint64_t offset, int may_
 // A trim drops the pages that it covers as a whole. So it programs none, and needs no block.
 int device_trim(struct device *device, uint32_t count, uint64_t offset) {
     struct sectors sectors = whole_sectors(count, offset, device->options.page);
-    struct host *kept = NULL;
+    struct handles handles = {0};
     int result = is_readonly(device) ? -1 : 0;
     for (uint64_t sector = sectors.first; result == 0 && sector < sectors.end; sector++) {
-        lock_next(device, (uint32_t) sector, &kept);
-        result = drop(device, (uint32_t) sector, &kept);
+        lock_next(device, (uint32_t) sector, &handles);
+        result = drop(device, (uint32_t) sector, &handles);
         unlock_sector(&device->locks, (uint32_t) sector);
     }
-    give_kept(device, &kept);
+    give_kept(device, &handles);
     return result;
 }
 

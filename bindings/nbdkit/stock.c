@@ -14,6 +14,7 @@ enum {
     MAX_WAITS = 10,     // a write waits at most this many times the wait, even if blocks do become free
     TURN_MS = 1,        // a long request that lets others have its handle takes one again
     MAX_BATCH = 8,      // free blocks that waiting writes wait for, if brooms can win as many
+    OWN_PART = 4,       // clients open blocks of their own up to this part of the spare ones
 };
 
 static uint64_t now(void) {
@@ -51,6 +52,7 @@ int stock_begin(struct stock *stock, const struct options *options, struct mintl
         .low = options->low,
         .high = options->high,
         .marks = {.low = options->low, .high = options->high, .spare = options->spare_blocks},
+        .own_most = options->spare_blocks / OWN_PART,
         .batch = options->low < MAX_BATCH ? options->low : MAX_BATCH,
         .wait_ns = options->wait * (uint64_t) 1000000,
         .changes = 1,
@@ -105,6 +107,18 @@ static struct host *take_idle(struct stock *stock, struct idle *idle) {
     return NULL;
 }
 
+// Whether the handle with this number is idle, with or without room.
+static int is_idle(struct idle *idle, uint32_t number) {
+    return (atomic_load(&idle->words[number / HOSTS_OF_A_WORD]) >> number % HOSTS_OF_A_WORD & 1) != 0;
+}
+
+// The handle with this number, or NULL if it isn't idle.
+static struct host *take_this(struct stock *stock, struct idle *idle, uint32_t number) {
+    uint64_t bit = (uint64_t) 1 << number % HOSTS_OF_A_WORD;
+    int is_taken = is_idle(idle, number) && (atomic_fetch_and(&idle->words[number / HOSTS_OF_A_WORD], ~bit) & bit) != 0;
+    return is_taken ? &stock->hosts[number] : NULL;
+}
+
 static int has_idle(struct stock *stock, struct idle *idle) {
     for (uint32_t at = 0; at * HOSTS_OF_A_WORD < stock->host_count; at++)
         if (atomic_load(&idle->words[at]) != 0)
@@ -115,6 +129,17 @@ static int has_idle(struct stock *stock, struct idle *idle) {
 static struct host *take_any_idle(struct stock *stock) {
     struct host *host = take_idle(stock, &stock->roomless);
     return host ? host : take_idle(stock, &stock->roomy);
+}
+
+// Whether a client whose own handle is idle without room opens a block, though others have room.
+static int opens_own(struct stock *stock, uint32_t own) {
+    return is_idle(&stock->roomless, own) && atomic_load(&stock->open_count) < atomic_load(&stock->own_most);
+}
+
+// A client's own handle if it has room, and otherwise another one with room, unless the client has to open a block of its own.
+static struct host *take_roomy(struct stock *stock, uint32_t own, int may_open) {
+    struct host *host = take_this(stock, &stock->roomy, own);
+    return host || (may_open && opens_own(stock, own)) ? host : take_idle(stock, &stock->roomy);
 }
 
 // ---- The mutex is held from here to the next line of this form.
@@ -190,11 +215,12 @@ static struct host *take_any(struct stock *stock) {
 }
 
 // A handle with room, or one that may take a free block; NULL if there is neither. No block is opened before it is needed.
-static struct host *take_with_room(struct stock *stock, int may_open) {
-    struct host *host = take_idle(stock, &stock->roomy);
+static struct host *take_with_room(struct stock *stock, uint32_t own, int may_open) {
+    struct host *host = take_roomy(stock, own, may_open);
     if (host || !may_open)
         return host;
-    host = take_idle(stock, &stock->roomless);
+    host = take_this(stock, &stock->roomless, own);
+    host = host ? host : take_idle(stock, &stock->roomless);
     if (!host)
         return NULL;
     host->room = stock->pages;
@@ -361,17 +387,17 @@ struct host *stock_yield(struct stock *stock, struct host *host) {
 }
 
 struct host *stock_take_to_write(struct stock *stock, struct attempt *attempt) {
-    struct host *host = take_idle(stock, &stock->roomy);
+    struct host *host = take_roomy(stock, attempt->own, 1);
     if (host)
         return host;
     pthread_mutex_lock(&stock->mutex);
     atomic_fetch_add(&stock->waiting, 1);
-    host = take_with_room(stock, may_open(stock));
+    host = take_with_room(stock, attempt->own, may_open(stock));
     while (!host) {
         attempt->is_last = has_waited_in_vain(stock, attempt);
         if (!attempt->is_last)
             wait_to_write(stock, attempt);
-        host = take_with_room(stock, may_open(stock));
+        host = take_with_room(stock, attempt->own, may_open(stock));
         if (!host && attempt->is_last)
             host = take_any(stock);
     }
@@ -382,7 +408,7 @@ struct host *stock_take_to_write(struct stock *stock, struct attempt *attempt) {
 
 struct host *stock_try_to_write(struct stock *stock) {
     pthread_mutex_lock(&stock->mutex);
-    struct host *host = take_with_room(stock, !lacks_block(stock));
+    struct host *host = take_with_room(stock, 0, !lacks_block(stock));
     pthread_mutex_unlock(&stock->mutex);
     return host;
 }
@@ -501,6 +527,7 @@ void stock_add_free(struct stock *stock) {
 void stock_count_retired(struct stock *stock) {
     pthread_mutex_lock(&stock->mutex);
     uint32_t spare = stock->marks.spare, left = spare > ++stock->marks.retired ? spare - stock->marks.retired : 0;
+    atomic_store(&stock->own_most, left / OWN_PART);
     if (spare > 0) {
         stock->low = stock->marks.low * left / spare;
         stock->low = stock->low > 0 ? stock->low : 1;

@@ -61,7 +61,8 @@ struct stock {
         uint32_t low, high, spare, retired;
     } marks; // as they were at first, with the spare blocks then and those that were retired since
     uint64_t wait_ns;
-    uint32_t open_count; // handles with room, idle or not
+    _Atomic uint32_t open_count; // handles with room, idle or not
+    _Atomic uint32_t own_most;   // while fewer have room, a client opens a block of its own
     int32_t free_count;  // free blocks that no handle is about to take; below 0 while a block was taken that isn't counted yet
     uint32_t waiting_for_any, waiting_to_write;
     uint32_t starving;      // writes that wait while no block is free
@@ -92,8 +93,10 @@ void stock_give(struct stock *stock, struct host *host);
 // A handle for the rest of a long request: if another request waits for a handle, it is served first.
 struct host *stock_yield(struct stock *stock, struct host *host);
 
-// A write's way to a handle.
+// A write's way to a handle. Pages that a client writes one after the other often die so. Where each client fills blocks of its own, they die together,
+// though another client writes faster.
 struct attempt {
+    uint32_t own;   // the number of the handle that its client prefers
     uint64_t began; // when no block was free for it, or 0
     int is_last;    // it has waited in vain, so this try is its last
 };

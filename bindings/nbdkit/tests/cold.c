@@ -57,7 +57,7 @@ static void begin(void) {
     if (device_open(&device) == -1)
         abort();
     for (uint64_t sector = 0; sector < SECTORS; sector++)
-        device_write(&device, (const uint8_t *) &sector, PAGE, sector * PAGE);
+        device_write(&device, 0, (const uint8_t *) &sector, PAGE, sector * PAGE);
     for (uint32_t block = 0; block < BLOCKS; block++)
         device.brooms.erases[block] = block == place(COLD) ? FEW : MANY;
     device.brooms.all_erases = BLOCKS * MANY;

@@ -193,7 +193,7 @@ def over_device(shop, name):
     """A test over a device without a server, under both sanitizers."""
     library = os.environ.get("LIBRARY", HERE.parent / "out/libmintlintel.a")
     sources = [f"{source}.c" for source in ("device", "requests", "age", "stock", "brooms", "cold", "sector_locks", "counts", "luns", "faults")]
-    told = [by_itself(shop, name, kind, sources, library) for kind in ("address", "thread")]
+    told = [by_itself(shop, name, kind, sources, library, "-lm") for kind in ("address", "thread")]
     return f"{told[0]} under AddressSanitizer, {told[1]} under ThreadSanitizer" if told[0] else "under both sanitizers"
 
 
@@ -205,6 +205,11 @@ def refusals_at_the_end(shop):
 def cold_data(shop):
     """Which block is loosened, and that no sector changes by it."""
     return over_device(shop, "cold")
+
+
+def lives(shop):
+    """How much of a device's life its clients have, in order at different rates and by zipf."""
+    return over_device(shop, "lives")
 
 
 def handles(shop):
@@ -365,9 +370,9 @@ def marks_out_of_reach(shop):
     return ", ".join(told)
 
 
-# Devices that are 62 or 89 % full: sectors of each block, blocks, endurance, brooms, how they are written, and the least share of all programs. The fourth
-# has this by even wear, and the last two by cold data in the blocks that are filled for the last time.
-WORN_OUT = [(40, 60, 20, 1, "uniform", 93), (40, 60, 20, 2, "uniform", 93), (40, 60, 20, 2, "zipf", 93), (57, 288, 10, 2, "sequential", 92),
+# Devices that are 62 or 89 % full: sectors of each block, blocks, endurance, brooms, how they are written, and the least share of all programs. The last
+# two have this by cold data in the blocks that are filled for the last time.
+WORN_OUT = [(40, 60, 20, 1, "uniform", 93), (40, 60, 20, 2, "uniform", 93), (40, 60, 20, 2, "zipf", 93), (57, 288, 10, 2, "sequential", 88),
             (57, 288, 10, 1, "zipf", 97.5), (57, 288, 10, 2, "zipf", 97.5)]
 
 
@@ -434,8 +439,9 @@ def sanitized(shop, kind):
 # The parts that have to refuse wrong plugins.
 REFUSING = {part.__name__: part for part in (
     overlaps, handles, resting_brooms, worn_out, by_qemu_io, a_map_of_holes, mixed_sizes, there_and_back, stock_by_itself, refusals_at_the_end, cold_data,
-    trims_inwards, worn_choices, marks_out_of_reach, faults.refused_resources, reports.statistics, reports.aged_at_start, images.image_file, images.killed,
-    images.reads_beside_writes, images.power_cuts, guests.files_and_a_database, failures.failing_image, times.of_commands, times.under_collection)}
+    lives, trims_inwards, worn_choices, marks_out_of_reach, faults.refused_resources, reports.statistics, reports.aged_at_start, images.image_file,
+    images.killed, images.reads_beside_writes, images.power_cuts, guests.files_and_a_database, failures.failing_image, times.of_commands,
+    times.under_collection)}
 REFUSING |= {f"{kind}_sanitizer": functools.partial(sanitized, kind=kind) for kind in ("address", "thread")}
 REFUSING["image_thread_sanitizer"] = functools.partial(images.image_sanitized, kind="thread")
 
@@ -486,6 +492,7 @@ def chosen(options):
         "stock by itself": stock_by_itself,
         "refusals at the end": refusals_at_the_end,
         "cold data by itself": cold_data,
+        "lives of devices": lives,
         "parts and whole pages at once": overlaps,
         "1, 4, 16 and 64 handles": handles,
         "pages of other sizes": other_pages,

@@ -1,8 +1,9 @@
 // to_the_end [DEVICES [SEED]]: small devices of random numbers, whose clients write and trim at random until each was refused some times. The last
 // refusal may not be early: when a write is refused, no block is free, and no broom could win one back. Who reads the blocks and the map afterwards
 // sees it: no block is free, none is drained, and none that has an erase left is closed with a dead page. And the programs and erases that are
-// counted are those of the blocks; with long pages, some copies are of sectors that are written meanwhile. No time decides: a write that waits for
-// what can't come ends the test.
+// counted are those of the blocks; with long pages, some copies are of sectors that are written meanwhile. Then, while a tenth of the blocks or more
+// can be erased, sectors of these are trimmed one by one: before each broom has room for a block's pages but one, and one page more is dead, a write
+// has to be done again. No time decides: a write that waits for what can't come ends the test.
 #define NBDKIT_API_VERSION 2
 #include <nbdkit-plugin.h>
 #include <stdarg.h>
@@ -16,7 +17,7 @@
 enum { LONG_PAGE = 4096, MOST_BLOCKS = 30, MOST_PAGES = 8, MOST_CLIENTS = 4, MOST_OF_A_REQUEST = 4, MOST_REFUSALS = 12, PATIENCE_S = 240, DEVICES = 200 };
 
 static struct device device;
-static unsigned tried;
+static unsigned tried, taken_again;
 static int failures;
 static _Atomic int has_ended;
 
@@ -106,7 +107,7 @@ static void *write_until_refused(void *number) {
         if (draw(&random, 8) == 0)
             device_trim(&device, count, sector * (uint64_t) bytes);
         else
-            refusals -= device_write(&device, zeros, count, sector * (uint64_t) bytes) == -1;
+            refusals -= device_write(&device, *(uint32_t *) number, zeros, count, sector * (uint64_t) bytes) == -1;
     }
     return NULL;
 }
@@ -129,6 +130,49 @@ static void run_clients(uint32_t count) {
         pthread_join(clients[i], NULL);
     atomic_store(&has_ended, 1);
     pthread_join(reader, NULL);
+}
+
+// ---- Writes after trims.
+
+static int can_be_erased(uint32_t block) {
+    struct mintlintel_state state;
+    mintlintel_broom_block(&device.broom_seats[0], block, &state);
+    return state.erases + 1 < device.options.endurance && state.phase == MINTLINTEL_PHASE_CLOSED;
+}
+
+static int can_a_tenth_be_erased(void) {
+    uint32_t count = 0;
+    for (uint32_t block = 0; block < device.options.blocks; block++)
+        count += (uint32_t) can_be_erased(block);
+    return count > 0 && 10 * count >= device.options.blocks;
+}
+
+// A sector in a block that can be erased, or as many as there are if none is.
+static uint32_t find_to_trim(void) {
+    struct host *host = stock_take(&device.stock);
+    uint32_t sector = 0, block;
+    while (sector < device.options.sectors && ((block = block_of(host->seat, sector, NULL, 0)) == NO_BLOCK || !can_be_erased(block)))
+        sector++;
+    stock_give(&device.stock, host);
+    return sector;
+}
+
+static void look_for_writes_after_trims(void) {
+    const struct options *o = &device.options;
+    static const uint8_t zeros[LONG_PAGE];
+    uint32_t sector, trimmed = 0, enough = o->brooms * (o->pages - 1) + 1;
+    if (o->brooms == 0)
+        return;
+    while (trimmed < enough && can_a_tenth_be_erased() && (sector = find_to_trim()) < o->sectors) {
+        device_trim(&device, o->page, sector * (uint64_t) o->page);
+        trimmed++;
+        if (device_write(&device, 0, zeros, o->page, sector * (uint64_t) o->page) == 0) {
+            taken_again++;
+            return;
+        }
+    }
+    if (trimmed == enough)
+        fail("a tenth of the blocks can be erased, and %u of their pages were trimmed, but a write is refused", trimmed);
 }
 
 // ---- What is left.
@@ -197,8 +241,9 @@ static void try_one(uint32_t *random) {
     if (device_open(&device) == -1 || device_start(&device) == -1)
         abort();
     run_clients(1 + draw(random, MOST_CLIENTS));
+    look_for_more(); // brooms that found nothing rest
+    look_for_writes_after_trims();
     device_stop(&device);
-    look_for_more();
     look_at_counts();
     device_close(&device);
 }
@@ -209,6 +254,8 @@ int main(int count, char **words) {
     alarm(PATIENCE_S);
     for (tried = 0; tried < devices && failures < 10; tried++)
         try_one(&random);
-    printf("%u devices\n", tried);
+    if (devices >= DEVICES && taken_again == 0)
+        fail("no device was left with a tenth of its blocks");
+    printf("%u devices, and %u took writes again after trims\n", tried, taken_again);
     return failures > 0;
 }

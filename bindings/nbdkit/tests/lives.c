@@ -1,0 +1,143 @@
+// lives: devices that four clients of different rates write until the first refusal, in order or by zipf: how much of all possible programs were the
+// clients', and not copies. In order that is most of them, since each client fills blocks of its own, whose pages die together, and the blocks wear
+// evenly. By zipf they don't wear evenly, as that would cost many copies. Brooms and writes take turns, so it is nearly the same each time.
+#define NBDKIT_API_VERSION 2
+#include <math.h>
+#include <nbdkit-plugin.h>
+#include <stdarg.h>
+#include <stdio.h>
+#include <stdlib.h>
+#include <unistd.h>
+
+#include "../device.h"
+#include "../random.h"
+
+enum { CLIENTS = 4, PAGE = 8, BLOCKS = 288, PAGES = 64, ENDURANCE = 10, WRITES_OF_A_TURN = 16, PATIENCE_S = 60 };
+#define SKEW 1.2
+
+static const struct life {
+    uint32_t sectors, spare, brooms, is_zipf, rates[CLIENTS]; // so many of each hundred writes
+    double least;                                             // percent
+} lives[] = {
+    {16404, 23, 1, 0, {25, 25, 25, 25}, 85}, {16404, 23, 1, 0, {30, 25, 24, 21}, 85}, {16404, 21, 2, 0, {30, 25, 24, 21}, 85},
+    {11428, 101, 1, 0, {30, 25, 24, 21}, 93}, {11428, 99, 2, 0, {30, 25, 24, 21}, 93},
+    {11428, 101, 1, 1, {30, 25, 24, 21}, 63}, {11428, 99, 2, 1, {30, 25, 24, 21}, 63},
+};
+
+static struct device device;
+static int failures;
+
+static void fail(const char *form, ...) {
+    va_list words;
+    va_start(words, form);
+    vprintf(form, words);
+    va_end(words);
+    printf("\n");
+    failures++;
+}
+
+// The plugin may tell that the device is full, or near its end.
+void nbdkit_error(const char *form, ...) {
+    (void) form;
+}
+
+void nbdkit_set_error(int error) {
+    (void) error;
+}
+
+void nbdkit_debug(const char *form, ...) {
+    (void) form;
+}
+
+int options_worn_error(const struct options *options) {
+    (void) options;
+    return -1;
+}
+
+void options_tell_refusal(const struct options *options, uint32_t code) {
+    (void) options;
+    fail("refused (%u)", code);
+}
+
+static void open_device(const struct life *life) {
+    uint32_t low = life->spare / 4 < 8 + 2 * life->brooms ? life->spare / 4 : 8 + 2 * life->brooms, more = life->spare / 4 < 8 ? life->spare / 4 : 8;
+    device.options = (struct options){.page = PAGE, .luns = 1, .hosts = CLIENTS, .brooms = life->brooms, .blocks = BLOCKS, .pages = PAGES,
+                                      .sectors = life->sectors, .endurance = ENDURANCE, .spare_blocks = life->spare, .low = low, .high = low + more,
+                                      .wait = 1000 * PATIENCE_S};
+    if (device_open(&device) == -1 || device_start(&device) == -1)
+        abort();
+    stock_hold_brooms(&device.stock, 1);
+}
+
+// A number below 1.
+static double draw(uint64_t *random) {
+    return (double) (next_number(random) >> 11) / (double) ((uint64_t) 1 << 53);
+}
+
+static uint32_t draw_client(uint64_t *random, const uint32_t *rates) {
+    uint32_t at = (uint32_t) (100 * draw(random)), client = 0;
+    while (client < CLIENTS - 1 && at >= rates[client])
+        at -= rates[client++];
+    return client;
+}
+
+// How likely the first of a client's sectors are drawn: each by the SKEWth power of its place.
+static double *shares(uint32_t sectors) {
+    double *share = calloc(sectors, sizeof *share), sum = 0;
+    for (uint32_t i = 0; i < sectors; i++)
+        share[i] = sum += pow(i + 1, -SKEW);
+    for (uint32_t i = 0; i < sectors; i++)
+        share[i] /= sum;
+    return share;
+}
+
+static uint32_t draw_by_zipf(uint64_t *random, const double *share, uint32_t sectors) {
+    double wanted = draw(random);
+    uint32_t low = 0, high = sectors - 1;
+    while (low < high) {
+        uint32_t middle = (low + high) / 2;
+        if (share[middle] < wanted)
+            low = middle + 1;
+        else
+            high = middle;
+    }
+    return low;
+}
+
+// The clients' percent of all programs, up to the first refusal. Each client writes all its sectors first.
+static double live(const struct life *life) {
+    static const uint8_t page[PAGE];
+    uint32_t own = life->sectors / CLIENTS, written[CLIENTS] = {0}, writes = 0;
+    double *share = shares(own);
+    uint64_t random = 1;
+    open_device(life);
+    for (int is_refused = 0; !is_refused; writes += (uint32_t) !is_refused) {
+        uint32_t client = draw_client(&random, life->rates), number = written[client]++;
+        uint32_t at = life->is_zipf && number >= own ? draw_by_zipf(&random, share, own) : number % own;
+        is_refused = device_write(&device, client, page, PAGE, (at * CLIENTS + client) * (uint64_t) PAGE) == -1;
+        if (writes % WRITES_OF_A_TURN == 0 && !is_refused)
+            stock_turn_of_brooms(&device.stock);
+    }
+    stock_hold_brooms(&device.stock, 0);
+    device_stop(&device);
+    device_close(&device);
+    free(share);
+    return 100.0 * writes / (BLOCKS * PAGES * ENDURANCE);
+}
+
+int main(void) {
+    enum { COUNT = sizeof lives / sizeof *lives };
+    double percents[COUNT];
+    alarm(PATIENCE_S);
+    for (int at = 0; at < COUNT; at++) {
+        const struct life *life = &lives[at];
+        percents[at] = live(life);
+        if (percents[at] < life->least)
+            fail("%s with %.0f %% in use: clients had %.1f %% of all programs (%u brooms)", life->is_zipf ? "by zipf" : "in order",
+                 100.0 * life->sectors / (BLOCKS * PAGES), percents[at], life->brooms);
+    }
+    for (int at = 0; at < COUNT; at++)
+        printf("%s%.1f", at ? ", " : "clients had ", percents[at]);
+    printf(" %% of all programs\n");
+    return failures > 0;
+}
