@@ -321,6 +321,44 @@ static void lose_pages(void)
     CHECK(found > 10);
 }
 
+/* Whether another block has the version of a page. */
+static int has_twin(uint32_t block, uint32_t page)
+{
+    const struct chip_page *p = &chip.pages[block][page], *other = chip.pages[0];
+    for (; p->contents == VERSION && other < chip.pages[CHIP_BLOCKS]; other++)
+        if (other->contents == VERSION && (other < chip.pages[block] || other >= chip.pages[block + 1]) && memcmp(other->stamp, p->stamp, sizeof p->stamp) == 0)
+            return 1;
+    return 0;
+}
+
+/* A block that needs no page is torn in each page whose version another block has too, as in an erase, and its stamps stay whole. */
+static void tear_twins(void)
+{
+    struct mintlintel_block block;
+    long found = 0;
+    for (int round = 0; round < 300; round++) {
+        begin_sound();
+        CHECK(open_device());
+        write_some(100 + (int)(drawn(&state) % 100));
+        for (uint32_t b = 0; b < CHIP_BLOCKS; b++) {
+            CHECK(mintlintel_durable_block(&device, b, &block) == MINTLINTEL_DONE);
+            for (uint32_t page = 0; block.live == 0 && page < CHIP_PAGES; page++)
+                if (has_twin(b, page)) {
+                    chip.pages[b][page].contents = TORN;
+                    chip.pages[b][page].has_stamp = 1;
+                    chip.pages[b][page].main[0] ^= 1;
+                    found++;
+                }
+        }
+        chip.hides_torn = 1;
+        CHECK(open_device());
+        for (uint32_t sector = 0; sector < sectors; sector++)
+            check_sector(sector);
+        mintlintel_durable_close(&device);
+    }
+    CHECK(found > 100);
+}
+
 /* Each command of a run fails in turn, and with few sectors a second one. No call tells of it, and what was acknowledged is there, before and after an open. */
 static long fail_each(void)
 {
@@ -416,6 +454,7 @@ int main(int argc, char **argv)
     fail_often();
     add_reserve();
     lose_pages();
+    tear_twins();
     trim_at_once();
     note_kinds();
     for (long round = 0; round < rounds; round++) {
