@@ -127,7 +127,8 @@ fn keep_valued(map: &mut PackedMap, valued: &[u64])
     requires { length map.old.items ≤ length valued.now * 64 }
     ensures size { length map.new.items ≡ length map.old.items }
     ensures entries { (s : ℕ) → s < length map.old.items
-        → slice_index_or map.new.items s None ≡ valued_page (is_valued valued.now s) (slice_index_or map.old.items s None) }
+        → slice_index_or map.new.items s None
+        ≡ valued_page (is_valued valued.now s) (slice_index_or map.old.items s None) }
 {
     for s in 0..map.len() {
         if !has_mark(valued, s) {

@@ -86,9 +86,11 @@ pub fn versions_of_a_sector()
     ensures erased { (f : Flash) → IsErased f → RecoversSector f 7 None }
     ensures none { (f : Flash) (bytes : List ℕ) → IsErased f → ¬ RecoversSector f 7 (Some bytes) }
     ensures lost { (f : Flash) (bytes : List ℕ) → HoldsNewest f 7 (Some bytes) 0 0 → ¬ RecoversSector f 7 None }
-    ensures valued { (f : Flash) (bytes : List ℕ) → f 2 3 ≡ Version (sole 7) 1 (Some bytes) → HasValue f 7 }
+    ensures valued { (f : Flash) (bytes : List ℕ) → f 2 3 ≡ Version (sole 7) 1 (Some bytes)
+        → HasValue f 7 }
     ensures valueless { (f : Flash) → HoldsNoValue f 7 → ¬ HasValue f 7 }
-    ensures needed { (f : Flash) (bytes : List ℕ) → f 2 3 ≡ Version (sole 7) 1 (Some bytes) → HoldsNewest f 7 None 0 0 → HoldsNeeded f 7 None 0 0 }
+    ensures needed { (f : Flash) (bytes : List ℕ) → f 2 3 ≡ Version (sole 7) 1 (Some bytes)
+        → HoldsNewest f 7 None 0 0 → HoldsNeeded f 7 None 0 0 }
     ensures unneeded { (f : Flash) (v : Sector) → HoldsNoValue f 7 → ¬ HoldsNeeded f 7 v 0 0 }
     ensures not_newest { (f : Flash) (v : Sector) → HoldsNeeded f 7 v 0 0 → HoldsNewest f 7 v 0 0 }
 {}
@@ -211,15 +213,18 @@ pub fn stamps()
     ensures version { (f : Flash) (v : Sector) → f 1 2 ≡ Version (sole 7) 5 v → ¬ IsStampOf f 1 2 None }
     ensures stamp { (f : Flash) (bytes : List ℕ) → f 1 2 ≡ Version (sole 7) 5 (Some bytes)
         → IsStampOf f 1 2 (Some (record { extent = sole 7; number = 5; is_trim = false })) }
-    ensures trim { (f : Flash) → f 1 2 ≡ Version (sole 7) 5 None → IsStampOf f 1 2 (Some (record { extent = sole 7; number = 5; is_trim = true })) }
+    ensures trim { (f : Flash) → f 1 2 ≡ Version (sole 7) 5 None
+        → IsStampOf f 1 2 (Some (record { extent = sole 7; number = 5; is_trim = true })) }
     ensures no_trim { (f : Flash) (bytes : List ℕ) → f 1 2 ≡ Version (sole 7) 5 (Some bytes)
         → ¬ IsStampOf f 1 2 (Some (record { extent = sole 7; number = 5; is_trim = true })) }
-    ensures no_value { (f : Flash) → f 1 2 ≡ Version (sole 7) 5 None → ¬ IsStampOf f 1 2 (Some (record { extent = sole 7; number = 5; is_trim = false })) }
+    ensures no_value { (f : Flash) → f 1 2 ≡ Version (sole 7) 5 None
+        → ¬ IsStampOf f 1 2 (Some (record { extent = sole 7; number = 5; is_trim = false })) }
     ensures other { (f : Flash) (v : Sector) → f 1 2 ≡ Version (sole 7) 5 v
         → ¬ IsStampOf f 1 2 (Some (record { extent = sole 8; number = 5; is_trim = false })) }
     ensures number { (f : Flash) (v : Sector) → f 1 2 ≡ Version (sole 7) 5 v
         → ¬ IsStampOf f 1 2 (Some (record { extent = sole 7; number = 6; is_trim = false })) }
-    ensures not_torn { (f : Flash) → f 1 2 ≡ Torn → ¬ IsStampOf f 1 2 (Some (record { extent = sole 7; number = 5; is_trim = false })) }
+    ensures not_torn { (f : Flash) → f 1 2 ≡ Torn
+        → ¬ IsStampOf f 1 2 (Some (record { extent = sole 7; number = 5; is_trim = false })) }
     ensures here { (mount : Reading) → mount.read_blocks ≡ 3 → mount.block ≡ 2 → mount.page ≡ 1 → next_in mount ≡ Some (record { block = 2; page = 1 }) }
     ensures end { (mount : Reading) → mount.read_blocks ≡ 3 → mount.block ≡ 3 → next_in mount ≡ None }
     ensures after { (mount : Reading) → mount.read_blocks ≡ 3 → mount.pages ≡ 4 → mount.block ≡ 2 → mount.page ≡ 1
@@ -237,27 +242,39 @@ pub fn stamps()
 pub fn values()
     ensures trim { is_trim None ≡ true }
     ensures bytes { (bytes : List ℕ) → is_trim (Some bytes) ≡ false }
-    ensures read { (f : Flash) (bytes : List ℕ) → f 1 0 ≡ Version (sole 7) 5 (Some bytes) → TellsValue f 4 1 1 7 true }
-    ensures not_read { (f : Flash) (bytes : List ℕ) → f 1 0 ≡ Version (sole 7) 5 (Some bytes) → ¬ TellsValue f 4 1 1 7 false }
+    ensures read { (f : Flash) (bytes : List ℕ) → f 1 0 ≡ Version (sole 7) 5 (Some bytes)
+        → TellsValue f 4 1 1 7 true }
+    ensures not_read { (f : Flash) (bytes : List ℕ) → f 1 0 ≡ Version (sole 7) 5 (Some bytes)
+        → ¬ TellsValue f 4 1 1 7 false }
     ensures erased { (f : Flash) → IsErased f → TellsValue f 4 1 1 7 false }
     ensures no_value { (f : Flash) → HoldsNoValue f 7 → ¬ TellsValue f 4 1 1 7 true }
     ensures unread { (f : Flash) → ¬ TellsValue f 4 0 0 7 true }
-    ensures each { (f : Flash) (bytes : List ℕ) → f 1 0 ≡ Version (sole 1) 5 (Some bytes) → ¬ TellsValues f 4 1 1 2 (1 ∷ []) }
-    ensures bit { (is_valued (0 ∷ 2 ∷ []) 65 ≡ true) × (is_valued (0 ∷ 2 ∷ []) 64 ≡ false) × (is_valued (0 ∷ 2 ∷ []) 1 ≡ false) }
-    ensures marked { (old new : List ℕ) → IsMarkedWith old new (Some (record { extent = sole 1; number = 5; is_trim = false })) → is_valued new 1 ≡ true }
-    ensures not_marked { (old new : List ℕ) → IsMarkedWith old new (Some (record { extent = sole 1; number = 5; is_trim = false }))
+    ensures each { (f : Flash) (bytes : List ℕ) → f 1 0 ≡ Version (sole 1) 5 (Some bytes)
+        → ¬ TellsValues f 4 1 1 2 (1 ∷ []) }
+    ensures bit { (is_valued (0 ∷ 2 ∷ []) 65 ≡ true) × (is_valued (0 ∷ 2 ∷ []) 64 ≡ false)
+        × (is_valued (0 ∷ 2 ∷ []) 1 ≡ false) }
+    ensures marked { (old new : List ℕ)
+        → IsMarkedWith old new (Some (record { extent = sole 1; number = 5; is_trim = false }))
+        → is_valued new 1 ≡ true }
+    ensures not_marked { (old new : List ℕ)
+        → IsMarkedWith old new (Some (record { extent = sole 1; number = 5; is_trim = false }))
         → is_valued new 2 ≡ is_valued old 2 }
-    ensures unmarked { (new : List ℕ) → IsMarkedWith (2 ∷ []) new (Some (record { extent = sole 0; number = 5; is_trim = true })) → new ≡ 2 ∷ [] }
+    ensures unmarked { (new : List ℕ)
+        → IsMarkedWith (2 ∷ []) new (Some (record { extent = sole 0; number = 5; is_trim = true })) → new ≡ 2 ∷ [] }
     ensures no_stamp { (new : List ℕ) → IsMarkedWith (2 ∷ []) new None → new ≡ 2 ∷ [] }
     ensures needed { needed_of true (Some (record { at = record { block = 1; page = 0 }; number = 5; twin = None }))
         ≡ Some (record { at = record { block = 1; page = 0 }; number = 5; twin = None }) }
     ensures dropped { needed_of false (Some (record { at = record { block = 1; page = 0 }; number = 5; twin = None })) ≡ None }
-    ensures page { valued_page true (Some (record { block = 1; page = 0 })) ≡ Some (record { block = 1; page = 0 }) }
+    ensures page { valued_page true (Some (record { block = 1; page = 0 }))
+        ≡ Some (record { block = 1; page = 0 }) }
     ensures no_page { valued_page false (Some (record { block = 1; page = 0 })) ≡ None }
-    ensures kept { (x y : Option Seen) (kept : List (Option Seen)) → AreNeeded (1 ∷ []) (x ∷ y ∷ []) kept → kept ≡ x ∷ None ∷ [] }
-    ensures noted { (f : Flash) (mount : Reading) → HasNoted f mount → TellsValues f mount.pages mount.block mount.page
+    ensures kept { (x y : Option Seen) (kept : List (Option Seen))
+        → AreNeeded (1 ∷ []) (x ∷ y ∷ []) kept → kept ≡ x ∷ None ∷ [] }
+    ensures noted { (f : Flash) (mount : Reading) → HasNoted f mount
+        → TellsValues f mount.pages mount.block mount.page
         (length mount.found.items) mount.valued.items }
-    ensures drops { (f : Flash) (mount : Reading) (core : Layer) → DropsTrims mount core → HasNoted f mount → 7 < (device_in mount).sectors
+    ensures drops { (f : Flash) (mount : Reading) (core : Layer) → DropsTrims mount core
+        → HasNoted f mount → 7 < (device_in mount).sectors
         → HoldsNoValue f 7 → map_entry core 7 ≡ None }
 {}
 
@@ -333,14 +350,18 @@ pub fn losses()
     ensures one_more { versions_noted 1 (Some (record { extent = sole 7; number = 5; is_trim = false })) ≡ 2 }
     ensures as_many { versions_noted 1 None ≡ 1 }
     ensures new { (f : Flash) → IsErased f → HasNoLoss f 8 }
-    ensures lost { (f : Flash) (v : Sector) → f 1 0 ≡ Torn → HoldsNeeded f 7 v 1 1 → ((d q : ℕ) → HoldsNewest f 7 v d q → d ≡ 1)
+    ensures lost { (f : Flash) (v : Sector) → f 1 0 ≡ Torn → HoldsNeeded f 7 v 1 1 → ((d q : ℕ)
+        → HoldsNewest f 7 v d q → d ≡ 1)
         → ((d q : ℕ) (w : Sector) → HoldsNewest f 7 w d q → w ≡ v) → ¬ HasNoLoss f 8 }
-    ensures trims { (f : Flash) → ((s : ℕ) → HoldsNoValue f s) → HasNoLoss f 8 × IsDuplicated f 8 1 × IsSafelyDuplicated f 8 1 }
-    ensures elsewhere { (f : Flash) (s : ℕ) (v : Sector) → HasNoLoss f 8 → s < 8 → HoldsNeeded f s v 1 1
+    ensures trims { (f : Flash) → ((s : ℕ) → HoldsNoValue f s)
+        → HasNoLoss f 8 × IsDuplicated f 8 1 × IsSafelyDuplicated f 8 1 }
+    ensures elsewhere { (f : Flash) (s : ℕ) (v : Sector) → HasNoLoss f 8 → s < 8
+        → HoldsNeeded f s v 1 1
         → (d : ℕ) × (q : ℕ) × (w : Sector) × IsGapless f d × HoldsNewest f s w d q }
     ensures in_use { losses_in (Some (record { at = record { block = 1; page = 1 }; number = 5; twin = None }) ∷ []) (3 ∷ 2 ∷ []) 2 ≡ 2 }
     ensures unused { losses_in (None ∷ []) (3 ∷ 2 ∷ []) 2 ≡ 0 }
-    ensures kept { (mount : Reading) (core : Layer) → CountsLosses mount core → (kept : List (Option Seen))
+    ensures kept { (mount : Reading) (core : Layer) → CountsLosses mount core
+        → (kept : List (Option Seen))
         × AreNeeded mount.valued.items mount.found.items kept × (losses_of core ≡ losses_in kept mount.gaps.items mount.read_blocks) }
     ensures tells { (mount : Reading) (core : Layer) (f : Flash) → TellsLosses mount core → HasNoted f mount → IsWrittenOn (device_in mount) f
         → ¬ HasNoLoss f (device_in mount).sectors → core.losses ≢ 0 }
@@ -352,7 +373,8 @@ pub fn losses()
 pub fn unharmed()
     ensures spare { (f : Flash) (device : Device) → IsUnharmed f device → (b : ℕ) × (b < device.blocks) × IsSafelyDuplicated f device.sectors b }
     ensures no_loss { (f : Flash) (device : Device) → IsUnharmed f device → HasNoLoss f device.sectors }
-    ensures alone { (f : Flash) (v : Sector) → HoldsNeeded f 7 v 1 1 → ((d q : ℕ) (w : Sector) → HoldsNewest f 7 w d q → d ≡ 1)
+    ensures alone { (f : Flash) (v : Sector) → HoldsNeeded f 7 v 1 1 → ((d q : ℕ) (w : Sector)
+        → HoldsNewest f 7 w d q → d ≡ 1)
         → ¬ IsSafelyDuplicated f 8 1 }
     ensures mapped { (f : Flash) (layer : Layer) → KeepsWhole f layer → 7 < length layer.map.items → map_entry layer 7 ≡ Some (record { block = 1; page = 1 })
         → IsGapless f 1 }

@@ -44,7 +44,8 @@ fn mark(marks: &mut Vec<u64>, sector: usize)
     requires { sector < length marks.old.items * 64 }
     ensures size { length marks.new.items ≡ length marks.old.items }
     ensures here { is_valued marks.new.items sector ≡ true }
-    ensures others { (s : ℕ) → s ≢ sector → is_valued marks.new.items s ≡ is_valued marks.old.items s }
+    ensures others { (s : ℕ) → s ≢ sector
+        → is_valued marks.new.items s ≡ is_valued marks.old.items s }
 {
     marks[sector / 64] |= 1 << (sector % 64);
 }

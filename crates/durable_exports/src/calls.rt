@@ -111,7 +111,8 @@ pub extern "C" fn mintlintel_core_note(
 ) -> u32
     ensures code { result ≡ code_of_mount (seat_of handle.old) (λ m. note_code (next_in m) (nat_eq result 30)) }
     ensures kinds { 2 < has_version → result ≢ 0 }
-    ensures accepts { has_version ≤ 2 → OfMount (seat_of handle.old) (Accepts (stamp_of has_version (record { first = first; count = count }) number) result) }
+    ensures accepts { has_version ≤ 2
+        → OfMount (seat_of handle.old) (Accepts (stamp_of has_version (record { first = first; count = count }) number) result) }
     ensures noted { result ≡ 0 → OfMount (seat_of handle.old)
         (λ m. HasMount (seat_of handle.new) (IsNoted (stamp_of has_version (record { first = first; count = count }) number) m)) }
     ensures same { result ≢ 0 → seat_of handle.new ≡ seat_of handle.old }

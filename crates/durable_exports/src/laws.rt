@@ -70,8 +70,10 @@ pub fn handles()
 /// Stamps, pages, commands and totals, as C passes and sees them.
 pub fn reports()
     ensures no_stamp { stamp_of 0 (sole 7) 5 ≡ None }
-    ensures stamp { stamp_of 1 (record { first = 7; count = 2 }) 5 ≡ Some (record { extent = record { first = 7; count = 2 }; number = 5; is_trim = false }) }
-    ensures trim { stamp_of 2 (sole 7) 5 ≡ Some (record { extent = sole 7; number = 5; is_trim = true }) }
+    ensures stamp { stamp_of 1 (record { first = 7; count = 2 }) 5
+        ≡ Some (record { extent = record { first = 7; count = 2 }; number = 5; is_trim = false }) }
+    ensures trim { stamp_of 2 (sole 7) 5
+        ≡ Some (record { extent = sole 7; number = 5; is_trim = true }) }
     ensures no_page { (at : PlaceReport) → found_page 0 at ≡ None }
     ensures page { found_page 1 (record { block = 1; page = 2 }) ≡ Some (record { block = 1; page = 2 }) }
     ensures same_place { page_at (place_of (record { block = 1; page = 2 })) ≡ record { block = 1; page = 2 } }
