@@ -5,6 +5,7 @@ use Rattle.durable.specs.declared.extent.Extent.{Extent}
 use Rattle.durable.specs.declared.command.Command.{Command}
 use Rattle.durable.specs.declared.found.Stamp.{Stamp as Noted}
 use Rattle.durable.specs.Flash.{Flash, PageContents, Erased, Torn, Version, is_trim}
+use Rattle.durable.specs.Updates.{Covers}
 use Rattle.durable.specs.Commands.{IsAllowed, Completes, CutLeaves}
 use Rattle.nand.specs.declared.flash.Fault.{Fault}
 use Rattle.nand.specs.declared.flash.Fault.TheVariants as fault
@@ -40,6 +41,11 @@ ReadsMain (Version e n (Some bytes)) main = main ≡ bytes
 ReadsMain (Version e n None) main = Unit {0}
 ReadsMain Erased main = Unit {0}
 ReadsMain Torn main = Unit {0}
+
+-- some page has a version of this sector with these bytes
+abbrev pub HasBytes : Flash → ℕ → List ℕ → Type 0
+HasBytes f s bytes =
+    (b p : ℕ) × (e : Extent) × (n : ℕ) × Covers e s × (f b p ≡ Version e n (Some bytes))
 
 -- a command that is allowed is done if it succeeds, and otherwise it leaves what a power cut inside it may leave
 abbrev pub Performs : {T : Type 0} → Command → Extent → Sector → Result T Fault → Flash → Flash → Type 0

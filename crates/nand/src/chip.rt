@@ -218,6 +218,7 @@ impl Chip {
         ensures sets { Sets result (chip_flash self.old)
             (chip_flash self.new) at (contents_of page) }
         ensures ends { Ends (coming (schedule_of self.old)) result }
+        ensures schedule { schedule_of self.new ≡ after_command (schedule_of self.old) }
         ensures bad { chip_bad self.new ≡ chip_bad self.old }
         ensures shape { chip_shape self.new ≡ chip_shape self.old }
         ensures cause { CountsFault (chip_faults self.old) (chip_faults self.new) result }
@@ -253,6 +254,7 @@ impl Chip {
     // Ends a command that fails.
     fn failed(&mut self) -> Result<(), Fault>
         ensures failed { result ≡ Err fault.Failed }
+        ensures schedule { schedule_of self.new ≡ schedule_of self.old }
         ensures cause { CountsFault (chip_faults self.old) (chip_faults self.new) result }
         ensures flash { chip_flash self.new ≡ chip_flash self.old }
         ensures shape { chip_shape self.new ≡ chip_shape self.old }
@@ -265,6 +267,7 @@ impl Chip {
     // Ends a command in which the power goes.
     fn cut_off(&mut self) -> Result<(), Fault>
         ensures gone { result ≡ Err fault.PowerGone }
+        ensures schedule { schedule_of self.new ≡ schedule_of self.old }
         ensures cause { CountsFault (chip_faults self.old) (chip_faults self.new) result }
         ensures flash { chip_flash self.new ≡ chip_flash self.old }
         ensures shape { chip_shape self.new ≡ chip_shape self.old }
@@ -277,6 +280,7 @@ impl Chip {
     // A read, which fails only without power.
     fn look(&mut self) -> Result<(), PowerGone>
         ensures cause { CountsCut (chip_faults self.old) (chip_faults self.new) result }
+        ensures schedule { schedule_of self.new ≡ schedule_of self.old }
         ensures flash { chip_flash self.new ≡ chip_flash self.old }
         ensures shape { chip_shape self.new ≡ chip_shape self.old }
         ensures bad { chip_bad self.new ≡ chip_bad self.old }
@@ -293,7 +297,7 @@ impl Nand for Chip {
     ghost use Rattle.std.specs.Prelude.{◌+◌, ◌%◌, ◌^◌, None, OnOk, slice_index_or, slice_set};
     ghost use Rattle.durable.specs.Updates.{sole};
     ghost use Rattle.durable.specs.declared.command.Command.TheVariants as command;
-    ghost use Rattle.nand.specs.Chip.{chip_bad, chip_erases, chip_faults, chip_flash, chip_shape, coming, schedule_of, Ends};
+    ghost use Rattle.nand.specs.Chip.{after_command, chip_bad, chip_erases, chip_faults, chip_flash, chip_shape, coming, schedule_of, Ends};
     ghost use Rattle.nand.specs.Nand.{CountsFault, Performs, value_with};
 
     ghost flash = { chip_flash };
@@ -355,8 +359,10 @@ impl Nand for Chip {
         ensures bad { chip_bad self.new ≡ chip_bad self.old }
         ensures cause { CountsFault (chip_faults self.old) (chip_faults self.new) result }
         ensures ends { Ends (coming (schedule_of self.old)) result }
+        ensures schedule { schedule_of self.new ≡ after_command (schedule_of self.old) }
     {
         let Ok(main) = main.to_vec(self.alloc) else {
+            let _ = self.fate();
             return self.failed();
         };
         self.fill(at, Page::Version(stamp, main))
@@ -369,8 +375,10 @@ impl Nand for Chip {
         ensures bad { chip_bad self.new ≡ chip_bad self.old }
         ensures cause { CountsFault (chip_faults self.old) (chip_faults self.new) result }
         ensures ends { Ends (coming (schedule_of self.old)) result }
+        ensures schedule { schedule_of self.new ≡ after_command (schedule_of self.old) }
     {
         let Some(page) = copied(self.alloc, &self.blocks, from) else {
+            let _ = self.fate();
             return self.failed();
         };
         self.fill(to, page)
@@ -383,6 +391,7 @@ impl Nand for Chip {
         ensures bad { chip_bad self.new ≡ chip_bad self.old }
         ensures cause { CountsFault (chip_faults self.old) (chip_faults self.new) result }
         ensures ends { Ends (coming (schedule_of self.old)) result }
+        ensures schedule { schedule_of self.new ≡ after_command (schedule_of self.old) }
         ensures counted { OnOk result (chip_erases self.new
             ≡ slice_set (chip_erases self.old) block
             ((slice_index_or (chip_erases self.old) block 0 + 1) % 2 ^ 64)) }

@@ -13,7 +13,7 @@ ghost use Rattle.durable.specs.declared.command.Command.TheVariants as command;
 ghost use Rattle.nand.specs.Cells.{IsWiped, contents_of, flash_in};
 ghost use Rattle.nand.specs.Chip.{Ends, HasSame, after_command, chip_bad, chip_erases, chip_faults, chip_flash, chip_shape, coming, schedule_of};
 ghost use Rattle.nand.specs.Histories.{IsFor, Leads, update_by};
-ghost use Rattle.nand.specs.Nand.{CountsCut, CountsFault, Performs, ReadsMain, ReadsStamp, noted_of, other_fault, value_with};
+ghost use Rattle.nand.specs.Nand.{CountsCut, CountsFault, HasBytes, Performs, ReadsMain, ReadsStamp, noted_of, other_fault, value_with};
 ghost use Rattle.nand.specs.Numbers.{IsInReserve, IsInUse, IsOrder, Marks, chip_block, chip_page, good_before, is_marked, most_in_use, numbered};
 ghost use Rattle.nand.specs.Opened.{CanFreeInUse, CanOpen, Fails, HasMarkedFailed, IsClosed, IsOpenLayer, IsRefusal, IsSameDevice, IsSpent, IsTrueCause};
 ghost use Rattle.nand.specs.Opened.{KeepsDevice, ReadsSector, Were, device_on, layer_sectors, most_used, number_of, reserve_of, update_of};
@@ -338,6 +338,17 @@ pub fn orders()
     ensures marked { (now : List Bool) → Marks [] now 1 → is_marked now 1 ≡ true }
     ensures unmarked { (now : List Bool)
         → Marks (true ∷ false ∷ []) now 1 → is_marked now 0 ≡ true }
+{}
+
+/// Which bytes the flash has of a sector.
+pub fn bytes_of_sectors()
+    ensures there { (f : Flash) → f 1 2 ≡ Version (sole 8) 3 (Some (5 ∷ []))
+        → HasBytes f 8 (5 ∷ []) }
+    ensures nowhere { (f : Flash) → IsErased f → ¬ HasBytes f 8 [] }
+    ensures other_sector { (f : Flash) → ((b p : ℕ) → f b p ≡ Version (sole 9) 3 (Some []))
+        → ¬ HasBytes f 8 [] }
+    ensures other_bytes { (f : Flash) → ((b p : ℕ) → f b p ≡ Version (sole 8) 3 (Some []))
+        → ¬ HasBytes f 8 (5 ∷ []) }
 {}
 
 /// Which versions a call adds.

@@ -1,6 +1,7 @@
 ghost use Rattle.std.specs.Prelude.{◌≡◌, ◌≢◌, ◌⊎◌, ◌<◌, ℕ, Bool, false, List, ◌∷◌, [], length};
 ghost use Rattle.std.specs.Prelude.{None, Some, Ok, Err, OnOk, OnErr, IfOk, IfErr, if◌then◌else◌};
 ghost use Rattle.geometry.specs.Sectors.{was_of};
+ghost use Rattle.geometry.specs.declared.answer.Got.TheVariants as got;
 ghost use Rattle.geometry.specs.declared.answer.Was.TheVariants as was;
 ghost use Rattle.durable.specs.Collecting.{HasCapacity};
 ghost use Rattle.durable.specs.Updates.{Covers, LiesWithin, Update, array_after, sole};
@@ -12,6 +13,7 @@ ghost use Rattle.nand.specs.Numbers.{good_before};
 ghost use Rattle.nand.specs.Opened.{CanOpen, Fails, HasMarkedFailed, IsClosed, IsOpenLayer, IsSameDevice, IsTrueCause, KeepsDevice, ReadsSector, Were};
 ghost use Rattle.nand.specs.Opened.{device_on, layer_sectors, number_of, reserve_of, update_of};
 ghost use Rattle.nand.specs.Looks.{Looks};
+ghost use Rattle.nand.specs.Nand.{HasBytes, IsNoVersion};
 ghost use Rattle.nand.specs.Programs.{ProgramsOnce};
 ghost use Rattle.nand.specs.declared.failure.Failure.TheVariants as failure;
 ghost use Rattle.nand.specs.declared.failure.OpenFailure.TheVariants as why;
@@ -55,6 +57,13 @@ fn found(reading: Reading, sector: u32) -> Result<Was, Failure>
         → reading ≡ outcome.Version (record { extent = e; number = n; trimmed = t })
         → result ≡ Ok (if t then was.Empty else was.Written) }
     ensures lost { OnErr result (result ≡ Err failure.Lost) }
+    ensures none { IsNoVersion reading → result ≡ Err failure.Lost }
+    ensures covers { (e : Sectors) (n : ℕ) (t : Bool)
+        → reading ≡ outcome.Version (record { extent = e; number = n; trimmed = t })
+        → OnOk result (Covers e sector) }
+    ensures written { (e : Sectors) (n : ℕ) (t : Bool)
+        → reading ≡ outcome.Version (record { extent = e; number = n; trimmed = t })
+        → result ≡ Ok was.Written → t ≡ false }
 {
     match reading {
         Reading::Version(stamp) => {
@@ -165,6 +174,10 @@ impl<N: Nand> Durable<N> {
         requires page { length out.old ≡ (N.shape self.old.nand).page_bytes }
         ensures gives { (updates : List Update) → IsOpenLayer N.flash N.shape N.bad self.old updates
             → IfOk result (λ got. ReadsSector (array_after updates sector) got out.new) }
+
+        // Data are a version of the sector in the flash, also where pages have become unreadable.
+        ensures data { result ≡ Ok got.Data
+            → HasBytes (N.flash self.old.nand) sector out.new }
 
         // It changes nothing, and fails only without power.
         ensures open { (updates : List Update) → IsOpenLayer N.flash N.shape N.bad self.old updates

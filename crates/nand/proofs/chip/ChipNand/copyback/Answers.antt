@@ -1,4 +1,4 @@
-use Rattle.std.proofs.Common.{inl}
+use Rattle.std.proofs.Common.{◌∙◌, inl}
 use Rattle.nand.specs.declared.flash.Fault.TheVariants as fault
 use Rattle.nand.specs.Chip.{chip_flash}
 use Rattle.nand.proofs.Chips.{ended, same_left}
@@ -8,4 +8,5 @@ pub returns-in_default-clause-does : goal.returns-in_default-clause-does
 returns-in_default-clause-does c _ =
     let f = chip_flash c.args.self.now in
     let t = chip_flash c.failed.new.self in
-    ended c.failed.result fault.Failed c.failed.ensures.failed f t c.args.to (f c.args.from.block c.args.from.page) (inl (same_left f t c.failed.ensures.flash))
+    ended c.failed.result fault.Failed c.failed.ensures.failed f t c.args.to (f c.args.from.block c.args.from.page)
+    (inl (same_left f t (c.failed.ensures.flash ∙ c.fate.ensures.same.flash)))

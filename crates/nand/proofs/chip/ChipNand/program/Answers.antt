@@ -1,4 +1,4 @@
-use Rattle.std.proofs.Common.{inl}
+use Rattle.std.proofs.Common.{◌∙◌, inl}
 use Rattle.durable.specs.Flash.{Version}
 use Rattle.nand.specs.declared.flash.Fault.TheVariants as fault
 use Rattle.nand.specs.Chip.{chip_flash}
@@ -11,4 +11,5 @@ returns-in_default-clause-does c _ =
     let f = chip_flash c.args.self.now in
     let t = chip_flash c.failed.new.self in
     ended c.failed.result fault.Failed c.failed.ensures.failed f t c.args.at
-    (Version c.args.stamp.extent c.args.stamp.number (value_with c.args.stamp.trimmed c.args.main.now)) (inl (same_left f t c.failed.ensures.flash))
+    (Version c.args.stamp.extent c.args.stamp.number (value_with c.args.stamp.trimmed c.args.main.now))
+    (inl (same_left f t (c.failed.ensures.flash ∙ c.fate.ensures.same.flash)))
