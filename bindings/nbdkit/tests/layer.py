@@ -41,6 +41,10 @@ class Ranking:
     def fewest(self, beside):
         return next(block for block in self.order if block != beside)
 
+    def free(self, turn):
+        """A block without live pages, in each turn another one."""
+        return self.order[turn % self.starts[1]]
+
 
 class Layer:
     """Where each sector is, and the page to be programmed next. `pages_of` has the sector of each page of a block, or None."""
@@ -50,7 +54,7 @@ class Layer:
         self.mount()
 
     def mount(self):
-        self.next, self.hand, self.ranking = None, 0, Ranking(len(self.pages_of), self.pages)
+        self.next, self.hand, self.turn, self.ranking = None, 0, 0, Ranking(len(self.pages_of), self.pages)
         for sector in sorted(self.place):
             self.ranking.gains(self.place[sector][0])
 
@@ -68,12 +72,14 @@ class Layer:
     def write(self, sector):
         """The commands of a write, in order: their kind, and the blocks that they are of."""
         while True:
-            block = self.next and self.next[0]
-            victim = self.ranking.fewest(block)
             if self.next is None:
-                self.next, self.pages_of[victim] = (victim, 0), [None] * self.pages
-                yield "erase", victim, victim
-            elif self.ranking.live[victim] == 0:
+                block = self.ranking.free(self.turn)
+                self.next, self.turn, self.pages_of[block] = (block, 0), self.turn + 1, [None] * self.pages
+                yield "erase", block, block
+                continue
+            block = self.next[0]
+            victim = self.ranking.fewest(block)
+            if self.ranking.live[victim] == 0:
                 self._put(sector)
                 yield "program", block, block
                 return
