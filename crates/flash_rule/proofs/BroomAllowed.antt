@@ -12,7 +12,6 @@ use Rattle.flash_rule.proofs.Wiping.{row_of, wiped_index, wipe_world, wipes_word
 use Rattle.flash_rule.specs.BroomPlays.{CanWipe, broom_look_told, stamp_told, source_told, move_told, wipe_told}
 
 module _ (z : Numbers) (slots id : ℕ) (me : Sitter) where
-  -- ---- look
   -- a broom looks at a sector
   pub broom_look_allowed : (s : ℕ) → is_player me.0.role ≡ true → s < z.sectors
       → Allows (Ruled z) slots id me s (λ n. n) (broom_look_told (step slots s 0 0 none) me)
@@ -22,7 +21,6 @@ module _ (z : Numbers) (slots id : ℕ) (me : Sitter) where
       let told = subst (λ n. Named me.0 s n h.0) (sym (fits.sectors s low)) h.2 in
       (h.0, keeps, tt, ruled_kept on s h.0 (get_or t.words s 0) (omega arith) refl h.1, (refl, told))
 
-  -- ---- inspection
   -- a broom looks at the next sector of its inspection
   pub inspect_allowed : (b s : ℕ) (p : PinWord) → is_broom me.0.role ≡ true → CanInspect me.0 b p s → s < z.sectors
       → Allows (Ruled z) slots id me s (λ n. n) (inspect_told (step slots s 0 0 none) me)
@@ -33,7 +31,6 @@ module _ (z : Numbers) (slots id : ℕ) (me : Sitter) where
       let each : (c : ℕ) (q : PinWord) → CanInspect me.0 c q s → Inspected me.0 c q.generation s (get_or t.words s 0) h.0 = grind (arith, same_end, pin_same) in
       (h.0, keeps, tt, ruled_kept on s h.0 (get_or t.words s 0) (omega arith) refl h.1, (refl, each))
 
-  -- ---- get
   -- a broom reads the stamp of its victim's next page
   pub stamp_allowed : (o : Owned) → is_player me.0.role ≡ true → me.0.numbers ≡ z → CanGetStamp me.0 o
       → Allows (Ruled z) slots id me (page_index z o.block me.0.cleared + z.words) (λ n. n)
@@ -79,7 +76,6 @@ module _ (z : Numbers) (slots id : ℕ) (me : Sitter) where
         ),
       )
 
-  -- ---- move
   -- a broom exchanges the map word of its source's sector
   pub move_allowed : (x : Source) (copy : MapWord) → is_player me.0.role ≡ true → CanMove me.0 x copy → x.stamp < z.sectors
       → Allows (Ruled z) slots id me x.stamp (λ n. either (n == map_word x.page) (map_word copy) n)
@@ -108,7 +104,6 @@ module _ (z : Numbers) (slots id : ℕ) (me : Sitter) where
       (ruled_kept on s (after me.0.moves) new (omega arith) (ap (λ b. either b (map_word copy) n) (ne_eqb n (map_word x.page) other)) h.0)
       h.1)
 
-  -- ---- wipe
   -- a broom sets the next word of its erasing block to all ones
   pub wipe_allowed : (o : Owned) → is_player me.0.role ≡ true → me.0.numbers ≡ z → CanWipe me.0 o
       → Allows (Ruled z) slots id me (page_index z o.block 0 + me.0.wiped) (λ _. blank_word)

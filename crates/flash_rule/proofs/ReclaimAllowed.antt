@@ -17,7 +17,6 @@ module _ (z : Numbers) (slots id : ℕ) (me : Sitter) where
   numbers_now : {g : World} {vs : List View} → Seated z g vs id me.0 → is_broom me.0.role ≡ true → me.0.numbers ≡ z
   numbers_now sat broom = (view_of sat).kind.numbers (broom_live me.0.role broom)
 
-  -- ---- state
   -- a broom loads the state of a block
   pub state_allowed : (b : ℕ) → is_broom me.0.role ≡ true → b < z.blocks
       → Allows (Ruled z) slots id me (pin_index z b) (λ n. n) (state_told (step slots (pin_index z b) 0 0 none) me)
@@ -144,7 +143,6 @@ module _ (z : Numbers) (slots id : ℕ) (me : Sitter) where
       )) in
       (e.0, keeps, tt, e.1, (refl, λ c y can' is first. told_of (λ c y. Condemned v c y n e.0) b p numbers can.fits e.2 c y can'.fits is first))
 
-  -- ---- drain
   -- the owner of a cleared victim gives it up
   pub drain_allowed : (o : Owned) → CanDrain me.0 o
       → Allows (Ruled z) slots id me (pin_index z o.block) (λ n. (n + NEXT_PHASE) % 2 ^ 64) (drain_told (step slots (pin_index z o.block) NEXT_PHASE 0 none) me)

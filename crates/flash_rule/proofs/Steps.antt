@@ -18,7 +18,6 @@ use Rattle.flash_rule.specs.Plays.{CanPut, look_told, write_told, new_told, trim
 use Rattle.geometry.proofs.PinBits.{next_phase, counts, takes_free, takes_taken}
 
 module _ (z : Numbers) (slots id : ℕ) (me : Sitter) where
-  -- ---- look
   look_any : {g : World} {vs : List View} (sat : Seated z g vs id me.0) (s : ℕ) → is_pass me.0.role ≡ true → is_unpinned me.0.pin ≡ true → s < z.sectors
       → (x : Option MapWord) → g.map s ≡ x → (w : View) × Lawful z g (set vs id w) × Looked me.0 s (sector_word x) w
   look_any sat s pass unpinned low None is = look_empty sat s pass unpinned is low
@@ -33,7 +32,6 @@ module _ (z : Numbers) (slots id : ℕ) (me : Sitter) where
       let told = subst (λ n. Looked me.0 s n h.0) (sym (fits.sectors s low)) h.2 in
       (h.0, keeps, tt, ruled_kept on s h.0 (get_or t.words s 0) (omega arith) refl h.1, (refl, told))
 
-  -- ---- place
   -- a pass trims a sector
   pub trim_allowed : (s : ℕ) → is_pass me.0.role ≡ true → s < z.sectors → Allows (Ruled z) slots id me s (λ _. 0) (trim_told (step slots s 0 0 none) me)
   trim_allowed s pass low t (g, fits, law) _ at _ =
@@ -107,7 +105,6 @@ module _ (z : Numbers) (slots id : ℕ) (me : Sitter) where
       let named = word_named (g.map s) (λ e. other (found ∙ e)) in
       answer (g.map s) (ap (λ b. either b word n) (ne_eqb n UNMAPPED other) ∙ found) (leaves on.sat is.1 s low named.0 value named.1))
 
-  -- ---- take
   -- a pass or a broom loads a block's word before it takes the block
   pub test_allowed : (b : ℕ) → is_player me.0.role ≡ true → b < z.blocks
       → Allows (Ruled z) slots id me (pin_index z b) (λ n. n) (test_told (step slots (pin_index z b) 0 0 none) me)
@@ -155,7 +152,6 @@ module _ (z : Numbers) (slots id : ℕ) (me : Sitter) where
       (λ free. absurd (not free)) (λ _. refl))
       (phase_or_not p.phase Free)
 
-  -- ---- put
   -- the owner of an open block puts the next word of its first page not written
   pub put_allowed : (o : Owned) (x : ℕ) → is_player me.0.role ≡ true → me.0.numbers ≡ z → CanPut me.0 o
       → Allows (Ruled z) slots id me (page_index z o.block (next_page o).page + length (words_in me.0.work o)) (λ _. x)
@@ -179,7 +175,6 @@ module _ (z : Numbers) (slots id : ℕ) (me : Sitter) where
       ap after_put (one_entry me.0.owns can.own can'.own at.0) in
       (after_put o, keeps, tt, (after, fitting, puts_word sat x player can.own can.opened low.0 low.1 can.settled), (refl, each))
 
-  -- ---- count
   -- the owner of an open block counts the page that it has filled
   pub count_allowed : (o : Owned) (x : Work) → is_player me.0.role ≡ true → me.0.numbers ≡ z → CanCount me.0 o x
       → Allows (Ruled z) slots id me (pin_index z o.block) (λ n. (n + PAGE_WRITTEN) % 2 ^ 64)
@@ -211,7 +206,6 @@ module _ (z : Numbers) (slots id : ℕ) (me : Sitter) where
         ),
       )
 
-  -- ---- close
   -- the owner of an open block gives it up, with nothing uncounted
   pub close_allowed : (o : Owned) → me.0.numbers ≡ z → CanClose me.0 o
       → Allows (Ruled z) slots id me (pin_index z o.block) (λ n. (n + NEXT_PHASE) % 2 ^ 64) (close_told (step slots (pin_index z o.block) NEXT_PHASE 0 none) me)
@@ -224,7 +218,6 @@ module _ (z : Numbers) (slots id : ℕ) (me : Sitter) where
         closes sat can.own can.opened can.settled,
       ))
 
--- ---- get
 -- a pass reads the page of its accepted pin
 pub get_allowed : (z : Numbers) (slots id : ℕ) (me : Sitter) (m : MapWord) (value : List ℕ) (i : ℕ) → me.0.numbers ≡ z → me.0.pin ≡ Accepted m value
     → m.block < z.blocks → m.page < z.pages → i < z.words
