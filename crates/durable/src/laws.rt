@@ -318,7 +318,6 @@ pub fn stamps()
 {}
 
 /// Which sectors have values, by the pages that were read.
-#[tactic(auto, unfolding(crate::specs::Marks::is_valued))]
 pub fn values()
     ensures trim { is_trim None ≡ true }
     ensures bytes { (bytes : List ℕ) → is_trim (Some bytes) ≡ false }

@@ -1,4 +1,5 @@
 use Rattle.std.proofs.Common.{inr, false, refl, arith}
+use Rattle.std.proofs.lemmas.Grind.{common_steps}
 use Rattle.durable.specs.Updates.{sole}
 use Rattle.durable.specs.Marks.{is_valued}
 use Rattle.durable.specs.Mounting.{TellsValue}
@@ -19,3 +20,11 @@ returns-clause-each c f bytes is told =
 
 pub returns-clause-not_marked : goal.returns-clause-not_marked
 returns-clause-not_marked c old new marks = marks.others 2 (λ has. omega (arith, has))
+
+pub returns-clause-bit : goal.returns-clause-bit
+unfolding is_valued
+returns-clause-bit c = (refl, refl, refl)
+
+pub returns-clause-kept : goal.returns-clause-kept
+unfolding is_valued
+returns-clause-kept c x y kept needed = grind (arith, common_steps, needed.0, needed.1 0, needed.1 1)
