@@ -6,6 +6,7 @@ import shutil
 import subprocess
 import time
 
+import wrong_edits
 from running import HERE, Failure, Server, kill, sanitized_by, side_by_side, want
 
 # Parameters, and words of the error that each has to get. A block of 64 pages has 262,144 bytes.
@@ -116,47 +117,26 @@ def help_and_page(shop):
     return ""
 
 
-class Edit:
-    """A wrong plugin: changes of one file, the part that has to refuse it, and why: a pattern of what that part says."""
-
-    def __init__(self, path):
-        self.name, self.pairs, self.part, self.why = path.stem, [], None, None
-        for line in path.read_text().splitlines()[1:]:
-            key, _, text = line.partition(": ")
-            text = text.replace("\\n", "\n")
-            if key == "old":
-                self.pairs.append([text])
-            elif key == "new":
-                self.pairs[-1].append(text)
-            else:
-                want(key in ("part", "why", "file"), f"{path.name}: {line}")
-                setattr(self, key, text)
-        want(self.part and self.why, f"{path.name} doesn't say which part refuses it, and why")
-
-    def make(self, shop, kind):
-        """The plugin with the changes, in a folder of its own, with the objects of the plugin itself that are as they would be."""
-        folder = shop.folder / "wrong" / self.name
-        shutil.copytree(HERE, folder, ignore=shutil.ignore_patterns("out", "tests", "wrong"))
-        (folder / "out").mkdir()
-        for built in (HERE / "out" / kind).glob("*.o"):
-            shutil.copy2(built, folder / "out")
-        source = folder / self.file
-        text = source.read_text()
-        for old, new in self.pairs:
-            want(text.count(old) == 1, f"{self.name}: the old text stands {text.count(old)} times in {self.file}")
-            text = text.replace(old, new)
-        source.write_text(text)
-        flags = [f"CFLAGS={sanitized_by(kind)}"] if kind else []
-        place = [f"{name}={(HERE / value).resolve()}" for name, value in (("LIBRARY", os.environ.get("LIBRARY", "../out/libmintlintel.a")),
-                                                                         ("INCLUDE", os.environ.get("INCLUDE", "../include")))]
-        shop.run(["make", "-s", "-C", folder, *place, *flags, "out/nbdkit-mintlintel-plugin.so"])
-        return folder / "out/nbdkit-mintlintel-plugin.so"
+def wrong_plugin(shop, edit):
+    """The plugin with the changes of an edit, in a folder of its own, with the objects of the plugin itself that are as they would be."""
+    kind = edit.part.split("_")[-2] if edit.part.endswith("_sanitizer") else ""
+    folder = shop.folder / "wrong" / edit.name
+    shutil.copytree(HERE, folder, ignore=shutil.ignore_patterns("out", "tests"))
+    (folder / "out").mkdir()
+    for built in (HERE / "out" / kind).glob("*.o"):
+        shutil.copy2(built, folder / "out")
+    (folder / edit.file).write_text(edit.changed(folder))
+    flags = [f"CFLAGS={sanitized_by(kind)}"] if kind else []
+    place = [f"{name}={(HERE / value).resolve()}" for name, value in (("LIBRARY", os.environ.get("LIBRARY", "../out/libmintlintel.a")),
+                                                                     ("INCLUDE", os.environ.get("INCLUDE", "../include")))]
+    shop.run(["make", "-s", "-C", folder, *place, *flags, "out/nbdkit-mintlintel-plugin.so"])
+    return folder / "out/nbdkit-mintlintel-plugin.so"
 
 
 def refusal(shop, edit, parts):
     """What a part says against a wrong plugin, in one line; None where it passes. A plugin that can't be built fails the check itself."""
     shop.end_kept()
-    shop.wrong = edit.make(shop, edit.part.split("_")[-2] if edit.part.endswith("_sanitizer") else "")
+    shop.wrong = wrong_plugin(shop, edit)
     try:
         parts[edit.part](shop)
         return None
@@ -180,7 +160,7 @@ def is_refused(shop, edit, parts):
 def wrong_plugins(shop, parts, alone):
     """Each wrong plugin is refused by the part that it names, which the plugin itself has passed, and for the reason that it names: a
     client that is out of time, or a test that can't be built, refuses nothing unless that is the reason."""
-    edits = [Edit(path) for path in sorted((HERE / "wrong").glob("*.edit"))]
+    edits = wrong_edits.edits(HERE / "wrong.edits")
     shop.options.long = False
     beside = sorted((edit for edit in edits if edit.part not in alone), key=lambda edit: "didn't end" not in edit.why)  # a deadlock takes longest
     failed = [edit.name for edit, is_so in zip(beside, side_by_side(shop, beside, lambda one, edit: is_refused(one, edit, parts))) if not is_so]
