@@ -1,49 +1,13 @@
 // Cold data by itself: which block is loosened, and that nothing else changes. The device is made by hand: its brooms don't run.
-#define NBDKIT_API_VERSION 2
 #include "../cold.h"
 
-#include <nbdkit-plugin.h>
-#include <stdarg.h>
-#include <stdio.h>
-#include <stdlib.h>
-#include <string.h>
-
-#include "../device.h"
+#include "over_device.h"
 
 enum { PAGE = 8, BLOCKS = 8, PAGES = 4, SECTORS = 12, MANY = 5, FEW = 1, COLD = 6 };
 
-static struct device device;
-static int failures;
-
 static void want(int is_so, const char *text) {
-    if (is_so)
-        return;
-    failures++;
-    printf("%s\n", text);
-}
-
-void nbdkit_error(const char *form, ...) {
-    (void) form;
-    want(0, "an error was told");
-}
-
-void nbdkit_set_error(int error) {
-    (void) error;
-}
-
-void nbdkit_debug(const char *form, ...) {
-    (void) form;
-}
-
-int options_worn_error(const struct options *options) {
-    (void) options;
-    return -1;
-}
-
-void options_tell_refusal(const struct options *options, uint32_t code) {
-    (void) options;
-    (void) code;
-    want(0, "the device was refused");
+    if (!is_so)
+        fail("%s", text);
 }
 
 static uint32_t place(uint32_t sector) {

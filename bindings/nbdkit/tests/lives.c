@@ -1,16 +1,11 @@
 // lives: devices that four clients of different rates write until the first refusal, in order or by zipf: how much of all possible programs were the
 // clients', and not copies. In order that is most of them, since each client fills blocks of its own, whose pages die together, and the blocks wear
 // evenly. By zipf they don't wear evenly, as that would cost many copies. Brooms and writes take turns, so it is nearly the same each time.
-#define NBDKIT_API_VERSION 2
 #include <math.h>
-#include <nbdkit-plugin.h>
-#include <stdarg.h>
-#include <stdio.h>
-#include <stdlib.h>
 #include <unistd.h>
 
-#include "../device.h"
 #include "../random.h"
+#include "over_device.h"
 
 enum { CLIENTS = 4, PAGE = 8, BLOCKS = 288, PAGES = 64, ENDURANCE = 10, WRITES_OF_A_TURN = 16, PATIENCE_S = 60 };
 #define SKEW 1.2
@@ -23,41 +18,6 @@ static const struct life {
     {11428, 101, 1, 0, {30, 25, 24, 21}, 93}, {11428, 99, 2, 0, {30, 25, 24, 21}, 93},
     {11428, 101, 1, 1, {30, 25, 24, 21}, 63}, {11428, 99, 2, 1, {30, 25, 24, 21}, 63},
 };
-
-static struct device device;
-static int failures;
-
-static void fail(const char *form, ...) {
-    va_list words;
-    va_start(words, form);
-    vprintf(form, words);
-    va_end(words);
-    printf("\n");
-    failures++;
-}
-
-// The plugin may tell that the device is full, or near its end.
-void nbdkit_error(const char *form, ...) {
-    (void) form;
-}
-
-void nbdkit_set_error(int error) {
-    (void) error;
-}
-
-void nbdkit_debug(const char *form, ...) {
-    (void) form;
-}
-
-int options_worn_error(const struct options *options) {
-    (void) options;
-    return -1;
-}
-
-void options_tell_refusal(const struct options *options, uint32_t code) {
-    (void) options;
-    fail("refused (%u)", code);
-}
 
 static void open_device(const struct life *life) {
     uint32_t low = life->spare / 4 < 8 + 2 * life->brooms ? life->spare / 4 : 8 + 2 * life->brooms, more = life->spare / 4 < 8 ? life->spare / 4 : 8;

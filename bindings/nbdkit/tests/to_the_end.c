@@ -4,64 +4,14 @@
 // counted are those of the blocks; with long pages, some copies are of sectors that are written meanwhile. Then, while a tenth of the blocks or more
 // can be erased, sectors of these are trimmed one by one: before each broom has room for a block's pages but one, and one page more is dead, a write
 // has to be done again. No time decides: a write that waits for what can't come ends the test.
-#define NBDKIT_API_VERSION 2
-#include <nbdkit-plugin.h>
-#include <stdarg.h>
-#include <stdio.h>
-#include <stdlib.h>
-#include <string.h>
 #include <unistd.h>
 
-#include "../device.h"
+#include "over_device.h"
 
 enum { LONG_PAGE = 4096, MOST_BLOCKS = 30, MOST_PAGES = 8, MOST_CLIENTS = 4, MOST_OF_A_REQUEST = 4, MOST_REFUSALS = 12, PATIENCE_S = 240, DEVICES = 200 };
 
-static struct device device;
 static unsigned tried, taken_again;
-static int failures;
 static _Atomic int has_ended;
-
-static void fail(const char *form, ...) {
-    const struct options *o = &device.options;
-    va_list words;
-    va_start(words, form);
-    printf("device %u (%u sectors, %u blocks of %u pages, endurance %u, %u handles, %u brooms): ", tried, o->sectors, o->blocks, o->pages, o->endurance,
-           o->hosts, o->brooms);
-    vprintf(form, words);
-    printf("\n");
-    va_end(words);
-    failures++;
-}
-
-// The plugin may tell that the device is full, and nothing else.
-void nbdkit_error(const char *form, ...) {
-    if (strstr(form, "no block is free"))
-        return;
-    char text[500];
-    va_list words;
-    va_start(words, form);
-    vsnprintf(text, sizeof text, form, words);
-    va_end(words);
-    fail("%s", text);
-}
-
-void nbdkit_set_error(int error) {
-    (void) error;
-}
-
-void nbdkit_debug(const char *form, ...) {
-    (void) form;
-}
-
-int options_worn_error(const struct options *options) {
-    (void) options;
-    return -1;
-}
-
-void options_tell_refusal(const struct options *options, uint32_t code) {
-    (void) options;
-    fail("refused (%u)", code);
-}
 
 static uint32_t draw(uint32_t *random, uint32_t count) {
     *random = *random * 1664525 + 1013904223;
@@ -81,6 +31,8 @@ static void choose(uint32_t *random) {
     o->endurance = 1 + draw(random, draw(random, 2) ? 4 : 20);
     o->low = 1 + draw(random, 3);
     o->high = o->low + draw(random, 3);
+    snprintf(device_name, sizeof device_name, "device %u (%u sectors, %u blocks of %u pages, endurance %u, %u handles, %u brooms): ", tried, o->sectors,
+             o->blocks, o->pages, o->endurance, o->hosts, o->brooms);
 }
 
 // ---- Clients.
