@@ -90,7 +90,7 @@ fn open(
     let Ok(mount) = Mount::begin_over(alloc, read_blocks, blocks, pages, sectors) else {
         return NO_MEMORY;
     };
-    if handle.fill(alloc, Seat::Mounting(mount)) {
+    if handle.typed().fill(alloc, Seat::Mounting(mount)) {
         DONE
     } else {
         NO_MEMORY
@@ -125,9 +125,6 @@ pub extern "C" fn mintlintel_core_note(
         (λ m. HasMount (seat_of handle.new) (IsNoted (stamp_of has_version (record { first = first; count = count }) number) m)) }
     ensures same { result ≢ 0 → seat_of handle.new ≡ seat_of handle.old }
 {
-    let Some(mut seat) = handle.take(alloc) else {
-        return CLOSED;
-    };
     let extent = Extent { first, count };
     let is_trim = has_version == 2;
     let stamp = if has_version == 0 {
@@ -139,13 +136,13 @@ pub extern "C" fn mintlintel_core_note(
             is_trim,
         })
     };
-    let code = if has_version > 2 {
-        refuse(&seat)
-    } else {
-        note(&mut seat, stamp)
-    };
-    handle.put(seat);
-    code
+    handle.typed().on(alloc, |seat| {
+        if has_version > 2 {
+            refuse(seat)
+        } else {
+            note(seat, stamp)
+        }
+    })
 }
 
 // The code of a note of something that is no stamp.
@@ -185,6 +182,7 @@ pub extern "C" fn mintlintel_core_finish(alloc: Global, handle: &mut Handle) -> 
     ensures block { result ≡ 7 → seat_of handle.new ≡ None }
     ensures same { result ≢ 0 → result ≢ 6 → result ≢ 7 → seat_of handle.new ≡ seat_of handle.old }
 {
+    let handle = handle.typed();
     let Some(seat) = handle.take(alloc) else {
         return CLOSED;
     };
@@ -231,12 +229,9 @@ pub extern "C" fn mintlintel_core_page(
     ensures report { result ≢ 1 → out.new ≡ out.old }
     ensures same { seat_of handle.new ≡ seat_of handle.old }
 {
-    let Some(seat) = handle.take(alloc) else {
-        return CLOSED;
-    };
-    let code = page(&seat, sector, out);
-    handle.put(seat);
-    code
+    handle
+        .typed()
+        .on_with(alloc, out, |seat, out| page(seat, sector, out))
 }
 
 fn page(seat: &Seat, sector: u32, out: &mut PlaceReport) -> u32
@@ -271,15 +266,10 @@ pub extern "C" fn mintlintel_core_next(
     ensures report { result ≢ 0 → out.new ≡ out.old }
     ensures same { seat_of handle.new ≡ seat_of handle.old }
 {
-    let Some(seat) = handle.take(alloc) else {
-        return CLOSED;
-    };
-    let code = match &*seat {
+    handle.typed().on_with(alloc, out, |seat, out| match seat {
         Seat::Mounted(layer) => layer.next(Extent { first, count }, out),
         Seat::Mounting(_) => WRONG_KIND,
-    };
-    handle.put(seat);
-    code
+    })
 }
 
 /// The command that comes next for these sectors has succeeded.
@@ -299,15 +289,11 @@ pub extern "C" fn mintlintel_core_done(
     ensures same { result ≢ 0 → seat_of handle.new ≡ seat_of handle.old }
     ensures report { command.new ≡ command.old }
 {
-    let Some(mut seat) = handle.take(alloc) else {
-        return CLOSED;
-    };
-    let code = match &mut *seat {
-        Seat::Mounted(layer) => layer.done(Extent { first, count }, *command),
+    let command = *command;
+    handle.typed().on(alloc, |seat| match seat {
+        Seat::Mounted(layer) => layer.done(Extent { first, count }, command),
         Seat::Mounting(_) => WRONG_KIND,
-    };
-    handle.put(seat);
-    code
+    })
 }
 
 /// What has succeeded since the mount.
@@ -322,18 +308,13 @@ pub extern "C" fn mintlintel_core_counts(
     ensures report { result ≢ 0 → out.new ≡ out.old }
     ensures same { seat_of handle.new ≡ seat_of handle.old }
 {
-    let Some(seat) = handle.take(alloc) else {
-        return CLOSED;
-    };
-    let code = match &*seat {
+    handle.typed().on_with(alloc, out, |seat, out| match seat {
         Seat::Mounted(layer) => {
             *out = layer.totals;
             DONE
         }
         Seat::Mounting(_) => WRONG_KIND,
-    };
-    handle.put(seat);
-    code
+    })
 }
 
 /// How many losses the mount has found.
@@ -344,18 +325,13 @@ pub extern "C" fn mintlintel_core_losses(alloc: Global, handle: &mut Handle, out
     ensures report { result ≢ 0 → out.new ≡ out.old }
     ensures same { seat_of handle.new ≡ seat_of handle.old }
 {
-    let Some(seat) = handle.take(alloc) else {
-        return CLOSED;
-    };
-    let code = match &*seat {
+    handle.typed().on_with(alloc, out, |seat, out| match seat {
         Seat::Mounted(layer) => {
             *out = layer.core.losses();
             DONE
         }
         Seat::Mounting(_) => WRONG_KIND,
-    };
-    handle.put(seat);
-    code
+    })
 }
 
 /// Closes a handle. One that is closed stays so.
@@ -363,5 +339,5 @@ pub extern "C" fn mintlintel_core_losses(alloc: Global, handle: &mut Handle, out
 pub extern "C" fn mintlintel_core_close(alloc: Global, handle: &mut Handle)
     ensures { seat_of handle.new ≡ None }
 {
-    let _seat = handle.take(alloc);
+    let _seat = handle.typed().take(alloc);
 }

@@ -5,7 +5,7 @@ pub const DONE: u32 = 0;
 /// A page has the newest version of the sector.
 pub const WRITTEN: u32 = 1;
 /// The handle is closed.
-pub const CLOSED: u32 = 2;
+pub const CLOSED: u32 = handles::CLOSED;
 /// The device has no such sector.
 pub const NO_SECTOR: u32 = 3;
 /// The heap has no room for the device.

@@ -1,11 +1,10 @@
-//! What C holds: two words, the first a slot, the second 1 if there is a seat in it.
+//! What C holds: a handle of seats, under a name that is not generic.
 ghost use Rattle.std.specs.Prelude.{◌≡◌};
 ghost use Rattle.handles.specs.Kept.{SaysWhetherOpen};
 
 use crate::seat::Seat;
 use crate::slot::Slot;
-use std::alloc::Global;
-use std::mem;
+use handles::may_go;
 
 /// A handle: closed, which is all zero bytes, or open, with a seat.
 #[repr(C)]
@@ -15,66 +14,24 @@ pub struct Handle {
     ghost known: { SaysWhetherOpen is_open slot.seat },
 }
 
-// This may be called only of a type whose values may go to another thread: the call in `fill` shows it of a handle.
-fn may_go<T: Send>(_value: &T) {}
-
 impl Handle {
-    ghost use Rattle.std.specs.Prelude.{Option, Some, None, option_map, is_some, true, false};
-    ghost use Rattle.handles.specs.Kept.{boxed};
-    ghost use Rattle.durable_exports.specs.Handles.{seat_of};
+    ghost use Rattle.std.specs.Prelude.{is_some};
+    ghost use Rattle.std.specs.Borrow.{sem};
+    ghost use Rattle.durable_exports.specs.Handles.{seat_of, LendsCore, typed_core};
 
     /// Whether the handle is open.
     pub(crate) fn is_open(&self) -> bool
         ensures { result ≡ is_some (seat_of self.now) }
     {
+        may_go(self);
         self.is_open > 0
     }
 
-    /// Takes the seat out, and leaves the handle closed.
-    pub(crate) fn take(&mut self, alloc: Global) -> Option<Box<Seat, Global>>
-        ensures seat { option_map boxed result ≡ seat_of self.old }
-        ensures closed { seat_of self.new ≡ None }
+    /// The handle with its type, which has the same words.
+    pub(crate) fn typed(&mut self) -> &mut handles::Handle<Seat>
+        ensures* lends { sem 𝓛 (LendsCore self.entry result) }
+        ensures value { result.now ≡ typed_core self.old }
     {
-        let Handle { slot, is_open } = mem::replace(
-            self,
-            Handle {
-                slot: Slot::of(handles::Slot::empty()),
-                is_open: 0,
-            },
-        );
-        if is_open == 0 {
-            slot.typed().end();
-            return None;
-        }
-        Some(slot.typed().into_box(alloc))
-    }
-
-    /// Puts a seat into a closed handle.
-    pub(crate) fn put(&mut self, seat: Box<Seat, Global>)
-        requires { seat_of self.old ≡ None }
-        ensures { seat_of self.new ≡ Some seat.value }
-    {
-        let Handle { slot, is_open: _ } = mem::replace(
-            self,
-            Handle {
-                slot: Slot::of(handles::Slot::filled(seat)),
-                is_open: 1,
-            },
-        );
-        slot.typed().end();
-    }
-
-    /// Puts a seat into a closed handle. If there is no memory for it, the seat is dropped, and the handle stays closed.
-    pub(crate) fn fill(&mut self, alloc: Global, seat: Seat) -> bool
-        requires { seat_of self.old ≡ None }
-        ensures filled { result ≡ true → seat_of self.new ≡ Some seat }
-        ensures closed { result ≡ false → seat_of self.new ≡ None }
-    {
-        may_go(self);
-        let Ok(seat) = Box::new(alloc, seat) else {
-            return false;
-        };
-        self.put(seat);
-        true
+        unsafe { &mut *(self as *mut Handle as *mut handles::Handle<Seat>) }
     }
 }

@@ -1,11 +1,10 @@
 //! The first word of a handle, as C sees it: a pointer without its type.
-ghost use Rattle.std.specs.Prelude.{◌≡◌, Option};
+ghost use Rattle.std.specs.Prelude.{Option};
 ghost use Rattle.std.specs.Coded.{coded_option};
 ghost use Rattle.handles.specs.Kept.{kept};
 ghost use Rattle.durable_exports.specs.declared.seat.Seat.{Seat};
 ghost use Rattle.durable_exports.specs.contracts.seat.Seat.{the_row};
 
-use crate::seat::Seat;
 use std::marker::Model;
 
 /// A pointer to a seat, or none. It is not `Drop`, so that no seat is lost.
@@ -19,21 +18,5 @@ impl Model for Slot {
     ghost also_owns = { λ s. kept the_row s.at s.seat };
 }
 
-// A seat may go to another thread, and so may the pointer to it. `Handle::fill` shows it.
+// A seat may go to another thread, and so may the pointer to it. `Handle::is_open` shows it.
 unsafe impl Send for Slot {}
-
-impl Slot {
-    pub(crate) fn of(slot: handles::Slot<Seat>) -> Slot
-        ensures { result.seat ≡ slot.value }
-    {
-        let handles::Slot { at } = slot;
-        Slot { at: at.cast() }
-    }
-
-    pub(crate) fn typed(self) -> handles::Slot<Seat>
-        ensures { result.value ≡ self.seat }
-    {
-        let Slot { at } = self;
-        handles::Slot { at: at.cast() }
-    }
-}

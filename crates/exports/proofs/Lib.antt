@@ -1,3 +1,2 @@
 pub mod Dealing
-mod Rows
 pub mod Told

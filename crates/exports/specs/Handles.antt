@@ -1,33 +1,25 @@
--- What a handle of C has, and what a call on its seat is.
-use Rattle.std.specs.Prelude.{◌≡◌, ℕ, Option, None, Some}
-use denote.Param.Members.{Once}
-use denote.Ref.{MutBor}
+-- What a handle of C has.
+use Rattle.std.specs.Prelude.{Option}
+use Rattle.std.specs.Borrow.{Lends, MutBor, Fml}
+use Rattle.handles.specs.declared.handle.Handle.{Handle as Typed}
+use Rattle.handles.specs.contracts.handle.Handle as typed_handles
 use Rattle.exports.specs.declared.seat.Seat.{Seat}
+use Rattle.exports.specs.contracts.seat.Seat as seats
 use Rattle.exports.specs.declared.handle.Handle.{Handle}
-use Rattle.exports.specs.declared.codes.TheConstants.{CLOSED}
+use Rattle.exports.specs.contracts.handle.Handle.{the_row}
 
 -- the seat of a handle, if it is open
 abbrev pub seat_of : Handle → Option Seat
 seat_of h = h.slot.seat
 
--- a call leaves a closed handle closed, with a code of its own, and an open one open: this holds of its seat before, the code, and its seat after
-abbrev pub Calls : Option Seat → ℕ → Option Seat → (Seat → ℕ → Seat → Type 0) → Type 0
-Calls None code after says = (code ≡ CLOSED) × (after ≡ None)
-Calls (Some x) code None says = ⊥
-Calls (Some x) code (Some y) says = says x code y
+-- the handle with its type
+abbrev pub typed_of : Handle → Typed Seat
+typed_of h = record { slot = record { at = h.slot.at; value = h.slot.seat }; is_open = h.is_open; known = h.known }
 
--- the same of a call with a report or a buffer, which a closed handle leaves unchanged
-abbrev pub CallsWith : {O : Type 0} → Option Seat → O → ℕ → Option Seat → O → (Seat → O → ℕ → Seat → O → Type 0) → Type 0
-CallsWith None out code after out' says = (code ≡ CLOSED) × (after ≡ None) × (out' ≡ out)
-CallsWith (Some x) out code None out' says = ⊥
-CallsWith (Some x) out code (Some y) out' says = says x out code y out'
+-- the handle as C has it
+abbrev pub handle_of : Typed Seat → Handle
+handle_of t = record { slot = record { at = t.slot.at; seat = t.slot.value }; is_open = t.is_open; known = t.known }
 
--- a call of f at a `&mut` to x and one to o may give r, and leave y and p
-pub record ReturnsAtBoth {F X O R : Type 0} (g : Once F (MutBor X × (MutBor O × Unit {0})) (R × (MutBor X × (MutBor O × Unit {0})))) (f : F)
-    (x : X) (o : O) (r : R) (y : X) (p : O) : Type 0 where
-  pub first : MutBor X
-  pub second : MutBor O
-  pub shows : (first.now ≡ x) × (second.now ≡ o)
-  pub left : MutBor X × (MutBor O × Unit {0})
-  pub met : g.post f (first, (second, tt)) (r, left)
-  pub leaves : (left.0.now ≡ y) × (left.1.0.now ≡ p)
+-- the handle ends as what was left behind the typed reference
+abbrev pub LendsTyped : MutBor Handle → MutBor (Typed Seat) → Fml
+LendsTyped h t = Lends the_row (typed_handles.the_row seats.the_row) h t handle_of

@@ -9,7 +9,7 @@ pub const DONE: u32 = 0;
 /// The sector was written.
 pub const WRITTEN: u32 = 1;
 /// The handle is closed.
-pub const CLOSED: u32 = 2;
+pub const CLOSED: u32 = handles::CLOSED;
 /// The device has no such sector.
 pub const NO_SECTOR: u32 = 3;
 /// The buffer is not as long as a page.

@@ -53,7 +53,8 @@ ghost use Rattle.exports.specs.declared.seat.Seat.{Seat};
 ghost use Rattle.exports.specs.declared.seat.Seat.TheVariants as seat;
 ghost use Rattle.exports.specs.declared.seat.Sweeper.{Sweeper};
 ghost use Rattle.exports.specs.Codes.{was_code, fault_code, drain_code, erase_code, restock_code, got_by, written_by, was_by, drain_by, erase_by, stocked_by};
-ghost use Rattle.exports.specs.Handles.{seat_of, Calls, CallsWith};
+ghost use Rattle.exports.specs.Handles.{seat_of};
+ghost use Rattle.handles.specs.Calls.{Calls, CallsWith};
 ghost use Rattle.exports.specs.Holding.{HoldCalled, HolderCalled, ReleaseCalled, by_holder, holder_code, hold_code, copy_code, copied, word_code, word_read};
 ghost use Rattle.exports.specs.Holding.{page_report};
 ghost use Rattle.exports.specs.Holds.{held_value};
@@ -71,16 +72,16 @@ ghost use Rattle.exports.specs.declared.codes.TheConstants.{DONE, CLOSED, WRONG_
 
 /// What a call leaves of a handle: a closed one is closed, and an open one is open, with a seat of which the call says something.
 pub fn calls_of_handles()
-    ensures closed { Calls None CLOSED None (λ x c y. ⊥) }
-    ensures closed_code { ¬ Calls None WRONG_KIND None (λ x c y. x ≡ x) }
+    ensures closed { Calls {T = Seat} None CLOSED None (λ x c y. ⊥) }
+    ensures closed_code { ¬ Calls {T = Seat} None WRONG_KIND None (λ x c y. x ≡ x) }
     ensures stays_closed { (y : Seat) → ¬ Calls None CLOSED (Some y) (λ x c y. x ≡ x) }
     ensures stays_open { (x : Seat) → ¬ Calls (Some x) DONE None (λ x c y. x ≡ x) }
     ensures says { (l : OneFtl)
         → Calls (Some (seat.One l)) 7 (Some seat.Away)
         (λ x c y. (x ≡ seat.One l) × (c ≡ 7) × (y ≡ seat.Away)) }
     ensures says_not { (x y : Seat) → ¬ Calls (Some x) DONE (Some y) (λ x c y. ⊥) }
-    ensures closed_with { CallsWith {O = ℕ} None 4 CLOSED None 4 (λ x o c y p. ⊥) }
-    ensures closed_fills { ¬ CallsWith {O = ℕ} None 4 CLOSED None 5 (λ x o c y p. x ≡ x) }
+    ensures closed_with { CallsWith {T = Seat} {O = ℕ} None 4 CLOSED None 4 (λ x o c y p. ⊥) }
+    ensures closed_fills { ¬ CallsWith {T = Seat} {O = ℕ} None 4 CLOSED None 5 (λ x o c y p. x ≡ x) }
     ensures says_with { CallsWith {O = ℕ} (Some seat.Away) 4 7 (Some seat.Away) 5
         (λ x o c y p. (o ≡ 4) × (c ≡ 7) × (p ≡ 5)) }
     ensures is_closed { (h : Handle) → seat_of h ≡ None → IsClosed h }

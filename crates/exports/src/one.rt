@@ -43,7 +43,7 @@ pub extern "C" fn mintlintel_one_open(
     let Ok(layer) = OneFtl::new(alloc, &geometry) else {
         return NO_MEMORY;
     };
-    if handle.fill(alloc, Seat::One(layer)) {
+    if handle.typed().fill(alloc, Seat::One(layer)) {
         DONE
     } else {
         NO_MEMORY
@@ -55,7 +55,7 @@ pub extern "C" fn mintlintel_one_open(
 pub extern "C" fn mintlintel_one_close(alloc: Global, handle: &mut Handle)
     ensures { seat_of handle.new ≡ None }
 {
-    let _seat = handle.take(alloc);
+    let _seat = handle.typed().take(alloc);
 }
 
 /// Reads a sector into a buffer of one page. An empty sector leaves the buffer as it was.
@@ -70,7 +70,7 @@ pub extern "C" fn mintlintel_one_read(
     ensures buffer { out.new ≡ filled_on (state_of handle.old) out.old (buffer_on sector out.old) }
     ensures same { seat_of handle.new ≡ seat_of handle.old }
 {
-    handle.on_page(alloc, out, |seat, out| match seat {
+    handle.typed().on_page(alloc, out, |seat, out| match seat {
         Seat::One(layer) => layer::read(layer, sector, out),
         _ => WRONG_KIND,
     })
@@ -88,7 +88,7 @@ pub extern "C" fn mintlintel_one_write(
     ensures state { state_of handle.new
         ≡ (on_state (state_of handle.old) (write_on sector bytes.now)).state }
 {
-    handle.on(alloc, |seat| match seat {
+    handle.typed().on(alloc, |seat| match seat {
         Seat::One(layer) => layer::write(layer, sector, bytes),
         _ => WRONG_KIND,
     })
@@ -106,7 +106,7 @@ pub extern "C" fn mintlintel_one_write_new(
     ensures state { state_of handle.new
         ≡ (on_state (state_of handle.old) (write_new_on sector bytes.now)).state }
 {
-    handle.on(alloc, |seat| match seat {
+    handle.typed().on(alloc, |seat| match seat {
         Seat::One(layer) => layer::write_new(layer, sector, bytes),
         _ => WRONG_KIND,
     })
@@ -118,7 +118,7 @@ pub extern "C" fn mintlintel_one_trim(alloc: Global, handle: &mut Handle, sector
     ensures code { result ≡ (on_state (state_of handle.old) (trim_on sector)).code }
     ensures state { state_of handle.new ≡ (on_state (state_of handle.old) (trim_on sector)).state }
 {
-    handle.on(alloc, |seat| match seat {
+    handle.typed().on(alloc, |seat| match seat {
         Seat::One(layer) => layer::trim(layer, sector),
         _ => WRONG_KIND,
     })
@@ -131,7 +131,7 @@ pub extern "C" fn mintlintel_one_counts(alloc: Global, handle: &mut Handle, out:
     ensures report { out.new ≡ filled_on (state_of handle.old) out.old totals_on }
     ensures same { seat_of handle.new ≡ seat_of handle.old }
 {
-    handle.on_with(alloc, out, |seat, out| match seat {
+    handle.typed().on_with(alloc, out, |seat, out| match seat {
         Seat::One(layer) => layer::totals(layer, out),
         _ => WRONG_KIND,
     })
@@ -149,7 +149,7 @@ pub extern "C" fn mintlintel_one_block(
     ensures report { out.new ≡ filled_on (state_of handle.old) out.old (report_on block out.old) }
     ensures same { seat_of handle.new ≡ seat_of handle.old }
 {
-    handle.on_with(alloc, out, |seat, out| match seat {
+    handle.typed().on_with(alloc, out, |seat, out| match seat {
         Seat::One(layer) => layer::block(layer, block, out),
         _ => WRONG_KIND,
     })
@@ -166,7 +166,7 @@ pub extern "C" fn mintlintel_one_numbers(
     ensures report { out.new ≡ filled_on (state_of handle.old) out.old (λ m. reported m.numbers) }
     ensures same { seat_of handle.new ≡ seat_of handle.old }
 {
-    handle.on_with(alloc, out, |seat, out| match seat {
+    handle.typed().on_with(alloc, out, |seat, out| match seat {
         Seat::One(layer) => layer::numbers(&layer.geometry(), out),
         _ => WRONG_KIND,
     })

@@ -32,7 +32,7 @@ fn close_all(alloc: Global, handles: &mut [Handle])
     ensures count { length handles.new ≡ length handles.old }
 {
     for handle in handles.iter_mut() {
-        handle.take(alloc);
+        handle.typed().take(alloc);
     }
 }
 
@@ -69,7 +69,9 @@ fn seat_host(alloc: Global, volume: &Arc<Volume, Global>, pass: Pass, handle: &m
         volume.retire(pass);
         return false;
     };
-    handle.fill(alloc, Seat::Host(Host { volume, pass }))
+    handle
+        .typed()
+        .fill(alloc, Seat::Host(Host { volume, pass }))
 }
 
 // Puts a broom that has done nothing yet into a closed handle. If memory runs out, it is retired, and the handle stays closed.
@@ -94,7 +96,7 @@ fn seat_broom(
         broom,
         done: TallyReport::new(),
     };
-    handle.fill(alloc, Seat::Sweeper(sweeper))
+    handle.typed().fill(alloc, Seat::Sweeper(sweeper))
 }
 
 // Puts a pass into each of these handles, pass t into handle t. If memory runs out, all stay closed, and the passes are retired.

@@ -18,7 +18,8 @@ ghost use Rattle.volume.specs.Undisturbed.{IsUndisturbed};
 ghost use Rattle.exports.specs.Codes.{as_number, got_by, written_by, was_by, drain_code, drain_by, erase_by, restock_code, stocked_by};
 ghost use Rattle.exports.specs.Blocks.{BlockReported, block_code, counts_code, counts_report};
 ghost use Rattle.exports.specs.Tallies.{tally_of};
-ghost use Rattle.exports.specs.Handles.{seat_of, CallsWith, ReturnsAtBoth};
+ghost use Rattle.exports.specs.Handles.{seat_of};
+ghost use Rattle.handles.specs.Calls.{CallsWith, ReturnsAtBoth};
 ghost use Rattle.exports.specs.declared.reports.Drained.{Drained};
 ghost use Rattle.exports.specs.Holding.{by_holder, holder_code, hold_code, HoldCalled, HolderCalled, ReleaseCalled};
 ghost use Rattle.exports.specs.Holding.{copy_code, copied, word_code, word_read, page_report};
@@ -42,7 +43,7 @@ use std::mem;
 pub extern "C" fn mintlintel_seat_close(alloc: Global, handle: &mut Handle)
     ensures { seat_of handle.new ≡ None }
 {
-    let _seat = handle.take(alloc);
+    let _seat = handle.typed().take(alloc);
 }
 
 /// The numbers that the device was made with.
@@ -56,7 +57,7 @@ pub extern "C" fn mintlintel_seat_numbers(
     ensures report { out.new ≡ numbers_report out.old (seat_of handle.old) }
     ensures same { seat_of handle.new ≡ seat_of handle.old }
 {
-    handle.on_with(alloc, out, |seat, out| match seat {
+    handle.typed().on_with(alloc, out, |seat, out| match seat {
         Seat::Host(host) => layer::numbers(host.volume.geometry(), out),
         Seat::Holder(holder) => layer::numbers(holder.volume.geometry(), out),
         Seat::Sweeper(sweeper) => layer::numbers(sweeper.volume.geometry(), out),
@@ -86,7 +87,7 @@ pub extern "C" fn mintlintel_host_read(
     ensures same { HostCalled (seat_of handle.old) (seat_of handle.new)
         (λ v p q. WRITTEN < result → q ≡ p) }
 {
-    handle.on_page(alloc, out, |seat, out| match seat {
+    handle.typed().on_page(alloc, out, |seat, out| match seat {
         Seat::Host(host) => host.read(sector, out),
         _ => WRONG_KIND,
     })
@@ -106,7 +107,7 @@ pub extern "C" fn mintlintel_host_look(alloc: Global, handle: &mut Handle, secto
     ensures same { HostCalled (seat_of handle.old) (seat_of handle.new)
         (λ v p q. WRITTEN < result → q ≡ p) }
 {
-    handle.on(alloc, |seat| match seat {
+    handle.typed().on(alloc, |seat| match seat {
         Seat::Host(host) => host.look(sector),
         _ => WRONG_KIND,
     })
@@ -132,7 +133,7 @@ pub extern "C" fn mintlintel_host_write(
     ensures same { HostCalled (seat_of handle.old) (seat_of handle.new)
         (λ v p q. (result ≡ NO_SECTOR → q ≡ p) × (result ≡ NOT_A_PAGE → q ≡ p)) }
 {
-    handle.on(alloc, |seat| match seat {
+    handle.typed().on(alloc, |seat| match seat {
         Seat::Host(host) => host.write(sector, bytes),
         _ => WRONG_KIND,
     })
@@ -158,7 +159,7 @@ pub extern "C" fn mintlintel_host_write_new(
     ensures same { HostCalled (seat_of handle.old) (seat_of handle.new)
         (λ v p q. (result ≡ NO_SECTOR → q ≡ p) × (result ≡ NOT_A_PAGE → q ≡ p)) }
 {
-    handle.on(alloc, |seat| match seat {
+    handle.typed().on(alloc, |seat| match seat {
         Seat::Host(host) => host.write_new(sector, bytes),
         _ => WRONG_KIND,
     })
@@ -175,7 +176,7 @@ pub extern "C" fn mintlintel_host_trim(alloc: Global, handle: &mut Handle, secto
     ensures same { HostCalled (seat_of handle.old) (seat_of handle.new)
         (λ v p q. WRITTEN < result → q ≡ p) }
 {
-    handle.on(alloc, |seat| match seat {
+    handle.typed().on(alloc, |seat| match seat {
         Seat::Host(host) => host.trim(sector),
         _ => WRONG_KIND,
     })
@@ -188,7 +189,7 @@ pub extern "C" fn mintlintel_host_hold(alloc: Global, handle: &mut Handle, secto
         ≡ host_code (seat_of handle.old) (hold_code sector (seen_of (seat_of handle.new))) }
     ensures held { HoldCalled sector result (seat_of handle.old) (seat_of handle.new) }
 {
-    handle.on(alloc, |seat| hold(seat, sector))
+    handle.typed().on(alloc, |seat| hold(seat, sector))
 }
 
 /// Copies the page that is held into a buffer of one page.
@@ -203,7 +204,7 @@ pub extern "C" fn mintlintel_host_copy(alloc: Global, handle: &mut Handle, out: 
     ensures undisturbed { HolderCalled (seat_of handle.old) (seat_of handle.new)
         (λ v k j. result ≡ WRITTEN → IsUndisturbed (flash_of v) k (view_of (pass_of k)).copy j) }
 {
-    handle.on_page(alloc, out, |seat, out| match seat {
+    handle.typed().on_page(alloc, out, |seat, out| match seat {
         Seat::Holder(holder) => holder.copy(out),
         _ => WRONG_KIND,
     })
@@ -226,7 +227,7 @@ pub extern "C" fn mintlintel_host_word(
     ensures undisturbed { HolderCalled (seat_of handle.old) (seat_of handle.new)
         (λ v k j. result ≡ DONE → IsUndisturbed (flash_of v) k (view_of (pass_of k)).copy j) }
 {
-    handle.on_with(alloc, out, |seat, out| match seat {
+    handle.typed().on_with(alloc, out, |seat, out| match seat {
         Seat::Holder(holder) => holder.word(i, out),
         _ => WRONG_KIND,
     })
@@ -243,7 +244,7 @@ pub extern "C" fn mintlintel_host_held(
     ensures page { out.new ≡ by_holder (seat_of handle.old) out.old out.old page_report }
     ensures same { seat_of handle.new ≡ seat_of handle.old }
 {
-    handle.on_with(alloc, out, |seat, out| match seat {
+    handle.typed().on_with(alloc, out, |seat, out| match seat {
         Seat::Holder(holder) => holder.page(out),
         _ => WRONG_KIND,
     })
@@ -255,7 +256,7 @@ pub extern "C" fn mintlintel_host_release(alloc: Global, handle: &mut Handle) ->
     ensures code { result ≡ holder_code (seat_of handle.old) (λ _. DONE) }
     ensures released { ReleaseCalled (seat_of handle.old) (seat_of handle.new) }
 {
-    handle.on(alloc, |seat| release(seat))
+    handle.typed().on(alloc, |seat| release(seat))
 }
 
 /// Moves the live pages out of the closed block with the fewest. With 0 its number and how many pages moved are written.
@@ -349,7 +350,7 @@ pub extern "C" fn mintlintel_broom_erase(alloc: Global, handle: &mut Handle, blo
     ensures same { BroomCalled (seat_of handle.old) (seat_of handle.new)
         (λ v b c. result ≡ NO_SUCH_BLOCK → c ≡ b) }
 {
-    handle.on(alloc, |seat| match seat {
+    handle.typed().on(alloc, |seat| match seat {
         Seat::Sweeper(sweeper) => sweeper.erase(block),
         _ => WRONG_KIND,
     })
@@ -367,7 +368,7 @@ pub extern "C" fn mintlintel_broom_restock(alloc: Global, handle: &mut Handle) -
     ensures survey { BroomCalled (seat_of handle.old) (seat_of handle.new)
         (λ v b c. KeepsSurvey b c) }
 {
-    handle.on(alloc, |seat| match seat {
+    handle.typed().on(alloc, |seat| match seat {
         Seat::Sweeper(sweeper) => sweeper.restock(),
         _ => WRONG_KIND,
     })
@@ -390,7 +391,7 @@ fn drained<F: FnOnce(&mut Seat, &mut Drained) -> u32>(
         block: *block,
         moved: *moved,
     };
-    let code = handle.on_with(alloc, &mut drained, call);
+    let code = handle.typed().on_with(alloc, &mut drained, call);
     *block = drained.block;
     *moved = drained.moved;
     code
@@ -449,7 +450,7 @@ pub extern "C" fn mintlintel_broom_block(
         (λ v b c. result ≢ DONE → c ≡ b) }
     ensures unchanged { result ≢ DONE → out.new ≡ out.old }
 {
-    handle.on_with(alloc, out, |seat, out| match seat {
+    handle.typed().on_with(alloc, out, |seat, out| match seat {
         Seat::Sweeper(sweeper) => sweeper.block(block, out),
         _ => WRONG_KIND,
     })
@@ -473,7 +474,7 @@ pub extern "C" fn mintlintel_broom_counts(
     ensures unchanged { (result ≡ CLOSED → out.new ≡ out.old)
         × (result ≡ WRONG_KIND → out.new ≡ out.old) }
 {
-    handle.on_with(alloc, out, |seat, out| match seat {
+    handle.typed().on_with(alloc, out, |seat, out| match seat {
         Seat::Sweeper(sweeper) => sweeper.counts(out),
         _ => WRONG_KIND,
     })
@@ -491,7 +492,7 @@ pub extern "C" fn mintlintel_broom_tally(
         (λ s. tally_of s.broom) }
     ensures same { seat_of handle.new ≡ seat_of handle.old }
 {
-    handle.on_with(alloc, out, |seat, out| match seat {
+    handle.typed().on_with(alloc, out, |seat, out| match seat {
         Seat::Sweeper(sweeper) => sweeper.tally(out),
         _ => WRONG_KIND,
     })

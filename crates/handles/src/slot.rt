@@ -7,6 +7,7 @@ use std::alloc::Global;
 use std::marker::Model;
 
 /// A pointer to a value, or none. It is not `Drop`, so that no value is lost.
+#[repr(C)]
 pub struct Slot<T> {
     pub at: *mut T,
     pub ghost value: { Option T } by { coded_option T.code },

@@ -10,6 +10,7 @@ use Rattle.durable.specs.declared.mount.Mount.{Mount}
 use Rattle.geometry.specs.declared.page_addr.PageAddr.{PageAddr}
 use Rattle.durable_exports.specs.Handles.{seat_of}
 use Rattle.handles.specs.Kept.{boxed}
+use Rattle.handles.specs.Calls.{value_of}
 use Rattle.durable_exports.specs.declared.seat.Seat.{Seat}
 use Rattle.durable_exports.specs.declared.seat.Seat.TheVariants.{Mounting}
 use Rattle.durable_exports.proofs.calls.mintlintel_core_finish.Goals as goal
@@ -19,7 +20,7 @@ returns-in-Err-NoFreeBlock-clause-frees c =
     let held : Some c.in-Some.seat.value ≡ Some (Mounting c.in-Mounting-into_inner.mount) =
     ap (λ (x : Seat). Some x) (sym c.into_inner.ensures ∙ c.in-Mounting-into_inner.is) in
     let has : seat_of c.args.handle.now ≡ Some (Mounting c.in-Mounting-into_inner.mount) =
-    sym c.take.ensures.seat ∙ ap (option_map boxed) c.in-Some.is ∙ held in
+    sym (ap value_of c.typed-handle.ensures.value) ∙ sym c.take.ensures.value ∙ ap (option_map boxed) c.in-Some.is ∙ held in
     subst (λ (x : Option Seat). OfMount x (FreesBlock 7)) (sym has) (λ f acked begun noted is _.
     absurd (c.finish.ensures.frees f acked begun noted is (c.in-Err-NoFreeBlock.is ∙ ap Err c.in-Err-NoFreeBlock.field-0-is)))
 
@@ -27,7 +28,8 @@ pub returns-then-fill-clause-mounted : goal.returns-then-fill-clause-mounted
 returns-then-fill-clause-mounted c _ =
     let mount = c.in-Mounting-into_inner.mount in
     let held : Some c.in-Some.seat.value ≡ Some (Mounting mount) = ap (λ (x : Seat). Some x) (sym c.into_inner.ensures ∙ c.in-Mounting-into_inner.is) in
-    let has : seat_of c.args.handle.now ≡ Some (Mounting mount) = sym c.take.ensures.seat ∙ ap (option_map boxed) c.in-Some.is ∙ held in
+    let has : seat_of c.args.handle.now ≡ Some (Mounting mount) =
+    sym (ap value_of c.typed-handle.ensures.value) ∙ sym c.take.ensures.value ∙ ap (option_map boxed) c.in-Some.is ∙ held in
     let core = c.new.ensures.core in
     let mounted : IsMounted mount c.new.result = (
       ap device_of core ∙ c.in-Ok.ensures.device,
@@ -39,7 +41,7 @@ returns-then-fill-clause-mounted c _ =
       subst (TellsNoFalseLoss mount) (sym core) c.in-Ok.ensures.quiet,
       subst (MountsWhole mount) (sym core) c.in-Ok.ensures.whole,
     ) in
-    subst (λ (x : Option Seat). OfMount x (λ m. HasLayer (seat_of c.fill.new.self) (IsMounted m))) (sym has)
+    subst (λ (x : Option Seat). OfMount x (λ m. HasLayer (value_of c.fill.new.self) (IsMounted m))) (sym has)
     (subst (λ (y : Option Seat). HasLayer y (IsMounted mount)) (sym (c.if-fill.ensures.filled refl)) mounted)
 
 same_mount : (a b : Mount) → Mounting a ≡ Mounting b → a ≡ b
@@ -53,7 +55,8 @@ pub returns-else-fill-clause-code : goal.returns-else-fill-clause-code
 returns-else-fill-clause-code c =
     let mount = c.in-Mounting-into_inner.mount in
     let held : Some c.in-Some.seat.value ≡ Some (Mounting mount) = ap (λ (x : Seat). Some x) (sym c.into_inner.ensures ∙ c.in-Mounting-into_inner.is) in
-    let has : seat_of c.args.handle.now ≡ Some (Mounting mount) = sym c.take.ensures.seat ∙ ap (option_map boxed) c.in-Some.is ∙ held in
+    let has : seat_of c.args.handle.now ≡ Some (Mounting mount) =
+    sym (ap value_of c.typed-handle.ensures.value) ∙ sym c.take.ensures.value ∙ ap (option_map boxed) c.in-Some.is ∙ held in
     let same = same_mount c.in-Mounting.mount mount
     (sym c.in-Mounting.is ∙ c.deref.ensures ∙ sym c.into_inner.ensures ∙ c.in-Mounting-into_inner.is) in
     let none : next_in mount ≡ None =
