@@ -18,8 +18,9 @@ NOT_OF_C = {"LONE_WORKERS"}
 
 
 def constants(path):
-    """The numbers that a file of Rust names."""
-    return {name: int(number) for name, number in re.findall(r"pub const (\w+): u(?:32|64) = ([\d_]+);", path.read_text())}
+    """The numbers that a file of Rust names, one of them perhaps by its name in `handles`."""
+    named = re.findall(r"pub const (\w+): u(?:32|64) = ([\d_]+|handles::\w+);", path.read_text())
+    return {name: constants(path.parents[2] / "handles/src/handle.rt")[number[9:]] if "::" in number else int(number) for name, number in named}
 
 
 def others(root, codes):
