@@ -1,9 +1,9 @@
 // The commands of the lines so far, while their text is still being read.
 
-ghost use Rattle.std.specs.Prelude.{◌≡◌, ◌+◌, ◌^◌, ◌<◌, ◌≤◌, [], true, take, drop, length, OnOk};
+ghost use Rattle.std.specs.Prelude.{◌≡◌, ◌+◌, ◌^◌, ◌<◌, ◌≤◌, [], take, drop, length, OnOk};
 ghost use Rattle.trace.specs.{Digits.IsData, Parsing.page_len, Stored.AreKept, Stored.Pushes, Stored.stored_in};
 
-use crate::stored::{AllStored, Head, NEAR_BYTES, Stored};
+use crate::stored::{AllStored, Head, Stored};
 use std::alloc::{AllocError, Global};
 
 /// The commands of the lines so far. Their digits stay in the text, except those of fields with quotes.
@@ -35,14 +35,6 @@ impl Draft {
         self.stored.len()
     }
 
-    /// Whether all commands so far, and all that this text may have, are near.
-    pub(crate) fn are_near(&self, text: &[u8]) -> bool
-        ensures short { result ≡ true → length text.now < NEAR_BYTES }
-        ensures near { result ≡ true → self.now.stored.far.items ≡ [] }
-    {
-        text.len() < NEAR_BYTES && self.stored.are_near()
-    }
-
     /// Adds a command whose digits are at this place of the text.
     pub(crate) fn push(
         &mut self,
@@ -62,31 +54,6 @@ impl Draft {
             (Pushes text.now self.old self.new head (take digits (drop start text.now))) }
     {
         self.stored.push(Stored::new(head, start, digits))?;
-        Ok(())
-    }
-
-    /// The same where all are near.
-    pub(crate) fn push_near(
-        &mut self,
-        text: &[u8],
-        head: Head,
-        start: usize,
-        digits: u16,
-    ) -> Result<(), AllocError>
-        requires draft { AreKept text.now self.old }
-        requires sector { head.sector < 2 ^ 24 }
-        requires within { start + digits ≤ length text.now }
-        requires fits { IsData (page_len head.op self.old.page_bytes)
-            (take digits (drop start text.now)) }
-        requires short { length text.now < NEAR_BYTES }
-        requires near { self.old.stored.far.items ≡ [] }
-        ensures size { OnOk result (self.new.page_bytes ≡ self.old.page_bytes) }
-        ensures draft { OnOk result (AreKept text.now self.new) }
-        ensures pushed { OnOk result
-            (Pushes text.now self.old self.new head (take digits (drop start text.now))) }
-        ensures near { OnOk result (self.new.stored.far.items ≡ []) }
-    {
-        self.stored.push_near(Stored::new(head, start, digits))?;
         Ok(())
     }
 

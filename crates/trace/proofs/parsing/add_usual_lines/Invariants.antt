@@ -1,4 +1,4 @@
-use Rattle.std.proofs.Common.{◌≡◌, ◌≤◌, ◌-◌, [], length}
+use Rattle.std.proofs.Common.{◌≤◌, ◌-◌, length}
 use Rattle.trace.specs.{Drafting.IsDraft, Parsing.AreSoFar, Stored.drafted}
 use Rattle.trace.proofs.parsing.add_usual_lines.Given as goal
 
@@ -8,7 +8,6 @@ invariant-lines l = record {
   low : l.from ≤ l.at;
   place : l.at ≤ length l.text;
   draft : IsDraft l.geometry l.text l.draft;
-  near : l.draft.stored.far.items ≡ [];
   so_far : AreSoFar l.geometry l.text l.at (drafted l.text l.draft);
 }
 

@@ -1,11 +1,7 @@
 use Rattle.std.proofs.Common.{◌∙◌, append-nil, arith, inr, refl}
 use Rattle.trace.{specs.declared.fault.TraceFaultKind.TheVariants.Fields, specs.Stored.drafted, proofs.CommandFacts.line_is, proofs.NumberFacts.falls_past}
-use Rattle.trace.proofs.CheckFacts.{commands_of-commands, first_other, first_refused, one_more_command, refuses_fields, states_fault}
+use Rattle.trace.proofs.CheckFacts.{first_other, first_refused, one_more_command, refuses_fields, states_fault}
 use Rattle.trace.proofs.parsing.parse_lines.Goals as goal
-
-pub returns-in-End-clause-commands : goal.returns-in-End-clause-commands
-returns-in-End-clause-commands c =
-    commands_of-commands _ _ (drafted c.args.text.now c.add_usual_lines.new.draft) (rw c.in-End.ensures at c.in-Ok.ensures.so_far ∙ append-nil _)
 
 pub returns-in-Fields-clause-fault : goal.returns-in-Fields-clause-fault
 returns-in-Fields-clause-fault c =
@@ -40,9 +36,6 @@ records-preserved c =
       so_far = one_more_command c.args.text.now c.args.geometry.now (drafted c.args.text.now c.add_usual_lines.new.draft)
           (drafted c.args.text.now c.add_cut.new.draft) next.fields _ _ c.in-Ok.ensures.so_far next.first (rw told c.in_default-add_cut.ensures.added);
     }
-
-pub returns-in-Err-clause-commands : goal.returns-in-Err-clause-commands
-returns-in-Err-clause-commands c = tt
 
 pub returns-in-End-clause-each : goal.returns-in-End-clause-each
 returns-in-End-clause-each c = rw c.in-End.ensures at c.in-Ok.ensures.so_far ∙ append-nil _

@@ -1,12 +1,8 @@
 use Rattle.std.proofs.{Common.◌∙◌, Common.ap, Common.append-nil, Common.inr, Common.length, Common.sym, lemmas.List.take_rest}
 use Rattle.trace.{specs.Trace.records_of, specs.declared.fault.TraceFaultKind.TheVariants.Fields, specs.Stored.drafted, proofs.CommandFacts.line_is}
-use Rattle.trace.proofs.CheckFacts.{commands_of-commands, first_other, first_refused, one_more_command, refuses_fields, same_first, states_fault}
+use Rattle.trace.proofs.CheckFacts.{first_other, first_refused, one_more_command, refuses_fields, same_first, states_fault}
 use Rattle.trace.proofs.NumberFacts.{falls_next}
 use Rattle.trace.proofs.parsing.parse_rest.Goals as goal
-
-pub returns-in-End-clause-commands : goal.returns-in-End-clause-commands
-returns-in-End-clause-commands c =
-    commands_of-commands _ _ (drafted c.args.text.now c.records.draft) (rw c.in-End.ensures at c.records.invariant.so_far ∙ append-nil _)
 
 pub returns-in-Fields-clause-fault : goal.returns-in-Fields-clause-fault
 returns-in-Fields-clause-fault c =
