@@ -1,14 +1,14 @@
 //! Puts the lines of a run's output into a buffer; each call returns where its line ends.
 ghost use Rattle.std.specs.Prelude.{◌≡◌, ◌+◌, ◌*◌, ◌≤◌, ◌++◌, codes, length};
 ghost use Rattle.hex.specs.Hex.{encode_lower};
-ghost use Rattle.answers.specs.Answers.{broom_line, broom_names, collection_line, collection_names, end_text, line_text, totals_text, wear_line, wear_names};
+ghost use Rattle.answers.specs.Answers.{broom_line, collection_line, end_text, line_text, totals_text, wear_line};
 ghost use Rattle.answers.specs.{Placed.Placed, Replies.reply_text};
 ghost use Rattle.answers.specs.declared.reply.Reply.TheVariants as replies;
 
 use crate::broom_line::BroomLine;
 use crate::numbering::Numbering;
 use crate::reply::Reply;
-use crate::text::{SHORT_BYTES, put_number, put_page, put_short, put_text};
+use crate::text::{SHORT_BYTES, put_number, put_page, put_short};
 use crate::words::{END, END_COMMA, op_word, outcome_word, reply_word};
 use trace::Op;
 
@@ -78,14 +78,6 @@ pub fn put_totals(buffer: &mut [u8], at: usize, programs: u64, copies: u64, eras
     put_number(buffer, third, erases, b'\n')
 }
 
-/// Puts the header line of the wear.
-pub fn put_wear_names(buffer: &mut [u8], at: usize) -> usize
-    requires { at + LINE_BYTES ≤ length buffer.old }
-    ensures { Placed buffer.old buffer.new at wear_names result }
-{
-    put_text(buffer, at, b"block,erases,live,retired\n")
-}
-
 /// Puts a block's line of the wear.
 pub fn put_wear(
     buffer: &mut [u8],
@@ -102,14 +94,6 @@ pub fn put_wear(
     let second = put_number(buffer, first, u64::from(erases), b',');
     let third = put_number(buffer, second, u64::from(live), b',');
     put_number(buffer, third, u64::from(retired), b'\n')
-}
-
-/// Puts the names of what is reported for each collection.
-pub fn put_collection_names(buffer: &mut [u8], at: usize) -> usize
-    requires { at + LINE_BYTES ≤ length buffer.old }
-    ensures { Placed buffer.old buffer.new at collection_names result }
-{
-    put_text(buffer, at, b"line,victim,copied,copybacks,erases,outcome\n")
 }
 
 /// Puts the line of a collection.
@@ -133,18 +117,6 @@ pub fn put_collection(
     let fourth = put_number(buffer, third, u64::from(copybacks), b',');
     let fifth = put_number(buffer, fourth, u64::from(erases), b',');
     put_short(buffer, fifth, outcome_word(retired))
-}
-
-/// Puts the names of what is reported for each broom.
-pub fn put_broom_names(buffer: &mut [u8], at: usize) -> usize
-    requires { at + LINE_BYTES ≤ length buffer.old }
-    ensures { Placed buffer.old buffer.new at broom_names result }
-{
-    put_text(
-        buffer,
-        at,
-        b"broom,drained,moved,programmed,erased,kept,retired,lost,pinned,stale,idle\n",
-    )
 }
 
 /// Puts the line of a broom.

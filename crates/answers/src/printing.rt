@@ -10,12 +10,12 @@ ghost use Rattle.answers.specs.declared.reply.Reply.TheVariants as replies;
 use crate::broom_line::BroomLine;
 use crate::delivery::{OutputFailed, send_some};
 use crate::line::{
-    LINE_BYTES, PIECE_BYTES, put_broom, put_broom_names, put_collection, put_collection_names,
-    put_end, put_line, put_totals, put_wear, put_wear_names,
+    LINE_BYTES, PIECE_BYTES, put_broom, put_collection, put_end, put_line, put_totals, put_wear,
 };
 use crate::lines::Lines;
 use crate::numbering::Numbering;
 use crate::reply::Reply;
+use crate::text::put_text;
 use geometry::Geometry;
 use std::alloc::{AllocError, Global};
 use std::io::Write;
@@ -84,7 +84,7 @@ impl Lines {
         ensures waiting { waiting_of self.new ≡ waiting_of self.old ++ wear_names }
         ensures page { page_digits_of self.new ≡ page_digits_of self.old }
     {
-        self.used = put_wear_names(&mut self.buffer, self.used);
+        self.used = put_text(&mut self.buffer, self.used, b"block,erases,live,retired\n");
     }
 
     /// Adds a block's line of the wear: its erases, its live pages, and whether it is retired.
@@ -103,7 +103,11 @@ impl Lines {
         ensures waiting { waiting_of self.new ≡ waiting_of self.old ++ collection_names }
         ensures page { page_digits_of self.new ≡ page_digits_of self.old }
     {
-        self.used = put_collection_names(&mut self.buffer, self.used);
+        self.used = put_text(
+            &mut self.buffer,
+            self.used,
+            b"line,victim,copied,copybacks,erases,outcome\n",
+        );
     }
 
     /// Adds the line of a collection: the line of the trace that it is for, its victim, its copies, how many of them are
@@ -140,7 +144,11 @@ impl Lines {
         ensures waiting { waiting_of self.new ≡ waiting_of self.old ++ broom_names }
         ensures page { page_digits_of self.new ≡ page_digits_of self.old }
     {
-        self.used = put_broom_names(&mut self.buffer, self.used);
+        self.used = put_text(
+            &mut self.buffer,
+            self.used,
+            b"broom,drained,moved,programmed,erased,kept,retired,lost,pinned,stale,idle\n",
+        );
     }
 
     /// Adds the line of a broom.
