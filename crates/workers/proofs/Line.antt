@@ -3,7 +3,7 @@ use Rattle.std.proofs.Common.{◌≡◌, ℕ, suc, ◌+◌, ◌<◌, ◌≤◌, 
 use Rattle.std.proofs.Common.{append_assoc, append-nil, length-append}
 use Rattle.std.specs.{Prelude.if◌then◌else◌, List.range_with_len}
 use mathlib.Core.Logic.{inl, inr}
-use Rattle.geometry.specs.History.{Call, Write, WriteNew, Trim, held, was, Begins}
+use Rattle.geometry.specs.History.{Call, Trim, held, was, Begins}
 use Rattle.geometry.specs.{Sectors.Sector, Sectors.Answers, Sectors.was_of, declared.answer.Got.Got, declared.answer.Was.Was}
 use Rattle.geometry.proofs.Histories.{Begins-refl}
 use Rattle.flash_rule.specs.{declared.view.View.View, Plays.Called}
@@ -12,7 +12,7 @@ use Rattle.host.specs.Told.{Searched, Programmed, Refused}
 use Rattle.trace.specs.declared.commands.Op.{Op}
 use Rattle.rounds.specs.{declared.answer.Kind.Kind, Lines.kind_of, Lines.is_full, Lines.calls_by, Lines.IsFound, Lines.IsRight}
 use Rattle.rounds.specs.Playing.{one_done, all_taken, with_play, WriteFound, LineFound, PlayAdds}
-use Rattle.workers.specs.Line.{PlayedLine, kind_found}
+use Rattle.workers.specs.Line.{PlayedLine, kind_found, write_call, write_op}
 use Rattle.geometry.specs.declared.answer.Got.TheVariants as got
 use Rattle.geometry.specs.declared.answer.Was.TheVariants as was
 use Rattle.trace.specs.declared.commands.Op.TheVariants as op
@@ -136,11 +136,9 @@ pub record IsWrite (o : Op) (call : ℕ → ℕ → List ℕ → Call) : Type 0 
   pub done : (full : Bool) → one_done o full ≡ (if full then 0 else 1)
   pub found : (patience blocks : ℕ) (full : Bool) (l : List ℕ) → WriteFound patience blocks full l → LineFound patience blocks o full l
 
-pub a_write : IsWrite op.Write Write
-a_write = record { right = λ x k page r. r; calls = λ t s value. refl; done = λ full. refl; found = λ patience blocks full l found. found }
-
-pub a_new_write : IsWrite op.New WriteNew
-a_new_write = record { right = λ x k page r. r; calls = λ t s value. refl; done = λ full. refl; found = λ patience blocks full l found. found }
+pub a_write : (only_new : Bool) → IsWrite (write_op only_new) (write_call only_new)
+a_write false = record { right = λ x k page r. r; calls = λ t s value. refl; done = λ full. refl; found = λ patience blocks full l found. found }
+a_write true = record { right = λ x k page r. r; calls = λ t s value. refl; done = λ full. refl; found = λ patience blocks full l found. found }
 
 -- turned away to the end
 pub full_line : (o : Op) (call : ℕ → ℕ → List ℕ → Call) → IsWrite o call → (t patience tries : ℕ) (v : View) (s : ℕ) (value page : List ℕ) (w : View)

@@ -1,10 +1,11 @@
 -- What a pass does that plays one line.
-use Rattle.std.specs.Prelude.{ℕ, Bool, if◌then◌else◌, List, [], ◌++◌}
-use Rattle.geometry.specs.History.{Call, held, Begins}
+use Rattle.std.specs.Prelude.{ℕ, Bool, true, false, if◌then◌else◌, List, [], ◌++◌}
+use Rattle.geometry.specs.History.{Call, Write, WriteNew, held, Begins}
 use Rattle.geometry.specs.declared.answer.Got.{Got}
 use Rattle.geometry.specs.declared.answer.Got.TheVariants as got
 use Rattle.flash_rule.specs.declared.view.View.{View}
 use Rattle.trace.specs.declared.commands.Op.{Op}
+use Rattle.trace.specs.declared.commands.Op.TheVariants as op
 use Rattle.rounds.specs.declared.answer.Kind.{Kind}
 use Rattle.rounds.specs.declared.answer.Kind.TheVariants as kind
 use Rattle.rounds.specs.Lines.{calls_by, IsRight, is_full}
@@ -32,3 +33,13 @@ pub record PlayedLine (t patience : ℕ) (v : View) (o : Op) (s : ℕ) (value : 
 -- the pass has played one line, with this answer; it was turned away if the answer is full
 abbrev pub HasPlayedLine : ℕ → Pass → Op → ℕ → List ℕ → Kind → List ℕ → Pass → Type 0
 HasPlayedLine patience old o s value k page new = (t : ℕ) → HasNumber t old → PlayedLine t patience (view_of old) o s value k page (is_full k) (view_of new)
+
+-- the op of a write, or of one that is made only if its sector is empty
+abbrev pub write_op : Bool → Op
+write_op true = op.New
+write_op false = op.Write
+
+-- the call of such a line, by this thread
+abbrev pub write_call : Bool → ℕ → ℕ → List ℕ → Call
+write_call true = WriteNew
+write_call false = Write

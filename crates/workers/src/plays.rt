@@ -1,17 +1,16 @@
-ghost use Rattle.std.specs.Prelude.{◌≡◌, ◌<◌, ℕ, All, length, map};
+ghost use Rattle.std.specs.Prelude.{◌≡◌, ◌<◌, ℕ, All, IfNone, IfSome, length, map};
 ghost use Rattle.geometry.specs.Geometry.{sectors_of, page_bytes_of};
-ghost use Rattle.flash_table.specs.Flash.{geometry_of};
-ghost use Rattle.host.specs.Ready.{IsReady};
-ghost use Rattle.trace.specs.declared.commands.Op.TheVariants as op;
+ghost use Rattle.flash_table.specs.{Flash.geometry_of, Flash.view_of, Steps.HasNumber};
+ghost use Rattle.host.specs.{Ready.IsReady, Told.Programmed, Told.Refused};
 ghost use Rattle.volume.specs.Volume.{flash_of};
 ghost use Rattle.rounds.specs.Lines.{said};
 ghost use Rattle.rounds.specs.Answers.{page_size_of, HasSpaceFor};
 ghost use Rattle.workers.specs.Playable.{IsLine, HasPage, HasAnswered, HasPlayedLines, added, lines_at};
-ghost use Rattle.workers.specs.Line.{kind_found, HasPlayedLine};
+ghost use Rattle.workers.specs.Line.{kind_found, HasPlayedLine, write_call, write_op};
 
 use flash_table::{Gate, Pass, Point};
-use geometry::Got;
-use host::NewFault;
+use geometry::{Got, Was};
+use host::{NewFault, NoBlock};
 use rounds::{Answer, Answers, Kind};
 use std::thread;
 use trace::{Command, Commands, Op};
@@ -37,10 +36,43 @@ fn rest_after(turned_away: u32) {
     }
 }
 
-// Writes a page to a sector, in at most this many tries.
+// Tries to write a page to a sector, or with `only_new` to an empty one. Returns what the sector was, or nothing if no block was found.
+fn try_write<G: Gate>(
+    volume: &Volume,
+    pass: &mut Pass,
+    only_new: bool,
+    sector: u32,
+    bytes: &[u8],
+    gate: &mut G,
+) -> Option<Was>
+    requires pass { IsReady (flash_of volume.now) pass.old }
+    requires sector { sector < sectors_of (geometry_of (flash_of volume.now)) }
+    requires page { length bytes.now ≡ page_bytes_of (geometry_of (flash_of volume.now)) }
+    ensures wrote { IfSome result
+        (λ was. (t : ℕ) → HasNumber t pass.old
+        → Programmed (view_of pass.old) (write_call only_new t sector bytes.now) sector was
+        (view_of pass.new)) }
+    ensures refused { IfNone result (Refused (view_of pass.old) (view_of pass.new)) }
+    ensures pass { IsReady (flash_of volume.now) pass.new }
+{
+    if only_new {
+        return match volume.write_new_gated(pass, sector, bytes, gate) {
+            Ok(()) => Some(Was::Empty),
+            Err(NewFault::Written) => Some(Was::Written),
+            Err(NewFault::NoBlock) => None,
+        };
+    }
+    match volume.write_gated(pass, sector, bytes, gate) {
+        Ok(was) => Some(was),
+        Err(NoBlock) => None,
+    }
+}
+
+// The same in at most this many tries, as an answer.
 fn write_patiently<G: Gate>(
     volume: &Volume,
     pass: &mut Pass,
+    only_new: bool,
     sector: u32,
     bytes: &[u8],
     patience: u32,
@@ -49,40 +81,15 @@ fn write_patiently<G: Gate>(
     requires pass { IsReady (flash_of volume.now) pass.old }
     requires sector { sector < sectors_of (geometry_of (flash_of volume.now)) }
     requires page { length bytes.now ≡ page_bytes_of (geometry_of (flash_of volume.now)) }
-    ensures played { HasPlayedLine patience pass.old op.Write sector bytes.now result bytes.now pass.new }
+    ensures played { HasPlayedLine patience pass.old (write_op only_new) sector bytes.now result
+        bytes.now pass.new }
     ensures pass { IsReady (flash_of volume.now) pass.new }
 {
     for tried in 0..patience {
-        if let Ok(was) = volume.write_gated(pass, sector, bytes, gate) {
+        if let Some(was) = try_write(volume, pass, only_new, sector, bytes, gate) {
             return Kind::of_was(was);
         }
         rest_after(tried);
-    }
-    Kind::Full
-}
-
-// Writes a page to a sector if it is empty, in at most this many tries.
-fn write_new_patiently<G: Gate>(
-    volume: &Volume,
-    pass: &mut Pass,
-    sector: u32,
-    bytes: &[u8],
-    patience: u32,
-    gate: &mut G,
-) -> Kind
-    requires pass { IsReady (flash_of volume.now) pass.old }
-    requires sector { sector < sectors_of (geometry_of (flash_of volume.now)) }
-    requires page { length bytes.now ≡ page_bytes_of (geometry_of (flash_of volume.now)) }
-    ensures played { HasPlayedLine patience pass.old op.New sector bytes.now result bytes.now pass.new }
-    ensures pass { IsReady (flash_of volume.now) pass.new }
-{
-    for refused in 0..patience {
-        match volume.write_new_gated(pass, sector, bytes, gate) {
-            Ok(()) => return Kind::Empty,
-            Err(NewFault::Written) => return Kind::Written,
-            Err(NewFault::NoBlock) => {}
-        }
-        rest_after(refused);
     }
     Kind::Full
 }
@@ -106,11 +113,11 @@ fn play_line<G: Gate>(
         Op::Read => found(volume.read_gated(pass, line.sector, page, gate).got),
         Op::Write => {
             line.page.copy_into(page);
-            write_patiently(volume, pass, line.sector, page, patience, gate)
+            write_patiently(volume, pass, false, line.sector, page, patience, gate)
         }
         Op::New => {
             line.page.copy_into(page);
-            write_new_patiently(volume, pass, line.sector, page, patience, gate)
+            write_patiently(volume, pass, true, line.sector, page, patience, gate)
         }
         Op::Trim => Kind::of_was(volume.trim(pass, line.sector)),
         Op::Meet => unreachable!(),
