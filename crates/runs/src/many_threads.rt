@@ -3,7 +3,7 @@ ghost use Rattle.std.specs.Io.KnownBytes.{IsAtEnd};
 ghost use Rattle.geometry.specs.Geometry.{brooms_of, hosts_of};
 ghost use Rattle.trace.specs.Watched.{failures_of, inner_of};
 ghost use Rattle.answers.specs.{Outcome.ExplainsRun, Streams.Tells, Streams.over, Streams.stream_of};
-ghost use Rattle.runs.specs.{Brooms.IsBroomLogOf, ByWorkers.WasPlayed, Files.EndsFile, Outputs.IsOutputByWorkers, Texts.IsTextOf};
+ghost use Rattle.runs.specs.{Brooms.IsBroomLogOf, ByWorkers.WasPlayed, Files.EndsFile, Outputs.ExplainsEnd, Outputs.IsOutputByWorkers, Texts.IsTextOf};
 
 use crate::broom_log::{log_room, tell_brooms_if};
 use crate::delivery::Delivery;
@@ -91,12 +91,8 @@ fn run_logged<T: Threads + Wait + Clock + Sync, R: Read, W: Write, V: Write, G: 
 ) -> Result<PlayedByWorkers, RunFault>
     requires hosts { 0 < hosts_of geometry.now }
     requires gates { length gates.old ≡ hosts_of geometry.now + brooms_of geometry.now }
-    ensures end { OnOk result (IsAtEnd (R.remaining (inner_of reader.new))) }
-    ensures text { OnOk result
-        (Tells (IsOutputByWorkers options.answers geometry.now)
-        (stream_of R.remaining reader.old) (over W.contents writer.old writer.new)) }
-    ensures reader_unfailed { OnOk result (failures_of reader.new ≡ failures_of reader.old) }
-    ensures writer_unfailed { OnOk result (failures_of writer.new ≡ failures_of writer.old) }
+    ensures ended { ExplainsEnd (IsOutputByWorkers options.answers) geometry.now
+        (over R.remaining reader.old reader.new) (over W.contents writer.old writer.new) result }
     ensures played { IfOk result
         (WasPlayed geometry.now options (stream_of R.remaining reader.old)
         (over W.contents writer.old writer.new) (over V.contents file.old file.new)) }
@@ -104,9 +100,6 @@ fn run_logged<T: Threads + Wait + Clock + Sync, R: Read, W: Write, V: Write, G: 
         (λ run. EndsFile options.log (IsBroomLogOf options.drains geometry.now)
         (stream_of R.remaining reader.old)
         (over V.contents file.old file.new) run.log) }
-    ensures why { IfErr result
-        (ExplainsRun (IsOutputByWorkers options.answers) geometry.now
-        (over R.remaining reader.old reader.new) (over W.contents writer.old writer.new)) }
     ensures no_log { OnErr result (stream_of V.contents file.new ≡ stream_of V.contents file.old) }
 {
     let commands = match read_commands(alloc, reader, geometry) {

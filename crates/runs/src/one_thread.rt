@@ -6,8 +6,8 @@ ghost use Rattle.trace.specs.Watched.{failures_of, inner_of};
 ghost use Rattle.answers.specs.{Answers.collection_names, Lines.waiting_of, Outcome.ExplainsRun, Playable.IsPlayable};
 ghost use Rattle.answers.specs.Streams.{Tells, WritesOut, over, stream_of};
 ghost use Rattle.runs.specs.{Collections.IsLogOf, Collections.log_text, Files.EndsFile, Files.LeavesLog, Files.LeavesText, Wear.IsStockOf, Wear.IsWearOf};
-ghost use Rattle.runs.specs.{Logs.IsLogUnderWay, Logs.IsLogged, Logs.is_wanted, Outputs.IsOutputOf, Outputs.written_of, Playing.IsTextOf, Playing.stock_before};
-ghost use Rattle.runs.specs.Refusals.{IsRefusedCount, refused_before};
+ghost use Rattle.runs.specs.{Logs.IsLogUnderWay, Logs.IsLogged, Logs.is_wanted, Outputs.ExplainsEnd, Outputs.IsOutputOf, Outputs.written_of};
+ghost use Rattle.runs.specs.{Playing.IsTextOf, Playing.stock_before, Refusals.IsRefusedCount, Refusals.refused_before};
 
 use crate::desk::Desk;
 use crate::files::{RunFiles, Wanted, Written};
@@ -134,12 +134,8 @@ fn run_out<R: Read, W: Write, V: Write>(
     geometry: &Geometry,
 ) -> Result<Played, RunFault>
     requires { hosts_of geometry.now ≡ 0 }
-    ensures end { OnOk result (IsAtEnd (R.remaining (inner_of reader.new))) }
-    ensures text { OnOk result
-        (Tells (IsOutputOf wanted.answers geometry.now)
-        (stream_of R.remaining reader.old) (over W.contents writer.old writer.new)) }
-    ensures reader_unfailed { OnOk result (failures_of reader.new ≡ failures_of reader.old) }
-    ensures writer_unfailed { OnOk result (failures_of writer.new ≡ failures_of writer.old) }
+    ensures ended { ExplainsEnd (IsOutputOf wanted.answers) geometry.now
+        (over R.remaining reader.old reader.new) (over W.contents writer.old writer.new) result }
     ensures geometry { IfOk result (λ played. geometry_of played.ftl ≡ geometry.now) }
     ensures refused { IfOk result
         (λ played. IfSome (R.remaining (inner_of reader.old))
@@ -151,9 +147,6 @@ fn run_out<R: Read, W: Write, V: Write>(
     ensures logged { IfOk result
         (λ played. IsLogUnderWay geometry.now (stream_of R.remaining reader.old) played.log
         (over V.contents file.old file.new)) }
-    ensures why { IfErr result
-        (ExplainsRun (IsOutputOf wanted.answers) geometry.now
-        (over R.remaining reader.old reader.new) (over W.contents writer.old writer.new)) }
     ensures log_left { IfErr result
         (λ fault. LeavesLog fault wanted.collections geometry.now
         (stream_of R.remaining reader.old) (over V.contents file.old file.new)) }

@@ -26,18 +26,19 @@ write_out-requires-clause-pages g c =
     let sizes = subst (All (λ row. page_size_of row ≡ page_bytes_of geo)) (sym kept) c.in-Ok-play_commands.ensures.pages in
     all_digits geo c.deref-2.result.now (digits_in c.in-Ok-new.delivery) c.in-Ok-new.ensures.digits sizes
 
-pub returns-in-Ok-write_out-clause-text : goal.returns-in-Ok-write_out-clause-text
-returns-in-Ok-write_out-clause-text g c =
+pub returns-in-Ok-write_out-clause-ended : goal.returns-in-Ok-write_out-clause-ended
+returns-in-Ok-write_out-clause-ended g c =
     let geo = c.args.geometry.now in
     let commands = c.deref.result.now in
     let input = g.R.Read.remaining (inner_of c.args.reader.now) in
     let kept : c.deref-2.result.now ≡ c.in-Ok-play_commands.end.rows.items = grind (arith, common_steps, reverse-reverse) in
     let played = renamed geo commands _ c.deref-2.result.now _ c.deref.ensures kept c.in-Ok-play_commands.ensures.played in
     let meaning = renamed_meaning geo commands _ input (c.deref.ensures ∙ c.in-Ok-new-2.ensures.ok) c.in-Ok.ensures.commands in
-    text_sent geo commands (answers_by c.deref-2.result.now) played c.args.options.answers input _ _ meaning c.in-Ok-write_out.ensures.1
+    let sent = text_sent geo commands (answers_by c.deref-2.result.now) played c.args.options.answers input _ _ meaning c.in-Ok-write_out.ensures.1 in
+    (c.in-Ok.ensures.end, sent, c.in-Ok.ensures.unfailed, c.in-Ok-write_out.ensures.0)
 
-pub returns-in-Err-write_out-clause-why : goal.returns-in-Err-write_out-clause-why
-returns-in-Err-write_out-clause-why g c =
+pub returns-in-Err-write_out-clause-ended : goal.returns-in-Err-write_out-clause-ended
+returns-in-Err-write_out-clause-ended g c =
     let geo = c.args.geometry.now in
     let commands = c.deref.result.now in
     let input = g.R.Read.remaining (inner_of c.args.reader.now) in
@@ -52,8 +53,8 @@ returns-in-Err-write_out-clause-why g c =
 pub play_commands-requires-clause-playable : goal.play_commands-requires-clause-playable
 play_commands-requires-clause-playable g c _ _ = rw c.in-Ok-new-2.ensures.ok c.in-Ok.ensures.playable
 
-pub returns-in-Err-Threads-clause-why : goal.returns-in-Err-Threads-clause-why
-returns-in-Err-Threads-clause-why g c =
+pub returns-in-Err-Threads-clause-ended : goal.returns-in-Err-Threads-clause-ended
+returns-in-Err-Threads-clause-ended g c =
     let input = g.R.Read.remaining (inner_of c.args.reader.now) in (
       λ none. omega (arith, none),
       record {
