@@ -3,22 +3,4 @@
 #![tactic(auto)]
 
 #[cfg(test)]
-mod assertions;
-#[cfg(test)]
-mod at_once;
-#[cfg(test)]
-mod call_gates;
-#[cfg(test)]
-mod gates;
-#[cfg(test)]
-mod opening;
-#[cfg(test)]
-mod recorder;
-#[cfg(test)]
-mod rows;
-#[cfg(test)]
-mod run;
-#[cfg(test)]
-mod shared_text;
-#[cfg(test)]
-mod visits;
+mod tests;

@@ -1,7 +1,7 @@
 //! Rows whose answers are the same in every schedule, and a trace whose answers are not.
-use crate::assertions::expect;
-use crate::run::{answers_of, play_freely, small};
-use crate::shared_text::text_of;
+use super::assertions::expect;
+use super::run::{answers_of, play_freely, small};
+use super::shared_text::text_of;
 use flash_table::NoGate;
 use rounds::{Answer, Kind};
 use std::test::Fail;

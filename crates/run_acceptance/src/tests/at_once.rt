@@ -1,6 +1,6 @@
 //! Workers run at the same time.
-use crate::assertions::expect;
-use crate::shared_text::text_of;
+use super::assertions::expect;
+use super::shared_text::text_of;
 use flash_table::{Gate, Point};
 use std::sync::atomic::{AtomicBool, Ordering};
 use std::test::Fail;

@@ -1,5 +1,5 @@
 //! What a run by workers writes.
-use crate::run::small;
+use super::run::small;
 use flash_table::Gate;
 use runs::run_shared;
 use std::alloc::Global;

@@ -1,8 +1,8 @@
 //! Each thread of a run asks the gate that has its number: first the workers, then the brooms.
-use crate::assertions::expect;
-use crate::run::{small, tally_of};
-use crate::shared_text::text_of;
-use crate::visits::{NO_VISITS, Visits};
+use super::assertions::expect;
+use super::run::{small, tally_of};
+use super::shared_text::text_of;
+use super::visits::{NO_VISITS, Visits};
 use std::test::Fail;
 use workers::Tally;
 

@@ -6,9 +6,9 @@ ghost use Rattle.host.specs.Ready.{IsReady};
 ghost use Rattle.volume.specs.Brooms.{IsBroomReady, IsBroomReady-prop};
 ghost use Rattle.volume.specs.Volume.{flash_of};
 
-use crate::assertions::expect;
-use crate::opening::{only_broom, only_pass};
-use crate::recorder::Recorder;
+use super::assertions::expect;
+use super::opening::{only_broom, only_pass};
+use super::recorder::Recorder;
 use answers::read_commands;
 use broom::{Broom, Drain, Erase};
 use flash_table::Point::{

@@ -1,0 +1,10 @@
+mod assertions;
+mod at_once;
+mod call_gates;
+mod gates;
+mod opening;
+mod recorder;
+mod rows;
+mod run;
+mod shared_text;
+mod visits;
