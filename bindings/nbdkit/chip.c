@@ -77,7 +77,9 @@ static int chip_program(void *at, uint32_t block, uint32_t page, const void *mai
     chip.is_untimed = 0;
     chip.end = luns_program(&chip.luns, block, chip.end);
     announce_given();
-    return fails(block, chip.options->fail_programs) ? fail_program(block, page, main) : chip.nand.program(at, block, page, main, stamp);
+    int answer = fails(block, chip.options->fail_programs) ? fail_program(block, page, main) : chip.nand.program(at, block, page, main, stamp);
+    announce_had_back();
+    return answer;
 }
 
 static int chip_copyback(void *at, uint32_t from_block, uint32_t from_page, uint32_t block, uint32_t page) {

@@ -337,6 +337,7 @@ static int write_pages(struct image_disk *disk, const uint8_t *from, uint32_t se
     uint64_t ticket = mtl_image_let_go(&disk->image);
     pthread_mutex_unlock(&disk->mutex);
     uint32_t code = mtl_image_commit(&disk->image, ticket);
+    announce_had_back();
     return result == 0 && code != MINTLINTEL_DONE ? fail_commit(disk, code) : result;
 }
 

@@ -50,7 +50,7 @@ ssize_t __wrap_pwritev64(int fd, const struct iovec *parts, int count, off_t at)
 int __wrap_fdatasync(int fd);
 
 #ifdef __SANITIZE_THREAD__
-char power_given;
+char power_given, power_written;
 #endif
 
 static void forget_all(void) {
@@ -162,10 +162,7 @@ ssize_t __wrap_pwrite64(int fd, const void *bytes, size_t count, off_t at) {
 }
 
 // Pages that are written together, or their stamps, are a write each.
-ssize_t __wrap_pwritev64(int fd, const struct iovec *parts, int count, off_t at) {
-    announce_taken();
-    if (!state.is_armed)
-        return __real_pwritev64(fd, parts, count, at);
+static ssize_t write_parts_armed(int fd, const struct iovec *parts, int count, off_t at) {
     ssize_t all = 0;
     for (int i = 0; i < count; i++) {
         ssize_t written = __wrap_pwrite64(fd, parts[i].iov_base, parts[i].iov_len, at + all);
@@ -174,6 +171,13 @@ ssize_t __wrap_pwritev64(int fd, const struct iovec *parts, int count, off_t at)
             return all > 0 ? all : written;
     }
     return all;
+}
+
+ssize_t __wrap_pwritev64(int fd, const struct iovec *parts, int count, off_t at) {
+    announce_taken();
+    ssize_t written = state.is_armed ? write_parts_armed(fd, parts, count, at) : __real_pwritev64(fd, parts, count, at);
+    announce_written();
+    return written;
 }
 
 int __wrap_fdatasync(int fd) {

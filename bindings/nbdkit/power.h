@@ -25,21 +25,32 @@ int power_open(struct power *power, const struct options *options);
 int power_start(struct power *power);
 void power_close(struct power *power);
 
-// The library gives pages that wait to the thread that writes them, by an atomic number that ThreadSanitizer doesn't see: so it is told of that.
+// The library gives pages that wait to the thread that writes them, and then has them back, by atomic numbers that ThreadSanitizer doesn't see: so it is
+// told of that.
 #ifdef __SANITIZE_THREAD__
 void __tsan_acquire(void *at);
 void __tsan_release(void *at);
-extern char power_given;
+extern char power_given, power_written;
 static inline void announce_given(void) {
     __tsan_release(&power_given);
 }
 static inline void announce_taken(void) {
     __tsan_acquire(&power_given);
 }
+static inline void announce_written(void) {
+    __tsan_release(&power_written);
+}
+static inline void announce_had_back(void) {
+    __tsan_acquire(&power_written);
+}
 #else
 static inline void announce_given(void) {
 }
 static inline void announce_taken(void) {
+}
+static inline void announce_written(void) {
+}
+static inline void announce_had_back(void) {
 }
 #endif
 

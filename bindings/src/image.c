@@ -12,12 +12,15 @@
 #include <stdlib.h>
 #include <string.h>
 #include <sys/file.h>
+#include <sys/mman.h>
 #include <sys/stat.h>
 #include <time.h>
 #include <unistd.h>
 
 /* How many blocks a mount asks for ahead of the one that it reads. */
 enum { BLOCKS_AHEAD = 16 };
+/* Larger images aren't mapped, since the system keeps 8 bytes for each page of 4 KiB. */
+#define MOST_MAPPED ((off_t)1 << 31)
 /* No block. */
 enum { NOWHERE = -1 };
 
@@ -96,7 +99,7 @@ int mtl_file_set_parts(struct mintlintel_image_file *file, struct iovec *parts, 
 {
     int error = write_all_parts(file->fd, parts, count, at);
     file->is_dirty = 1;
-    return error ? mtl_file_failed(file, error) : 0;
+    return error ? mtl_file_failed(file, error == EFAULT ? EIO : error) : 0;
 }
 
 int mtl_file_sync(struct mintlintel_image_file *file)
@@ -450,7 +453,9 @@ static void free_file(struct mintlintel_image_file *file)
         free(file->spares);
         free(file->zeros);
         free(file->page);
-        mtl_queue_end(&file->queue);
+        if (file->map)
+            munmap(file->map, (size_t)length_of(file));
+        free(file->queue.copies);
         free(file);
     }
 }
@@ -535,6 +540,13 @@ static uint32_t open_file(struct mintlintel_image_file *file, const char *path, 
     return code;
 }
 
+/* Maps a file, so that copies needn't be read. */
+static void map_file(struct mintlintel_image_file *file)
+{
+    void *map = length_of(file) < MOST_MAPPED ? mmap(NULL, (size_t)length_of(file), PROT_READ, MAP_SHARED, file->fd, 0) : MAP_FAILED;
+    file->map = map == MAP_FAILED ? NULL : map;
+}
+
 static uint32_t take_image(struct mintlintel_image_file *file, const struct mintlintel_durable_numbers *numbers)
 {
     struct mintlintel_image_head head;
@@ -555,6 +567,7 @@ static uint32_t take_image(struct mintlintel_image_file *file, const struct mint
     file->queue.copies = malloc((size_t)MOST_TOGETHER * head.numbers.page_bytes);
     if (!file->spares || !file->zeros || !file->page || !file->queue.copies)
         return MINTLINTEL_NO_MEMORY;
+    map_file(file);
     if (needs_checks(file, &mode) && check_pages(file, mode) != 0)
         return MINTLINTEL_FILE_FAILED;
     return write_session(file, IN_USE) == 0 ? MINTLINTEL_DONE : MINTLINTEL_FILE_FAILED;
@@ -578,7 +591,6 @@ static uint32_t open_device(struct mintlintel_image *image, const char *path, en
     file->fd = -1;
     file->mode = mode;
     file->is_mounting = 1;
-    mtl_queue_begin(&file->queue);
     uint32_t code = open_image(file, path, numbers);
     if (code == MINTLINTEL_DONE)
         code = mtl_durable_open(&image->device, &nand, &file->numbers, &file->reason, losses);

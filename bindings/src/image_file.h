@@ -4,13 +4,12 @@
 
 #include "flash.h"
 #include "image_format.h"
-#include <pthread.h>
 #include <sys/types.h>
 #include <sys/uio.h>
 
-/* How many commands wait at most, of how many pages one call of the system writes the main bytes or the spare bytes, how many conditions the threads
- * share that wait for a command, and how many counters of erases the blocks share. */
-enum { MOST_WAITING = 1024, MOST_TOGETHER = MTL_MOST_OF_A_RUN, TURNS = 64, ERASE_COUNTERS = 256 };
+/* How many commands wait at most, of how many pages one call of the system writes the main bytes or the spare bytes, how many turns the threads share
+ * that wait for a command, and how many counters of erases the blocks share. */
+enum { MOST_WAITING = 1024, MOST_TOGETHER = MTL_MOST_OF_A_RUN, TURNS = 32, ERASE_COUNTERS = 256 };
 /* The page of an erase. */
 #define WHOLE_BLOCK UINT32_MAX
 
@@ -26,12 +25,10 @@ struct queue {
     uint8_t spares[MOST_WAITING][SPARE_BYTES];
     uint64_t told, let_go; /* `let_go` is atomic */
     const uint8_t *kept, *kept_end; /* a page with these main bytes may wait after its call has returned */
-    uint8_t *copies; /* the leader's room for the main bytes of copies */
-    pthread_mutex_t mutex; /* of what follows; `done` and `is_led` are atomic too */
+    uint8_t *copies; /* the leader's room for the main bytes of copies, if the file isn't mapped */
+    /* What follows is atomic. Who waits for a command sleeps at `ended`, in the turn of the command's number. */
     uint64_t done;
-    pthread_cond_t turns[TURNS];
-    uint32_t sleepers[TURNS]; /* how many threads wait for a command with a number of this rest */
-    int is_led;
+    uint32_t is_led, ended, sleepers[TURNS]; /* whether there is a leader; how often one has ended; how many sleep in each turn */
 };
 
 struct mintlintel_image_file {
@@ -43,6 +40,7 @@ struct mintlintel_image_file {
     int is_mounting, is_dirty, is_erased; /* stamps or such were written since the last sync; a block was erased since then */
     uint32_t cached;         /* the block whose spare bytes are in `spares`; it isn't programmed before it is erased */
     uint8_t *spares, *zeros, *page;
+    uint8_t *map;            /* the bytes of the file, or null. Only the system reads them: where it can't, a write fails */
     off_t data_from, data_to; /* while mounting: no data stands between these places */
     struct queue queue;
     uint32_t erases[ERASE_COUNTERS]; /* how many erases of their blocks were given. Atomic */
@@ -73,9 +71,6 @@ static inline off_t page_at(const struct mintlintel_image_file *file, uint32_t b
 }
 
 /* ---- The commands that wait: 0 or 3 ---- */
-
-void mtl_queue_begin(struct queue *queue);
-void mtl_queue_end(struct queue *queue);
 
 /* Adds a command, with the spare bytes of a page. */
 int mtl_queue_add(struct mintlintel_image_file *file, const struct command *command, const uint8_t *spare);

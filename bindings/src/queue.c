@@ -3,8 +3,14 @@
 #define _FILE_OFFSET_BITS 64
 #include "image_file.h"
 #include <fcntl.h>
-#include <stdlib.h>
+#include <limits.h>
+#include <sched.h>
 #include <string.h>
+#ifdef __linux__
+#include <linux/futex.h>
+#include <sys/syscall.h>
+#include <unistd.h>
+#endif
 
 /* How often a thread looks whether its commands are done before it sleeps. */
 enum { LOOKS = 100 };
@@ -18,24 +24,7 @@ static const struct command *command_at(const struct queue *queue, uint64_t numb
 
 static uint64_t done_of(const struct queue *queue)
 {
-    return __atomic_load_n(&queue->done, __ATOMIC_ACQUIRE);
-}
-
-/* ---- Beginning and end ---- */
-
-void mtl_queue_begin(struct queue *queue)
-{
-    pthread_mutex_init(&queue->mutex, NULL);
-    for (int i = 0; i < TURNS; i++)
-        pthread_cond_init(&queue->turns[i], NULL);
-}
-
-void mtl_queue_end(struct queue *queue)
-{
-    pthread_mutex_destroy(&queue->mutex);
-    for (int i = 0; i < TURNS; i++)
-        pthread_cond_destroy(&queue->turns[i]);
-    free(queue->copies);
+    return __atomic_load_n(&queue->done, __ATOMIC_SEQ_CST);
 }
 
 /* ---- Doing them ---- */
@@ -85,6 +74,14 @@ static void write_ahead(const struct mintlintel_image_file *file, const struct c
 #endif
 }
 
+/* The main bytes of a command: those that it was given, or of a copy where its page stands in the map of the file, or where they are read to. */
+static void *main_of(const struct mintlintel_image_file *file, const struct command *command, uint8_t *copy)
+{
+    if (command->main)
+        return (void *)command->main;
+    return file->map ? file->map + page_at(file, command->from.block, command->from.page) : copy;
+}
+
 /* Programs pages that stand one behind another. The main bytes come first, so that a stamp never stands beside less than its page when the process is
  * killed. */
 static int program(struct mintlintel_image_file *file, uint64_t first, uint32_t count)
@@ -94,13 +91,13 @@ static int program(struct mintlintel_image_file *file, uint64_t first, uint32_t 
     const struct command *command = command_at(queue, first);
     size_t bytes = file->numbers.page_bytes;
     for (uint32_t i = 0; i < count; i++) {
-        const uint8_t *from = command_at(queue, first + i)->main;
-        main[i] = (struct iovec){from ? (void *)from : queue->copies + i * bytes, bytes};
+        main[i] = (struct iovec){main_of(file, command_at(queue, first + i), queue->copies + i * bytes), bytes};
         spares[i] = (struct iovec){queue->spares[(first + i) % MOST_WAITING], SPARE_BYTES};
     }
     if (file->mode == MINTLINTEL_FLUSH && file->is_erased && mtl_file_sync(file) != 0)
         return 3;
-    if (read_copies(file, first, count) != 0 || mtl_file_set_parts(file, main, count, page_at(file, command->block, command->page)) != 0 ||
+    if ((!file->map && read_copies(file, first, count) != 0) ||
+        mtl_file_set_parts(file, main, count, page_at(file, command->block, command->page)) != 0 ||
         mtl_file_set_parts(file, spares, count, spare_at(file, command->block, command->page)) != 0)
         return 3;
     write_ahead(file, command, count);
@@ -132,89 +129,92 @@ static int perform(struct mintlintel_image_file *file, uint64_t first, uint64_t 
 
 /* ---- Threads ---- */
 
-static void wake(struct queue *queue, uint64_t first, uint64_t end)
-{
-    for (uint64_t number = end - first > TURNS ? end - TURNS : first; number < end; number++)
-        if (queue->sleepers[number % TURNS] > 0)
-            pthread_cond_broadcast(&queue->turns[number % TURNS]);
-}
-
-/* Sleeps until the last command before this number is done, or something has failed. */
-static void sleep_until(struct queue *queue, uint64_t end)
-{
-    uint64_t turn = (end - 1) % TURNS;
-    queue->sleepers[turn]++;
-    pthread_cond_wait(&queue->turns[turn], &queue->mutex);
-    queue->sleepers[turn]--;
-}
-
 static uint64_t let_go_of(const struct queue *queue)
 {
-    return __atomic_load_n(&queue->let_go, __ATOMIC_ACQUIRE);
+    return __atomic_load_n(&queue->let_go, __ATOMIC_SEQ_CST);
 }
 
-/* Nobody leads: wakes a thread whose commands wait. If none of them sleeps, or one that was woken already, it comes by itself, and does the same when it
- * goes. */
-static void wake_one(struct queue *queue)
+static int is_led(const struct queue *queue)
 {
-    uint64_t number = queue->done, end = let_go_of(queue);
-    while (number < end && queue->sleepers[number % TURNS] == 0)
-        number++;
-    if (number < end)
-        pthread_cond_broadcast(&queue->turns[number % TURNS]);
+    return __atomic_load_n(&queue->is_led, __ATOMIC_SEQ_CST);
 }
 
-/* Does the commands that were let go. The mutex is given back meanwhile. */
+/* Sleeps in a turn, unless a leader has ended since the count of these was read. */
+static void sleep_in(struct queue *queue, uint32_t turn, uint32_t ended)
+{
+#ifdef __linux__
+    syscall(SYS_futex, &queue->ended, FUTEX_WAIT_BITSET_PRIVATE, ended, NULL, NULL, 1u << turn);
+#else
+    (void)queue, (void)turn, (void)ended;
+    sched_yield();
+#endif
+}
+
+/* Wakes threads that sleep until one of these commands is done, at most so many. All of them take one call, and nobody who wakes takes a lock: with a
+ * condition each would sleep once more, at its mutex. */
+static void wake(struct queue *queue, uint64_t first, uint64_t end, int most)
+{
+    uint32_t turns = 0;
+    for (uint64_t number = end - first > TURNS ? end - TURNS : first; number < end; number++)
+        turns |= (uint32_t)(__atomic_load_n(&queue->sleepers[number % TURNS], __ATOMIC_SEQ_CST) > 0) << number % TURNS;
+#ifdef __linux__
+    if (turns)
+        syscall(SYS_futex, &queue->ended, FUTEX_WAKE_BITSET_PRIVATE, most, NULL, NULL, turns);
+#else
+    (void)turns, (void)most;
+#endif
+}
+
+/* Does the commands that were let go. Then it wakes the threads that wait for these, or after a failure all, and one that does what was let go meanwhile.
+ * If none of those sleeps, they come by themselves. */
 static void lead(struct mintlintel_image_file *file)
 {
     struct queue *queue = &file->queue;
-    uint64_t first = queue->done, end = let_go_of(queue);
-    __atomic_store_n(&queue->is_led, 1, __ATOMIC_RELAXED);
-    pthread_mutex_unlock(&queue->mutex);
-    int result = perform(file, first, end);
-    pthread_mutex_lock(&queue->mutex);
-    __atomic_store_n(&queue->is_led, 0, __ATOMIC_RELAXED);
-    if (result != 0)
-        return;
-    __atomic_store_n(&queue->done, end, __ATOMIC_RELEASE);
-    wake(queue, first, end);
+    uint64_t first = done_of(queue), end = let_go_of(queue);
+    int result = has_failed(file) ? 3 : perform(file, first, end);
+    if (result == 0)
+        __atomic_store_n(&queue->done, end, __ATOMIC_SEQ_CST);
+    __atomic_store_n(&queue->is_led, 0, __ATOMIC_SEQ_CST);
+    __atomic_fetch_add(&queue->ended, 1, __ATOMIC_SEQ_CST);
+    wake(queue, first, result == 0 ? end : first + TURNS, INT_MAX);
+    wake(queue, end, let_go_of(queue), 1);
 }
 
-/* Looks for a moment whether all before this number is done, or nobody leads. */
-static void look(const struct queue *queue, uint64_t end)
+/* Waits until all before this number is done, or nobody leads, or less: it looks for a moment, and then sleeps. */
+static void wait_for(struct queue *queue, uint64_t end)
 {
-    for (int i = 0; i < LOOKS && done_of(queue) < end && __atomic_load_n(&queue->is_led, __ATOMIC_RELAXED); i++) {
+    uint32_t turn = (uint32_t)((end - 1) % TURNS);
+    for (int i = 0; i < LOOKS && done_of(queue) < end && is_led(queue); i++) {
 #if defined __x86_64__ && defined __GNUC__
         __builtin_ia32_pause();
 #endif
     }
+    __atomic_fetch_add(&queue->sleepers[turn], 1, __ATOMIC_SEQ_CST);
+    uint32_t ended = __atomic_load_n(&queue->ended, __ATOMIC_SEQ_CST);
+    if (done_of(queue) < end && is_led(queue))
+        sleep_in(queue, turn, ended);
+    __atomic_fetch_sub(&queue->sleepers[turn], 1, __ATOMIC_SEQ_CST);
 }
 
 int mtl_queue_commit(struct mintlintel_image_file *file, uint64_t end)
 {
     struct queue *queue = &file->queue;
-    look(queue, end);
-    pthread_mutex_lock(&queue->mutex);
-    while (queue->done < end && !has_failed(file)) {
-        if (!queue->is_led)
+    while (done_of(queue) < end) {
+        if (is_led(queue))
+            wait_for(queue, end);
+        else if (has_failed(file))
+            return 3;
+        else if (__atomic_exchange_n(&queue->is_led, 1, __ATOMIC_SEQ_CST) == 0)
             lead(file);
-        else
-            sleep_until(queue, end);
     }
-    int is_done = queue->done >= end;
-    if (has_failed(file))
-        wake(queue, 0, TURNS);
-    else if (!queue->is_led)
-        wake_one(queue);
-    pthread_mutex_unlock(&queue->mutex);
-    return is_done ? 0 : 3;
+    return 0;
 }
 
 /* ---- Under the layer's lock ---- */
 
 uint64_t mtl_queue_let_go(struct queue *queue)
 {
-    __atomic_store_n(&queue->let_go, queue->told, __ATOMIC_RELEASE);
+    __atomic_store_n(&queue->let_go, queue->told, __ATOMIC_SEQ_CST);
     return queue->told;
 }
 

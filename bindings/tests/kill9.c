@@ -1,5 +1,6 @@
 /* kill9 FOLDER [ROUNDS]: a process that writes to an image is killed at a random moment; then the image has what it acknowledged, and at most the calls
- * that were begun besides, one of each thread. What the process has begun and acknowledged stands in memory that it shares with its parent. */
+ * that were begun besides, one of each thread. What the process has begun and acknowledged stands in memory that it shares with its parent. Before that,
+ * threads that begin calls at the same time, over and over, have all of them answered. */
 #include "../src/flash.h"
 #include "written.h"
 #include <pthread.h>
@@ -10,7 +11,7 @@
 #include <time.h>
 #include <unistd.h>
 
-enum { LUNS = 1, BLOCKS = 48, PAGES = 16, PAGE_BYTES = 4096, SECTORS = 500, THREADS = 4, SHARE = SECTORS / THREADS, MOST_TOGETHER = 4 };
+enum { LUNS = 1, BLOCKS = 48, PAGES = 16, PAGE_BYTES = 4096, SECTORS = 500, THREADS = 4, SHARE = SECTORS / THREADS, MOST_TOGETHER = 4, BURSTS = 400 };
 
 /* A call that was begun: each of these sectors gets this value, 0 for a trim. */
 struct call { _Atomic uint32_t first, count, value; };
@@ -102,6 +103,42 @@ static void check_image(enum mintlintel_image_mode mode)
     CHECK(mintlintel_image_close(&image) == MINTLINTEL_DONE);
 }
 
+static pthread_barrier_t all_begin;
+
+static void *write_in_bursts(void *argument)
+{
+    uint32_t thread = (uint32_t)(uintptr_t)argument;
+    for (uint32_t burst = 1; burst <= BURSTS; burst++) {
+        pthread_barrier_wait(&all_begin);
+        write_some(thread * SHARE + burst % SHARE, 1, burst);
+    }
+    return NULL;
+}
+
+static void tell_sleeper(int signal)
+{
+    static const char text[] = "kill9: a call sleeps though nobody is at work on what waits\n";
+    (void)signal;
+    _exit(write(STDERR_FILENO, text, sizeof text - 1) > 0 ? 1 : 2);
+}
+
+/* Erases are synced, so that threads sleep meanwhile. Behind each burst nobody comes who would wake them. */
+static void write_at_once(void)
+{
+    pthread_t threads[THREADS];
+    CHECK(mintlintel_image_open(&used, path, MINTLINTEL_FLUSH, LUNS, BLOCKS, PAGES, PAGE_BYTES, SECTORS) == MINTLINTEL_DONE);
+    CHECK(pthread_barrier_init(&all_begin, NULL, THREADS) == 0);
+    signal(SIGALRM, tell_sleeper);
+    alarm(40);
+    for (uintptr_t i = 0; i < THREADS; i++)
+        CHECK(pthread_create(&threads[i], NULL, write_in_bursts, (void *)i) == 0);
+    for (int i = 0; i < THREADS; i++)
+        CHECK(pthread_join(threads[i], NULL) == 0);
+    alarm(0);
+    CHECK(mintlintel_image_close(&used) == MINTLINTEL_DONE);
+    unlink(path);
+}
+
 int main(int argc, char **argv)
 {
     long rounds = argc > 2 ? atol(argv[2]) : 30;
@@ -109,6 +146,7 @@ int main(int argc, char **argv)
     unlink(path);
     shared = mmap(NULL, sizeof *shared, PROT_READ | PROT_WRITE, MAP_SHARED | MAP_ANONYMOUS, -1, 0);
     CHECK(shared != MAP_FAILED);
+    write_at_once();
     for (long round = 0; round < rounds; round++) {
         enum mintlintel_image_mode mode = 1 + drawn(&state) % 3;
         struct timespec pause = {0, 1000 + (long)(drawn(&state) % 40000000)};
