@@ -1,12 +1,13 @@
 /* power FOLDER [ROUNDS]: an image whose machine loses power at random. Of what was written since the last sync each 4096 bytes are on the disk, or not, or
  * each sector of 512 bytes is for itself, up to any of the writes to it. In mode `always` the image then has each acknowledged call, and in mode `flush`
  * a beginning of the history with all that was flushed. A process that is killed between two writes leaves a beginning with all that was acknowledged.
- * The writes and syncs of the library are wrapped. */
+ * The writes and syncs of the library are wrapped, and every other image can't be mapped. */
 #include "../src/flash.h"
 #include "mintlintel_image.h"
 #include "testing.h"
 #include <errno.h>
 #include <fcntl.h>
+#include <sys/mman.h>
 #include <sys/uio.h>
 #include <unistd.h>
 
@@ -36,6 +37,14 @@ ssize_t __wrap_pwrite64(int fd, const void *bytes, size_t count, off_t at);
 ssize_t __wrap_pwritev64(int fd, const struct iovec *parts, int count, off_t at);
 int __wrap_fdatasync(int fd);
 int __wrap_fsync(int fd);
+void *__real_mmap64(void *at, size_t bytes, int rights, int flags, int fd, off_t from);
+void *__wrap_mmap64(void *at, size_t bytes, int rights, int flags, int fd, off_t from);
+
+void *__wrap_mmap64(void *at, size_t bytes, int rights, int flags, int fd, off_t from)
+{
+    static unsigned maps;
+    return maps++ % 2 ? MAP_FAILED : __real_mmap64(at, bytes, rights, flags, fd, from);
+}
 
 static int goes_off(void)
 {
