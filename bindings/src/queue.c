@@ -13,7 +13,7 @@
 #endif
 
 /* How often a thread looks whether its commands are done before it sleeps. */
-enum { LOOKS = 400 };
+enum { LOOKS = 100 };
 /* Of how many main bytes the system is asked to begin writing at once. */
 enum { STRETCH_BYTES = 1 << 19 };
 
