@@ -3,22 +3,4 @@
 #![tactic(auto)]
 
 #[cfg(test)]
-mod all_written;
-#[cfg(test)]
-mod arguments;
-#[cfg(test)]
-mod assertions;
-#[cfg(test)]
-mod by_workers;
-#[cfg(test)]
-mod fault_texts;
-#[cfg(test)]
-mod files;
-#[cfg(test)]
-mod memory_file;
-#[cfg(test)]
-mod memory_line;
-#[cfg(test)]
-mod rows;
-#[cfg(test)]
-mod session;
+mod tests;

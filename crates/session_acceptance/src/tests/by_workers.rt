@@ -1,6 +1,6 @@
 //! Sessions by workers, with the same answers in every schedule.
-use crate::assertions::expect;
-use crate::session::play;
+use super::assertions::expect;
+use super::session::play;
 use std::process::Abort;
 use std::sync::Wait;
 use std::test::Fail;

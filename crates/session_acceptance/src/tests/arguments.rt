@@ -1,6 +1,6 @@
 //! The arguments of a session: each option by two words or by one, all options, and what `clap` answers.
-use crate::assertions::expect;
-use crate::session::play;
+use super::assertions::expect;
+use super::session::play;
 use std::test::Fail;
 
 // All numbers by two words each, which are 20 words.

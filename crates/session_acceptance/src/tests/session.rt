@@ -1,6 +1,6 @@
 //! Plays a session, and returns what it leaves.
-use crate::memory_file::MemoryFile;
-use crate::memory_line::MemoryLine;
+use super::memory_file::MemoryFile;
+use super::memory_line::MemoryLine;
 use player::{RunFiles, Watched, read_words, session};
 use std::sync::Wait;
 use std::test::Fail;

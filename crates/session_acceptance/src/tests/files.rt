@@ -1,6 +1,6 @@
 //! The files of a session: the wear and the log of collections, written whole, in pieces, or not at all.
-use crate::assertions::expect;
-use crate::session::{Ended, play};
+use super::assertions::expect;
+use super::session::{Ended, play};
 use std::test::Fail;
 
 // The device of two LUNs, with four blocks, and both files.

@@ -1,7 +1,7 @@
 //! Sessions by one thread: an argument and a trace, with the status, the output and the line on standard error. The device is a small one
 //! with three sectors: one LUN and three blocks of two pages of one word, unless the row's arguments say otherwise.
-use crate::assertions::expect;
-use crate::session::play;
+use super::assertions::expect;
+use super::session::play;
 use std::test::Fail;
 
 // The arguments of the small device.

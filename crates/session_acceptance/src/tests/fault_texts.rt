@@ -1,5 +1,5 @@
 //! The text of each fault, as it is printed.
-use crate::assertions::expect;
+use super::assertions::expect;
 use ftl_one::{NewOneFault, WornOut};
 use host::{NewFault, NoBlock};
 use player::{GeometryFault, RunFault, TraceFault, TraceFaultKind};

@@ -1,6 +1,6 @@
 //! Sessions in which writes may be refused: with `--all-written` they end with a status of their own, and say how many.
-use crate::assertions::expect;
-use crate::session::play;
+use super::assertions::expect;
+use super::session::play;
 use std::test::Fail;
 
 // Two sectors are written in turn, and each block is erased at most once.

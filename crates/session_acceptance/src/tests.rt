@@ -1,0 +1,10 @@
+mod all_written;
+mod arguments;
+mod assertions;
+mod by_workers;
+mod fault_texts;
+mod files;
+mod memory_file;
+mod memory_line;
+mod rows;
+mod session;
