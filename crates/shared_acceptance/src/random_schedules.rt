@@ -1,9 +1,8 @@
 //! Schedules that are drawn from seeds.
-ghost use Rattle.std.specs.Prelude.{◌≡◌, All, length};
+ghost use Rattle.std.specs.Prelude.{All};
 ghost use Rattle.host.specs.Ready.{IsReady};
-ghost use Rattle.volume.specs.Brooms.{IsBroomReady};
 ghost use Rattle.volume.specs.Volume.{flash_of};
-ghost use Rattle.shared_acceptance.specs.Kept.{IsHome};
+ghost use Rattle.shared_acceptance.specs.Kept.{HasActors};
 
 use crate::actor_setup::{end_all, next_broom, next_host};
 use crate::actors::Home;
@@ -39,10 +38,7 @@ fn play<'x, R: Wait + Abort + AllocGlobal, H: Home>(
     brooms: Vec<Broom>,
     oracle: Oracle,
 ) -> (Vec<Pass>, Oracle)
-    requires home { IsHome H.home volume.now }
-    requires ready { All (IsReady (flash_of volume.now)) passes.items }
-    requires brooms { All (IsBroomReady volume.now) brooms.items }
-    requires two { length brooms.items ≡ 2 }
+    requires { HasActors H.home volume.now passes.items brooms.items }
     ensures { All (IsReady (flash_of volume.now)) result.0.items }
 {
     let (mut passes, mut brooms) = (passes, brooms);
