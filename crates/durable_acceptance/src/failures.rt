@@ -1,6 +1,6 @@
 use crate::bench::{Call, chip, expect, make, marked, open, power_on, read};
-use crate::random::start;
-use nand::{Chip, Durable, Failure};
+use crate::random::{Run, start};
+use nand::{Chip, Durable, Failure, Nand};
 use std::process::Abort;
 use std::test::Fail;
 
@@ -117,16 +117,8 @@ fn call_of(stopped: Option<(Call, Failure)>) -> Option<Call> {
 }
 
 // Failures and cuts at random, each followed by a check of all sectors.
-fn play(
-    rt: &(impl Abort + AllocGlobal),
-    blocks: u32,
-    pages: u32,
-    sectors: u32,
-    seed: u64,
-    rounds: u64,
-) -> Result<(), Fail> {
-    let mut run = start(sectors, seed);
-    let mut chip = chip(rt.alloc(), blocks, pages)?;
+fn play(rt: &(impl Abort + AllocGlobal), mut run: Run, mut chip: Chip, rounds: u64) {
+    let most = chip.shape().blocks / 50 + 1;
     for _ in 0..rounds {
         let commands = 1 + run.random.below(60);
         chip.fail_at(chip.commands().wrapping_add(commands));
@@ -135,8 +127,8 @@ fn play(
             let cut = run.random.cut();
             chip.cut_at(chip.commands().wrapping_add(commands), cut);
         }
-        let Some(mut layer) = open(rt, chip, sectors) else {
-            return Ok(());
+        let Some(mut layer) = open(rt, chip, run.sectors) else {
+            return;
         };
         run.check(rt, &mut layer, None);
         let before = layer.reserve();
@@ -146,31 +138,30 @@ fn play(
         chip = layer.into_nand();
         if let Some((_, failure)) = stopped {
             if failure == Failure::PowerGone {
-                chip = power_on(rt, chip, sectors);
+                chip = power_on(rt, chip, run.sectors);
             } else {
                 let told = failure == Failure::Failed && reserve == 0;
                 expect(rt, told, &(run.calls, failure, reserve));
             }
         }
-        let Some(mut layer) = open(rt, chip, sectors) else {
-            return Ok(());
+        let Some(mut layer) = open(rt, chip, run.sectors) else {
+            return;
         };
         run.check(rt, &mut layer, call_of(stopped));
         let left = layer.reserve();
         chip = layer.into_nand();
         let all = marked(rt, &mut chip).wrapping_add(left);
-        expect(rt, all == blocks / 50 + 1, &(all, left));
+        expect(rt, all == most, &(all, left));
     }
     expect(rt, chip.violations() == 0, &chip.violations());
-    expect(rt, marked(rt, &mut chip) == blocks / 50 + 1, &blocks);
-    Ok(())
+    expect(rt, marked(rt, &mut chip) == most, &most);
 }
 
 #[test]
 fn failures_and_cuts_at_random(rt: HostRuntime) -> Result<(), Fail> {
-    play(&rt, 4, 2, 3, 1, 200)?;
-    play(&rt, 8, 4, 16, 2, 200)?;
-    play(&rt, 60, 2, 16, 3, 100)?;
-    play(&rt, 200, 2, 16, 4, 100)?;
+    play(&rt, start(3, 1), chip(rt.alloc(), 4, 2)?, 200);
+    play(&rt, start(16, 2), chip(rt.alloc(), 8, 4)?, 200);
+    play(&rt, start(16, 3), chip(rt.alloc(), 60, 2)?, 100);
+    play(&rt, start(16, 4), chip(rt.alloc(), 200, 2)?, 100);
     Ok(())
 }

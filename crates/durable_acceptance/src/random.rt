@@ -55,7 +55,7 @@ impl Random {
 // A layer whose chip loses its power, and the array that it has to hold.
 #[derive(Drop)]
 pub(crate) struct Run {
-    sectors: u32,
+    pub(crate) sectors: u32,
     shadow: [Option<u8>; SECTORS],
     pub(crate) random: Random,
     pub(crate) calls: u64,
@@ -154,16 +154,7 @@ pub(crate) fn start(sectors: u32, seed: u64) -> Run {
 }
 
 // One run: cuts at random, each followed by a mount that first finds no power.
-fn play(
-    rt: &(impl Abort + AllocGlobal),
-    blocks: u32,
-    pages: u32,
-    sectors: u32,
-    seed: u64,
-    calls: u64,
-) -> Result<(), Fail> {
-    let mut run = start(sectors, seed);
-    let mut chip = chip(rt.alloc(), blocks, pages)?;
+fn play(rt: &(impl Abort + AllocGlobal), mut run: Run, mut chip: Chip, calls: u64) {
     for _ in 0..calls {
         if run.calls >= calls {
             break;
@@ -171,25 +162,24 @@ fn play(
         let commands = 1 + run.random.below(60);
         let cut = run.random.cut();
         chip.cut_at(chip.commands().wrapping_add(commands), cut);
-        let Some(mut layer) = open(rt, chip, sectors) else {
-            return Ok(());
+        let Some(mut layer) = open(rt, chip, run.sectors) else {
+            return;
         };
         run.check(rt, &mut layer, None);
         let cut_short = run.until_cut(rt, &mut layer, 200);
         chip = layer.into_nand();
         if cut_short.is_some() {
             run.cuts = run.cuts.wrapping_add(1);
-            chip = power_on(rt, chip, sectors);
+            chip = power_on(rt, chip, run.sectors);
         }
-        let Some(mut layer) = open(rt, chip, sectors) else {
-            return Ok(());
+        let Some(mut layer) = open(rt, chip, run.sectors) else {
+            return;
         };
         run.check(rt, &mut layer, cut_short);
         chip = layer.into_nand();
     }
     expect(rt, chip.violations() == 0, &chip.violations());
     expect(rt, run.cuts > calls / 200, &(run.calls, run.cuts));
-    Ok(())
 }
 
 #[test]
@@ -220,10 +210,10 @@ fn a_cut_at_each_command_in_turn(rt: HostRuntime) -> Result<(), Fail> {
 
 #[test]
 fn many_calls_with_cuts_at_random(rt: HostRuntime) -> Result<(), Fail> {
-    play(&rt, 3, 2, 3, 1, 20_000)?;
-    play(&rt, 4, 3, 8, 2, 20_000)?;
-    play(&rt, 5, 4, 15, 3, 20_000)?;
-    play(&rt, 8, 4, 16, 4, 20_000)?;
+    play(&rt, start(3, 1), chip(rt.alloc(), 3, 2)?, 20_000);
+    play(&rt, start(8, 2), chip(rt.alloc(), 4, 3)?, 20_000);
+    play(&rt, start(15, 3), chip(rt.alloc(), 5, 4)?, 20_000);
+    play(&rt, start(16, 4), chip(rt.alloc(), 8, 4)?, 20_000);
     Ok(())
 }
 
