@@ -20,7 +20,7 @@ cases_covered extent k = ⊎_elim
     (cases_lt k (extent.first + extent.count)))
     (cases_lt k extent.first)
 
-covered : (extent : Extent) (k : ℕ) → extent.first ≤ k → k < extent.first + extent.count → is_covered extent k ≡ true
+pub covered : (extent : Extent) (k : ℕ) → extent.first ≤ k → k < extent.first + extent.count → is_covered extent k ≡ true
 covered extent k from below = grind (arith, nat_tests)
 
 before_it : (extent : Extent) (k : ℕ) → k < extent.first → is_covered extent k ≡ false
@@ -29,7 +29,7 @@ before_it extent k lt = grind (arith, nat_tests)
 past_it : (extent : Extent) (k : ℕ) → extent.first ≤ k → extent.first + extent.count ≤ k → is_covered extent k ≡ false
 past_it extent k from past = grind (arith, nat_tests)
 
-not_covered : (extent : Extent) (k : ℕ) → ¬ Covers extent k → is_covered extent k ≡ false
+pub not_covered : (extent : Extent) (k : ℕ) → ¬ Covers extent k → is_covered extent k ≡ false
 not_covered extent k out = ⊎_elim
     (λ before. before_it extent k before)
     (λ from. ⊎_elim

@@ -12,7 +12,7 @@ impl Core {
     ghost use Rattle.durable.specs.Flash.{Flash};
     ghost use Rattle.durable.specs.Updates.{LiesWithin, Update, array_after};
     ghost use Rattle.durable.specs.Device.{device_of, losses_of, next_page_of, next_number_of};
-    ghost use Rattle.durable.specs.Memory.{IsMappedTo};
+    ghost use Rattle.durable.specs.Memory.{IsMappedTo, map_entry};
     ghost use Rattle.durable.specs.Choice.{IsNext, StaysOpen, Spends, left, number_after};
     ghost use Rattle.durable.specs.Promise.{IsConsistent};
     ghost use Rattle.durable.specs.Calls.{IsSafe, SurvivesCut, SurvivesIdleCut, Acknowledges};
@@ -37,7 +37,9 @@ impl Core {
     /// The page with the sector's value, or with its trim if that is needed; none where no page has a value of it.
     pub fn page(&self, sector: u32) -> Option<PageAddr>
         requires { sector < (device_of self.now).sectors }
-        ensures { (f : Flash) (acked begun : List Update) (consistent : IsConsistent f self.now acked begun)
+        ensures map { result ≡ map_entry self.now sector }
+        ensures newest { (f : Flash) (acked begun : List Update)
+            (consistent : IsConsistent f self.now acked begun)
             → IsMappedTo f sector (array_after consistent.updates sector) result }
     {
         self.map.get(sector as usize)

@@ -1,92 +1,162 @@
--- What a read says of a sector of an open layer.
-use Rattle.std.proofs.Common.{◌≡◌, ◌∙◌, ℕ, Bool, List, Option, Some, None, Result, Ok, refl, ap, subst, if◌then◌else◌}
+-- What a look says of a sector.
+use Rattle.std.proofs.Common.{◌≡◌, ◌≢◌, ◌∙◌, ⊎_elim, ◌<◌, ℕ, Bool, true, false, List, Option, Some, None, Result, Ok, Err, IfErr}
+use Rattle.std.proofs.Common.{refl, sym, ap, subst, arith, if◌then◌else◌}
 use Rattle.geometry.specs.declared.answer.Was.{Was}
 use Rattle.geometry.specs.declared.answer.Was.TheVariants as was
-use Rattle.geometry.specs.declared.answer.Got.TheVariants as got
+use Rattle.geometry.specs.declared.answer.Got.{Got}
 use Rattle.geometry.specs.declared.page_addr.PageAddr.{PageAddr}
 use Rattle.geometry.specs.Sectors.{Sector, was_of}
-use Rattle.durable.specs.Flash.{Flash, PageContents, HoldsNewest, is_trim}
-use Rattle.durable.specs.Memory.{IsMappedTo}
-use Rattle.durable.specs.Promise.{IsConsistent}
-use Rattle.durable.specs.Updates.{Covers, Update, array_after}
+use Rattle.durable.specs.Flash.{Flash, PageContents, Erased, Torn, Version, HoldsNewest}
+use Rattle.durable.specs.Memory.{IsMappedTo, map_entry}
+use Rattle.durable.specs.Updates.{Covers, Update, array_after, is_covered, sole}
 use Rattle.durable.specs.declared.extent.Extent.{Extent}
-use Rattle.durable.specs.declared.memory.Core.{Core}
+use Rattle.durable.proofs.Extents.{cases_covered, covered, not_covered}
 use Rattle.nand.specs.declared.failure.Failure.{Failure}
-use Rattle.nand.specs.declared.flash.Reading.{Reading}
-use Rattle.nand.specs.declared.flash.Reading.TheVariants as outcome
-use Rattle.nand.specs.Nand.{ReadsStamp, ReadsMain}
+use Rattle.nand.specs.declared.failure.Failure.TheVariants as failure
+use Rattle.nand.specs.Stored.{ReadsStored, StopsLook, StopsUpdate, TellsStored, WereStored, value_of, told_of, value_at, value_for}
+use Rattle.nand.specs.Nand.{HasBytes, ReadsMain}
 use Rattle.nand.specs.Numbers.{chip_page, numbered}
 use Rattle.nand.specs.declared.flash.Shape.{Shape}
 use Rattle.nand.specs.declared.layer.Durable.{Durable}
-use Rattle.nand.specs.Opened.{IsOpenLayer, ReadsSector}
+use Rattle.nand.specs.Opened.{IsOpenLayer, ReadsSector, layer_sectors}
 use Rattle.nand.proofs.Steps.{array_is}
 
-pub was_found : (value : Sector) → (if is_trim value then was.Empty else was.Written) ≡ was_of value
-was_found None = refl
-was_found (Some bytes) = refl
+-- a version that a page has of a sector
+has_value : (f : Flash) (s : ℕ) (value : Sector) (b p : ℕ) → HoldsNewest f s value b p → value_for (f b p) s ≡ Some value
+has_value f s value b p newest =
+    ap (λ (page : PageContents). value_for page s) newest.held.1
+    ∙ ap (λ (has : Bool). if has then Some value else None) (covered newest.held.0 s newest.held.2.0 newest.held.2.1)
 
--- where an open layer has a sector
-pub mapped : (f : Flash) (core : Core) (updates : List Update) (s : ℕ) (entry : Option PageAddr) (is : IsConsistent f core updates updates)
-    → IsMappedTo f s (array_after is.updates s) entry → IsMappedTo f s (array_after updates s) entry
-mapped f core updates s entry is found = subst (λ (value : Sector). IsMappedTo f s value entry) (array_is f core updates is s) found
+entry_has : (f : Flash) (s : ℕ) (value : Sector) (entry : Option PageAddr) → IsMappedTo f s value entry → value_at f entry s ≡ Some value
+entry_has f s value None is = ap Some (sym is.0)
+entry_has f s value (Some at) is = has_value f s value at.block at.page is
 
--- what the stamp of its page says
-pub says : (f : Flash) (s : ℕ) (at : PageAddr) (value : Sector) (reading : Reading) (told : Result Was Failure) → HoldsNewest f s value at.block at.page
-    → ReadsStamp (f at.block at.page) reading
-    → ((e : Extent) (n : ℕ) (t : Bool) → Covers e s → reading ≡ outcome.Version (record { extent = e; number = n; trimmed = t })
-    → told ≡ Ok (if t then was.Empty else was.Written))
-    → told ≡ Ok (was_of value)
-says f s at value reading told newest reads version =
-    version newest.held.0 newest.number (is_trim value) newest.held.2 (subst (λ (x : PageContents). ReadsStamp x reading) newest.held.1 reads) ∙ ap Ok
-    (was_found value)
+is_data : (s : ℕ) (bytes : Option Sector) (out : List ℕ) → told_of bytes ≡ Ok was.Written
+    → ((value : List ℕ) → bytes ≡ Some (Some value) → out ≡ value) → bytes ≡ Some (Some out)
+is_data s None out told main = absurd (cc told)
+is_data s (Some None) out told main = absurd (cc told)
+is_data s (Some (Some bytes)) out told main = ap (λ (x : List ℕ). Some (Some x)) (sym (main bytes refl))
 
-pub gives_none : (value : Sector) (out : List ℕ) → value ≡ None → ReadsSector value got.Empty out
-gives_none None out is = refl
-gives_none (Some bytes) out is = absurd (cc is)
+main_of : (e : Extent) (n s : ℕ) (value : Sector) (has : Bool) (bytes out : List ℕ) → ReadsMain (Version e n value) out
+    → (if has then Some value else None) ≡ Some (Some bytes) → out ≡ bytes
+main_of e n s (Some there) true bytes out main is = main ∙ cc is
+main_of e n s None true bytes out main is = absurd (cc is)
+main_of e n s value false bytes out main is = absurd (cc is)
 
-pub was_none : (value : Sector) → value ≡ None → was.Empty ≡ was_of value
-was_none None is = refl
-was_none (Some bytes) is = absurd (cc is)
+reads_main : (page : PageContents) (s : ℕ) (bytes out : List ℕ) → ReadsMain page out → value_for page s ≡ Some (Some bytes) → out ≡ bytes
+reads_main (Version e n value) s bytes out main is = main_of e n s value (is_covered e s) bytes out main is
+reads_main Erased s bytes out main is = absurd (cc is)
+reads_main Torn s bytes out main is = absurd (cc is)
 
-pub gives_empty : (value : Sector) (out : List ℕ) → was_of value ≡ was.Empty → ReadsSector value got.Empty out
-gives_empty None out is = refl
-gives_empty (Some bytes) out is = absurd (cc is)
+-- the bytes that were read from a page that has a value of the sector
+pub data_in : (page : PageContents) (s : ℕ) (out : List ℕ) → told_of (value_for page s) ≡ Ok was.Written → ReadsMain page out
+    → value_for page s ≡ Some (Some out)
+data_in page s out told main = is_data s (value_for page s) out told (λ bytes is. reads_main page s bytes out main is)
 
-pub gives_data : (f : Flash) (s b p : ℕ) (value : Sector) (out : List ℕ) → HoldsNewest f s value b p → ReadsMain (f b p) out → was_of value ≡ was.Written
-    → ReadsSector value got.Data out
-gives_data f s b p None out newest main is = absurd (cc is)
-gives_data f s b p (Some bytes) out newest main is = (refl, subst (λ (x : PageContents). ReadsMain x out) newest.held.1 main)
+bytes_at : (f : Flash) (b p s : ℕ) (out : List ℕ) (page : PageContents) → f b p ≡ page → value_for page s ≡ Some (Some out) → HasBytes f s out
+bytes_at f b p s out (Version e n value) is has = ⊎_elim
+    (λ on. (
+      b,
+      p,
+      e,
+      n,
+      on,
+      is ∙ ap (Version e n)
+          (cc (sym (ap (λ (x : Bool). if x then Some value else None) (covered e s on.0 on.1)) ∙ has)),
+    ))
+    (λ out. absurd (cc (sym (ap (λ (x : Bool). if x then Some value else None) (not_covered e s out)) ∙ has)))
+    (cases_covered e s)
+bytes_at f b p s out Erased is has = absurd (cc has)
+bytes_at f b p s out Torn is has = absurd (cc has)
 
--- what an open layer's map has of a sector
-module _ {N : Type 0} (flash : N → Flash) (shape : N → Shape) (bad : N → List Bool) (layer : Durable N) (updates : List Update)
-    (is : IsOpenLayer flash shape bad layer updates) (s : ℕ) (entry : Option PageAddr)
-    (page : (f : Flash) (acked begun : List Update) (consistent : IsConsistent f layer.core acked begun)
-    → IsMappedTo f s (array_after consistent.updates s) entry) where
-  maps : IsMappedTo (numbered layer.numbers.items (flash layer.nand)) s (array_after updates s) entry
-  maps = let f = numbered layer.numbers.items (flash layer.nand) in
-      mapped f layer.core updates s entry is.consistent (page f updates updates is.consistent)
+pub has_bytes : (f : Flash) (b p s : ℕ) (out : List ℕ) → value_for (f b p) s ≡ Some (Some out) → HasBytes f s out
+has_bytes f b p s out has = bytes_at f b p s out (f b p) refl has
 
-  pub no_page : entry ≡ None → array_after updates s ≡ None
-  no_page none = (subst (IsMappedTo (numbered layer.numbers.items (flash layer.nand)) s (array_after updates s)) none maps).0
+-- a sector that was told to be empty
+pub empty_there : (has : Option Sector) → told_of has ≡ Ok was.Empty → has ≡ Some None
+empty_there None told = absurd (cc told)
+empty_there (Some None) told = refl
+empty_there (Some (Some bytes)) told = absurd (cc told)
 
-  -- the chip's page, as it was read
-  module _ (at : PageAddr) (some : entry ≡ Some at) (ns : List ℕ) (same : ns ≡ layer.numbers.items) (place : PageAddr)
-      (placed : place ≡ chip_page ns at) where
-    newest_at : HoldsNewest (numbered layer.numbers.items (flash layer.nand)) s (array_after updates s) at.block at.page
-    newest_at = subst (IsMappedTo (numbered layer.numbers.items (flash layer.nand)) s (array_after updates s)) some maps
+-- what is told of one sector
+tells_as : (has : ℕ → Option Sector) (s : ℕ) (value : Option Sector) → has s ≡ value → TellsStored has (sole s) (told_of value)
+tells_as has s None is = (s, (omega arith, omega arith), is)
+tells_as has s (Some None) is = λ k on. subst (λ (j : ℕ). has j ≡ Some None) (omega (arith, on.0, on.1)) is
+tells_as has s (Some (Some bytes)) is = (s, (omega arith, omega arith), bytes, is)
 
-    on_chip : (P : PageContents → Type 0) → P (flash layer.nand place.block place.page)
-        → P (numbered layer.numbers.items (flash layer.nand) at.block at.page)
-    on_chip P there = subst (λ (x : PageAddr). P (flash layer.nand x.block x.page)) (placed ∙ ap (λ (order : List ℕ). chip_page order at) same) there
+pub tells : (has : ℕ → Option Sector) (s : ℕ) (result : Result Was Failure) → result ≡ told_of (has s) → TellsStored has (sole s) result
+tells has s result is = subst (TellsStored has (sole s)) (sym is) (tells_as has s (has s) refl)
 
-    pub tells : (reading : Reading) (told : Result Was Failure) → ReadsStamp (flash layer.nand place.block place.page) reading
-        → ((e : Extent) (n : ℕ) (t : Bool) → Covers e s → reading ≡ outcome.Version (record { extent = e; number = n; trimmed = t })
-        → told ≡ Ok (if t then was.Empty else was.Written))
-        → told ≡ Ok (was_of (array_after updates s))
-    tells reading told stamp version = says (numbered layer.numbers.items (flash layer.nand)) s at (array_after updates s) reading told newest_at
-        (on_chip (λ (x : PageContents). ReadsStamp x reading) stamp) version
+-- one sector of an extent
+module _ (has before : ℕ → Option Sector) (e : Extent) (s : ℕ) (on : Covers e s) (same : (k : ℕ) → has k ≡ before k) where
+  there : (value : Option Sector) (k : ℕ) → Covers (sole s) k → has k ≡ value → before s ≡ value
+  there value k at is = sym (same s) ∙ subst (λ (j : ℕ). has j ≡ value) (omega (arith, at.0, at.1)) is
 
-    pub tells_data : (out : List ℕ) → ReadsMain (flash layer.nand place.block place.page) out → was_of (array_after updates s) ≡ was.Written
-        → ReadsSector (array_after updates s) got.Data out
-    tells_data out main written = gives_data (numbered layer.numbers.items (flash layer.nand)) s at.block at.page (array_after updates s) out newest_at
-        (on_chip (λ (x : PageContents). ReadsMain x out) main) written
+  pub empty_within : WereStored has (sole s) was.Empty → before s ≡ Some None
+  empty_within empty = sym (same s) ∙ empty s (omega arith, omega arith)
+
+  pub written_within : WereStored has (sole s) was.Written → WereStored before e was.Written
+  written_within is = (s, on, is.2, there (Some (Some is.2)) is.0 is.1 is.3)
+
+  pub stops_within : (cause : Failure) → StopsLook has (sole s) cause → StopsLook before e cause
+  stops_within failure.Lost is = (s, on, there None is.0 is.1 is.2)
+  stops_within failure.PowerGone is = tt
+  stops_within failure.Closed is = tt
+  stops_within failure.Failed is = is
+  stops_within failure.OutOfMemory is = is
+  stops_within failure.NoNumber is = is
+  stops_within failure.Written is = is
+
+-- how a call fails that looks first
+module _ (wanted : Was) (has : ℕ → Option Sector) (e : Extent) where
+  pub stops_first : (cause : Failure) → StopsLook has e cause → StopsUpdate wanted has e cause
+  stops_first failure.Lost is = is
+  stops_first failure.PowerGone is = is
+  stops_first failure.Closed is = is
+  stops_first failure.Failed is = absurd is
+  stops_first failure.OutOfMemory is = absurd is
+  stops_first failure.NoNumber is = absurd is
+  stops_first failure.Written is = absurd is
+
+  stops_so : (cause : Failure) → WereStored has e wanted → cause ≢ failure.Lost → cause ≢ failure.Written → StopsUpdate wanted has e cause
+  stops_so failure.Lost were lost written = absurd (lost refl)
+  stops_so failure.PowerGone were lost written = tt
+  stops_so failure.Closed were lost written = tt
+  stops_so failure.Failed were lost written = were
+  stops_so failure.OutOfMemory were lost written = were
+  stops_so failure.NoNumber were lost written = were
+  stops_so failure.Written were lost written = absurd (written refl)
+
+  pub stops_then : {T : Type 0} (result : Result T Failure) → WereStored has e wanted → result ≢ Err failure.Lost → result ≢ Err failure.Written
+      → IfErr result (StopsUpdate wanted has e)
+  stops_then {T} (Ok value) were lost written = tt
+  stops_then {T} (Err cause) were lost written = stops_so cause were (λ is. lost (ap Err is)) (λ is. written (ap Err is))
+
+-- what a layer has of a sector
+module _ {N : Type 0} (flash : N → Flash) (layer : Durable N) (s : ℕ) where
+  pub no_page : (entry : Option PageAddr) → entry ≡ map_entry layer.core s → entry ≡ None → value_of flash layer s ≡ Some None
+  no_page entry is none =
+      ap (λ (at : Option PageAddr). value_at (numbered layer.numbers.items (flash layer.nand)) at s) (sym is ∙ none)
+
+  pub in_page : (entry : Option PageAddr) → entry ≡ map_entry layer.core s → (at : PageAddr) → entry ≡ Some at → (ns : List ℕ)
+      → ns ≡ layer.numbers.items → (place : PageAddr) → place ≡ chip_page ns at
+      → value_of flash layer s ≡ value_for (flash layer.nand place.block place.page) s
+  in_page entry is at some ns same place placed =
+      ap (λ (x : Option PageAddr). value_at (numbered layer.numbers.items (flash layer.nand)) x s) (sym is ∙ some)
+      ∙ ap (λ (x : PageAddr). value_for (flash layer.nand x.block x.page) s) (sym (placed ∙ ap (λ (order : List ℕ). chip_page order at) same))
+
+  -- an open layer has the array
+  module _ (shape : N → Shape) (bad : N → List Bool) (updates : List Update) (is : IsOpenLayer flash shape bad layer updates)
+      (lt : s < layer_sectors layer) where
+    pub in_array : value_of flash layer s ≡ Some (array_after updates s)
+    in_array =
+        let f = numbered layer.numbers.items (flash layer.nand) in
+        let whole = is.consistent in
+        entry_has f s (array_after whole.updates s) (map_entry layer.core s) (whole.represents.mapped s lt)
+        ∙ ap Some (array_is f layer.core updates whole s)
+
+    pub gives : (got : Got) (out : List ℕ) → ReadsStored (value_of flash layer s) got out → ReadsSector (array_after updates s) got out
+    gives got out reads = subst (λ (has : Option Sector). ReadsStored has got out) in_array reads
+
+    pub told_there : (result : Result Was Failure) → result ≡ told_of (value_of flash layer s) → result ≡ Ok (was_of (array_after updates s))
+    told_there result told = told ∙ ap told_of in_array

@@ -1,6 +1,6 @@
 -- The commands of one call.
 use Rattle.std.proofs.Common.{◌≡◌, ◌≢◌, ◌⊎◌, ◌∙◌, inl, ⊎_elim, ◌+◌, ◌-◌, ◌%◌, ◌^◌, ◌<◌, ℕ, Bool, true, false}
-use Rattle.std.proofs.Common.{List, ◌∷◌, None, Some, Result, Ok, Err, OnOk, IfErr, sym, refl}
+use Rattle.std.proofs.Common.{List, Vec, ◌∷◌, None, Some, Result, Ok, Err, OnOk, IfErr, sym, refl}
 use Rattle.std.proofs.Common.{ap, subst, arith}
 use Rattle.std.proofs.lemmas.Bool.{false≢true}
 use Rattle.geometry.specs.Sectors.{Sector, was_of}
@@ -14,7 +14,8 @@ use Rattle.durable.specs.Commands.{is_program, updates_with}
 use Rattle.durable.specs.Device.{Device, device_of}
 use Rattle.durable.specs.Flash.{Flash}
 use Rattle.durable.specs.Promise.{IsConsistent, IsRecoverable}
-use Rattle.durable.specs.Memory.{Represents}
+use Rattle.durable.specs.Memory.{Represents, map_entry}
+use Rattle.std.specs.declared.alloc.Global.{Global}
 use Rattle.durable.specs.declared.extent.Extent.{Extent}
 use Rattle.durable.specs.Updates.{Covers, Update, array_after, changed}
 use Rattle.durable.proofs.Extents.{cases_covered, changed_here, changed_elsewhere}
@@ -28,6 +29,7 @@ use Rattle.nand.specs.declared.layer.Durable.{Durable}
 use Rattle.nand.specs.Numbers.{IsOrder, good_before, is_marked, numbered}
 use Rattle.nand.specs.Opened.{CanOpen, Fails, HasMarkedFailed, IsOpenLayer, IsSameDevice, IsSpent, IsTrueCause, KeepsDevice, device_on}
 use Rattle.nand.specs.Opened.{layer_sectors, number_of, update_of}
+use Rattle.nand.specs.Stored.{value_of, value_at}
 use Rattle.nand.specs.Looks.{Looks}
 use Rattle.nand.specs.Programs.{ProgramsOnce}
 use Rattle.nand.proofs.Orders.{openable}
@@ -170,6 +172,14 @@ module _ {N : Type 0} {flash : N → Flash} {shape : N → Shape} {bad : N → L
       adds_there (flash old.nand) (flash mid.nand) (flash new.nand) (number_of old) (number_of mid) update looks.same looks.number
       (once (none ∙ sym looks.device.marks))
 
+  -- what the layer has of the sectors
+  pub stored_after : (s : ℕ) → value_of flash mid s ≡ value_of flash old s
+  stored_after s =
+      let has = λ (ns : List ℕ) (core : Core) (f : Flash). value_at (numbered ns f) (map_entry core s) s in
+      ap (λ (ns : Vec ℕ Global). has ns.items mid.core (flash mid.nand)) looks.numbers
+      ∙ (ap (λ (core : Core). has old.numbers.items core (flash mid.nand)) looks.core
+      ∙ ap (λ (f : Flash). has old.numbers.items old.core f) looks.same)
+
   -- another look
   pub looks_after : {new : Durable N} (result : Result Was Failure) → Looks flash shape bad faults mid new result
       → Looks flash shape bad faults old new result
@@ -181,6 +191,8 @@ module _ {N : Type 0} {flash : N → Flash} {shape : N → Shape} {bad : N → L
     counts = if_ok result (λ same cause. same cause ∙ looks.counts cause) more.counts;
     number = more.number ∙ looks.number;
     same = more.same ∙ looks.same;
+    core = more.core ∙ looks.core;
+    numbers = more.numbers ∙ looks.numbers;
     device = record {
       sectors = more.device.sectors ∙ looks.device.sectors;
       chip = more.device.chip ∙ looks.device.chip;

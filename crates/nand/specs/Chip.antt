@@ -28,6 +28,10 @@ abbrev pub chip_faults : Chip → Fault → ℕ
 chip_faults chip fault.Failed = chip.failures
 chip_faults chip fault.PowerGone = chip.cuts
 
+-- how many syncs have succeeded, modulo 2^64
+abbrev pub chip_syncs : Chip → ℕ
+chip_syncs chip = chip.syncs
+
 -- of each block, whether it is marked bad
 abbrev pub chip_bad : Chip → List Bool
 chip_bad chip = chip.bad.items

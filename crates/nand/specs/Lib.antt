@@ -3,6 +3,7 @@ pub mod Numbers
 pub mod Opened
 pub mod Programs
 pub mod Looks
+pub mod Stored
 pub mod Attempts
 pub mod Cells
 pub mod Chip

@@ -20,4 +20,6 @@ pub record Looks {N : Type 0} (flash : N → Flash) (shape : N → Shape) (bad :
   pub counts : OnOk result ((cause : Fault) → faults new.nand cause ≡ faults old.nand cause)
   pub number : number_of new ≡ number_of old
   pub same : flash new.nand ≡ flash old.nand
+  pub core : new.core ≡ old.core
+  pub numbers : new.numbers ≡ old.numbers
   pub device : IsSameDevice shape bad old new

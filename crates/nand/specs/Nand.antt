@@ -1,5 +1,5 @@
 -- What a read may say of a page, and what a command leaves.
-use Rattle.std.specs.Prelude.{◌≡◌, ◌+◌, ◌%◌, ◌^◌, ℕ, Bool, true, false, List, Option, None, Some, Result, Err, OnOk, OnErr, if◌then◌else◌}
+use Rattle.std.specs.Prelude.{◌≡◌, ◌+◌, ◌%◌, ◌^◌, ℕ, Bool, List, Option, None, Some, Result, Err, OnOk, OnErr, if◌then◌else◌}
 use Rattle.geometry.specs.Sectors.{Sector}
 use Rattle.durable.specs.declared.extent.Extent.{Extent}
 use Rattle.durable.specs.declared.command.Command.{Command}

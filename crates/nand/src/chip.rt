@@ -38,9 +38,10 @@ pub struct Chip {
     cut: Option<(u64, Cut)>,
     // From which command on some fail: bit i of the mask says that the i-th after it does.
     failing: Option<(u64, u64)>,
-    // How many calls have ended so, modulo 2^64.
+    // How many calls have ended so, modulo 2^64, and how many syncs have succeeded.
     cuts: u64,
     failures: u64,
+    syncs: u64,
     // How many programs broke the order of a block's pages, or named a programmed page.
     violations: u64,
     pub ghost bad_sized: { length bad.items ≡ shape.blocks },
@@ -62,7 +63,7 @@ impl Chip {
     ghost use Rattle.durable.specs.Commands.{IsSameFlash};
     ghost use Rattle.durable.specs.Flash.{IsErased, SetsPage, Torn};
     ghost use Rattle.nand.specs.Cells.{contents_of};
-    ghost use Rattle.nand.specs.Chip.{after_command, chip_bad, chip_erases, chip_faults, chip_flash, chip_shape};
+    ghost use Rattle.nand.specs.Chip.{after_command, chip_bad, chip_erases, chip_faults, chip_flash, chip_shape, chip_syncs};
     ghost use Rattle.nand.specs.Chip.{coming, fails_in, schedule_of, Ends, HasSame, Sets};
     ghost use Rattle.nand.specs.Nand.{CountsFault, CountsCut};
     ghost use Rattle.nand.specs.declared.flash.Fault.TheVariants as fault;
@@ -97,6 +98,7 @@ impl Chip {
             failing: None,
             cuts: 0,
             failures: 0,
+            syncs: 0,
             violations: 0,
         })
     }
@@ -159,6 +161,13 @@ impl Chip {
         ensures { result ≡ (schedule_of self.now).commands }
     {
         self.commands
+    }
+
+    /// How many syncs have succeeded, modulo 2^64.
+    pub fn syncs(&self) -> u64
+        ensures { result ≡ chip_syncs self.now }
+    {
+        self.syncs
     }
 
     /// How many programs broke ONFI's rules. They fail.
@@ -277,13 +286,14 @@ impl Chip {
         Err(Fault::PowerGone)
     }
 
-    // A read, which fails only without power.
+    // A read or a sync, which fails only without power.
     fn look(&mut self) -> Result<(), PowerGone>
         ensures cause { CountsCut (chip_faults self.old) (chip_faults self.new) result }
         ensures schedule { schedule_of self.new ≡ schedule_of self.old }
         ensures flash { chip_flash self.new ≡ chip_flash self.old }
         ensures shape { chip_shape self.new ≡ chip_shape self.old }
         ensures bad { chip_bad self.new ≡ chip_bad self.old }
+        ensures syncs { chip_syncs self.new ≡ chip_syncs self.old }
     {
         if self.powered {
             return Ok(());
@@ -297,7 +307,7 @@ impl Nand for Chip {
     ghost use Rattle.std.specs.Prelude.{◌+◌, ◌%◌, ◌^◌, None, OnOk, slice_index_or, slice_set};
     ghost use Rattle.durable.specs.Updates.{sole};
     ghost use Rattle.durable.specs.declared.command.Command.TheVariants as command;
-    ghost use Rattle.nand.specs.Chip.{after_command, chip_bad, chip_erases, chip_faults, chip_flash, chip_shape, coming, schedule_of, Ends};
+    ghost use Rattle.nand.specs.Chip.{after_command, chip_bad, chip_erases, chip_faults, chip_flash, chip_shape, chip_syncs, coming, schedule_of, Ends};
     ghost use Rattle.nand.specs.Nand.{CountsFault, Performs, value_with};
 
     ghost flash = { chip_flash };
@@ -307,6 +317,8 @@ impl Nand for Chip {
     ghost bad = { chip_bad };
 
     ghost faults = { chip_faults };
+
+    ghost syncs = { chip_syncs };
 
     fn shape(&self) -> Shape {
         self.shape
@@ -425,6 +437,8 @@ impl Nand for Chip {
     }
 
     fn sync(&mut self) -> Result<(), PowerGone> {
-        self.look()
+        self.look()?;
+        self.syncs = self.syncs.wrapping_add(1);
+        Ok(())
     }
 }

@@ -1,4 +1,4 @@
-ghost use Rattle.std.specs.Prelude.{◌≡◌, ◌⊎◌, ◌<◌, ℕ, Bool, true, false, List, length, slice_index_or, IfOk, OnOk};
+ghost use Rattle.std.specs.Prelude.{◌≡◌, ◌⊎◌, ◌<◌, ◌+◌, ◌%◌, ◌^◌, ℕ, Bool, true, false, List, length, slice_index_or, IfOk, OnOk};
 ghost use Rattle.durable.specs.Flash.{Flash};
 ghost use Rattle.durable.specs.Updates.{sole};
 ghost use Rattle.nand.specs.declared.flash.Shape.{Shape as Numbers};
@@ -71,6 +71,9 @@ pub trait Nand {
     /// How many calls have ended with each fault, modulo 2^64: a driver can keep it in a word.
     ghost faults: { Self → Cause → ℕ };
 
+    /// How many calls of `sync` have succeeded, modulo 2^64.
+    ghost syncs: { Self → ℕ };
+
     /// How large the chip is.
     fn shape(&self) -> Shape
         ensures { result ≡ shape self.now };
@@ -139,6 +142,7 @@ pub trait Nand {
 
     /// Returns once each command that was done is durable.
     fn sync(&mut self) -> Result<(), PowerGone>
+        ensures counts { OnOk result (syncs self.new ≡ (syncs self.old + 1) % 2 ^ 64) }
         ensures flash { flash self.new ≡ flash self.old }
         ensures shape { shape self.new ≡ shape self.old }
         ensures bad { bad self.new ≡ bad self.old }

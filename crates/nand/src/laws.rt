@@ -1,17 +1,19 @@
 //! Laws of the definitions: each function has no code, and its clauses say on small values where a definition holds and where not.
-ghost use Rattle.std.specs.Prelude.{◌≡◌, ◌≢◌, ◌<◌, ◌-◌, ◌%◌, ◌^◌, ℕ, Bool, List, [], ◌∷◌, None, Some, Ok, Err, Vec, true, false};
+ghost use Rattle.std.specs.Prelude.{◌≡◌, ◌≢◌, ◌<◌, ◌-◌, ◌%◌, ◌^◌, ℕ, Bool, List, [], ◌∷◌, Option, None, Some, Ok, Err, Vec, true, false};
 ghost use Rattle.std.specs.declared.alloc.Global.{Global as OnHeap};
 ghost use Rattle.geometry.specs.Sectors.{Sector};
 ghost use Rattle.geometry.specs.declared.answer.Got.TheVariants as got;
 ghost use Rattle.geometry.specs.declared.answer.Was.TheVariants as was;
 ghost use Rattle.durable.specs.Device.{device_of, next_number_of};
 ghost use Rattle.durable.specs.Flash.{Erased, Flash, IsErased, SetsPage, Torn, Version};
+ghost use Rattle.durable.specs.Memory.{map_entry};
 ghost use Rattle.durable.specs.Promise.{KeepsAcknowledged};
 ghost use Rattle.durable.specs.Spare.{IsDuplicated};
 ghost use Rattle.durable.specs.Updates.{Update, sole};
 ghost use Rattle.durable.specs.declared.command.Command.TheVariants as command;
 ghost use Rattle.nand.specs.Cells.{IsWiped, contents_of, flash_in};
-ghost use Rattle.nand.specs.Chip.{Ends, HasSame, after_command, chip_bad, chip_erases, chip_faults, chip_flash, chip_shape, coming, schedule_of};
+ghost use Rattle.nand.specs.Chip.{Ends, HasSame, after_command, chip_bad, chip_erases, chip_faults, chip_flash, chip_shape, chip_syncs, coming, schedule_of};
+ghost use Rattle.nand.specs.Stored.{HasLostSector, ReadsStored, StopsLook, StopsUpdate, WereStored, value_of, value_at, value_for};
 ghost use Rattle.nand.specs.Histories.{IsFor, Leads, update_by};
 ghost use Rattle.nand.specs.Nand.{CountsCut, CountsFault, HasBytes, Performs, ReadsMain, ReadsStamp, noted_of, other_fault, value_with};
 ghost use Rattle.nand.specs.Numbers.{IsInReserve, IsInUse, IsOrder, Marks, chip_block, chip_page, good_before, is_marked, most_in_use, numbered};
@@ -85,6 +87,70 @@ pub fn readings()
     ensures bytes { ReadsSector (Some (5 ∷ [])) got.Data (5 ∷ []) }
     ensures other_bytes { ¬ ReadsSector (Some (5 ∷ [])) got.Data (6 ∷ []) }
     ensures lost { ¬ ReadsSector (Some (5 ∷ [])) got.Empty (5 ∷ []) }
+{}
+
+/// What a layer has of its sectors, and what calls tell of them.
+pub fn stored_sectors()
+    ensures empty { value_for (Version (sole 7) 3 None) 7 ≡ Some None }
+    ensures value { value_for (Version (sole 7) 3 (Some (5 ∷ []))) 7 ≡ Some (Some (5 ∷ [])) }
+    ensures other { value_for (Version (sole 7) 3 None) 8 ≡ None }
+    ensures torn { value_for Torn 7 ≡ None }
+    ensures erased { value_for Erased 7 ≡ None }
+    ensures no_page { (f : Flash) → value_at f None 7 ≡ Some None }
+    ensures page { (f : Flash) → f 1 2 ≡ Torn
+        → value_at f (Some (record { block = 1; page = 2 })) 7 ≡ None }
+    ensures lost { (layer : Layer Modelled) → layer.numbers.items ≡ 2 ∷ 0 ∷ 1 ∷ []
+        → map_entry layer.core 7 ≡ Some (record { block = 0; page = 4 })
+        → chip_flash layer.nand 2 4 ≡ Torn → value_of chip_flash layer 7 ≡ None }
+    ensures unmapped { (layer : Layer Modelled)
+        → map_entry layer.core 7 ≡ None → value_of chip_flash layer 7 ≡ Some None }
+    ensures reads { ReadsStored (Some (Some (5 ∷ []))) got.Data (5 ∷ []) }
+    ensures reads_other { ¬ ReadsStored (Some (Some (5 ∷ []))) got.Empty (5 ∷ []) }
+    ensures reads_lost { ¬ ReadsStored None got.Empty (5 ∷ []) }
+    ensures were_empty { (has : ℕ → Option Sector) → ((k : ℕ) → has k ≡ Some None)
+        → WereStored has (record { first = 7; count = 2 }) was.Empty }
+    ensures were_lost { (has : ℕ → Option Sector) → has 8 ≡ None
+        → ¬ WereStored has (record { first = 7; count = 2 }) was.Empty }
+    ensures were_written { (has : ℕ → Option Sector) → has 8 ≡ Some (Some (5 ∷ []))
+        → WereStored has (record { first = 7; count = 2 }) was.Written }
+    ensures not_written { (has : ℕ → Option Sector) → has 7 ≡ None → has 8 ≡ Some None
+        → ¬ WereStored has (record { first = 7; count = 2 }) was.Written }
+    ensures has_lost { (has : ℕ → Option Sector) → has 8 ≡ None
+        → HasLostSector has (record { first = 7; count = 2 }) }
+    ensures none_lost { (has : ℕ → Option Sector) → has 7 ≡ Some None → has 8 ≡ Some None
+        → ¬ HasLostSector has (record { first = 7; count = 2 }) }
+{}
+
+/// Why calls fail that look at sectors.
+pub fn failed_looks()
+    ensures lost { (has : ℕ → Option Sector) → has 7 ≡ None
+        → StopsLook has (sole 7) failure.Lost }
+    ensures there { (has : ℕ → Option Sector) → has 7 ≡ Some None
+        → ¬ StopsLook has (sole 7) failure.Lost }
+    ensures power { (has : ℕ → Option Sector) → StopsLook has (sole 7) failure.PowerGone }
+    ensures closed { (has : ℕ → Option Sector) → StopsLook has (sole 7) failure.Closed }
+    ensures failed { (has : ℕ → Option Sector) → ¬ StopsLook has (sole 7) failure.Failed }
+    ensures memory { (has : ℕ → Option Sector) → ¬ StopsLook has (sole 7) failure.OutOfMemory }
+    ensures number { (has : ℕ → Option Sector) → ¬ StopsLook has (sole 7) failure.NoNumber }
+    ensures written { (has : ℕ → Option Sector) → ¬ StopsLook has (sole 7) failure.Written }
+    ensures update_lost { (has : ℕ → Option Sector) → has 7 ≡ None
+        → StopsUpdate was.Empty has (sole 7) failure.Lost }
+    ensures update_there { (has : ℕ → Option Sector) → has 7 ≡ Some None
+        → ¬ StopsUpdate was.Empty has (sole 7) failure.Lost }
+    ensures update_power { (has : ℕ → Option Sector)
+        → StopsUpdate was.Empty has (sole 7) failure.PowerGone }
+    ensures update_closed { (has : ℕ → Option Sector)
+        → StopsUpdate was.Empty has (sole 7) failure.Closed }
+    ensures updates { (has : ℕ → Option Sector) → has 7 ≡ Some (Some (5 ∷ []))
+        → StopsUpdate was.Written has (sole 7) failure.Failed }
+    ensures update_failed { (has : ℕ → Option Sector) → has 7 ≡ None
+        → ¬ StopsUpdate was.Empty has (sole 7) failure.Failed }
+    ensures update_memory { (has : ℕ → Option Sector) → has 7 ≡ None
+        → ¬ StopsUpdate was.Empty has (sole 7) failure.OutOfMemory }
+    ensures update_number { (has : ℕ → Option Sector) → has 7 ≡ None
+        → ¬ StopsUpdate was.Empty has (sole 7) failure.NoNumber }
+    ensures update_written { (has : ℕ → Option Sector) → has 7 ≡ None
+        → ¬ StopsUpdate was.Empty has (sole 7) failure.Written }
 {}
 
 /// What a command leaves, and which counts a call changes.
@@ -161,6 +227,7 @@ pub fn modelled()
     ensures not_wiped { (f : Flash) → f 1 3 ≡ Torn → ¬ IsWiped f f 1 }
     ensures failures { (chip : Modelled) → chip.failures ≡ 2 → chip_faults chip fault.Failed ≡ 2 }
     ensures cuts { (chip : Modelled) → chip.cuts ≡ 3 → chip_faults chip fault.PowerGone ≡ 3 }
+    ensures syncs { (chip : Modelled) → chip.syncs ≡ 3 → chip_syncs chip ≡ 3 }
 {}
 
 /// What comes of a modelled chip's commands.

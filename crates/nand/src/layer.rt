@@ -1,23 +1,22 @@
-ghost use Rattle.std.specs.Prelude.{◌≡◌, ◌≢◌, ◌⊎◌, ◌<◌, ℕ, Bool, false, List, ◌∷◌, [], length};
-ghost use Rattle.std.specs.Prelude.{None, Some, Ok, Err, OnOk, OnErr, IfOk, IfErr, if◌then◌else◌};
+ghost use Rattle.std.specs.Prelude.{◌≡◌, ◌≢◌, ◌⊎◌, ◌<◌, ◌+◌, ◌%◌, ◌^◌, List, ◌∷◌, [], length};
+ghost use Rattle.std.specs.Prelude.{None, Some, Ok, Err, OnOk, OnErr, IfOk, IfErr};
 ghost use Rattle.geometry.specs.Sectors.{was_of};
 ghost use Rattle.geometry.specs.declared.answer.Got.TheVariants as got;
 ghost use Rattle.geometry.specs.declared.answer.Was.TheVariants as was;
 ghost use Rattle.durable.specs.Collecting.{HasCapacity};
-ghost use Rattle.durable.specs.Updates.{Covers, LiesWithin, Update, array_after, sole};
-ghost use Rattle.durable.specs.declared.extent.Extent.{Extent as Sectors};
+ghost use Rattle.durable.specs.Updates.{LiesWithin, Update, array_after, sole};
 ghost use Rattle.durable.specs.declared.fault.MountFault.TheVariants as mount_fault;
 ghost use Rattle.durable.specs.Device.{IsWrittenOn, losses_of};
-ghost use Rattle.durable.specs.Flash.{IsErased};
+ghost use Rattle.durable.specs.Flash.{IsErased, PageContents};
 ghost use Rattle.nand.specs.Numbers.{good_before};
 ghost use Rattle.nand.specs.Opened.{CanOpen, Fails, HasMarkedFailed, IsClosed, IsOpenLayer, IsSameDevice, IsTrueCause, KeepsDevice, ReadsSector, Were};
 ghost use Rattle.nand.specs.Opened.{device_on, layer_sectors, number_of, reserve_of, update_of};
+ghost use Rattle.nand.specs.Stored.{ReadsStored, StopsLook, StopsUpdate, TellsStored, WereStored, value_of, told_of, value_for};
 ghost use Rattle.nand.specs.Looks.{Looks};
-ghost use Rattle.nand.specs.Nand.{HasBytes, IsNoVersion};
+ghost use Rattle.nand.specs.Nand.{HasBytes, ReadsStamp};
 ghost use Rattle.nand.specs.Programs.{ProgramsOnce};
 ghost use Rattle.nand.specs.declared.failure.Failure.TheVariants as failure;
 ghost use Rattle.nand.specs.declared.failure.OpenFailure.TheVariants as why;
-ghost use Rattle.nand.specs.declared.flash.Reading.TheVariants as outcome;
 ghost use Rattle.nand.specs.declared.flash.Fault.{Fault as Cause};
 ghost use Rattle.nand.specs.declared.flash.Fault.TheVariants as fault;
 
@@ -53,17 +52,9 @@ pub struct NotOpened<N> {
 
 // What a sector is, by what its page was read as.
 fn found(reading: Reading, sector: u32) -> Result<Was, Failure>
-    ensures version { (e : Sectors) (n : ℕ) (t : Bool) → Covers e sector
-        → reading ≡ outcome.Version (record { extent = e; number = n; trimmed = t })
-        → result ≡ Ok (if t then was.Empty else was.Written) }
+    ensures tells { (page : PageContents) → ReadsStamp page reading
+        → result ≡ told_of (value_for page sector) }
     ensures lost { OnErr result (result ≡ Err failure.Lost) }
-    ensures none { IsNoVersion reading → result ≡ Err failure.Lost }
-    ensures covers { (e : Sectors) (n : ℕ) (t : Bool)
-        → reading ≡ outcome.Version (record { extent = e; number = n; trimmed = t })
-        → OnOk result (Covers e sector) }
-    ensures written { (e : Sectors) (n : ℕ) (t : Bool)
-        → reading ≡ outcome.Version (record { extent = e; number = n; trimmed = t })
-        → result ≡ Ok was.Written → t ≡ false }
 {
     match reading {
         Reading::Version(stamp) => {
@@ -175,9 +166,11 @@ impl<N: Nand> Durable<N> {
         ensures gives { (updates : List Update) → IsOpenLayer N.flash N.shape N.bad self.old updates
             → IfOk result (λ got. ReadsSector (array_after updates sector) got out.new) }
 
-        // Data are a version of the sector in the flash, also where pages have become unreadable.
+        // Also where pages have become unreadable: data are a version of the sector in the flash, and a lost sector is told as lost.
         ensures data { result ≡ Ok got.Data
             → HasBytes (N.flash self.old.nand) sector out.new }
+        ensures stored { IfOk result (λ got. ReadsStored (value_of N.flash self.old sector) got out.new) }
+        ensures stops { IfErr result (StopsLook (value_of N.flash self.old) (sole sector)) }
 
         // It changes nothing, and fails only without power.
         ensures open { (updates : List Update) → IsOpenLayer N.flash N.shape N.bad self.old updates
@@ -199,7 +192,7 @@ impl<N: Nand> Durable<N> {
             Ok(reading) => match found(reading, sector) {
                 Ok(Was::Empty) => Ok(Got::Empty),
                 Ok(Was::Written) => Ok(Got::Data),
-                Err(failure) => Err(failure),
+                Err(lost) => Err(lost),
             },
             Err(PowerGone) => Err(Failure::PowerGone),
         }
@@ -234,6 +227,7 @@ impl<N: Nand> Durable<N> {
             (ProgramsOnce N.flash N.bad self.old self.new
             (update_of (sole sector) (Some bytes.now))) }
         ensures overwrites { result ≢ Err failure.Written }
+        ensures lost { result ≢ Err failure.Lost }
     {
         let extent = Extent {
             first: sector,
@@ -253,8 +247,11 @@ impl<N: Nand> Durable<N> {
             (update_of (sole sector) (Some bytes.now) ∷ updates)) }
         ensures empty { (updates : List Update) → IsOpenLayer N.flash N.shape N.bad self.old updates
             → OnOk result (was_of (array_after updates sector) ≡ was.Empty) }
+        ensures stored { OnOk result (WereStored (value_of N.flash self.old) (sole sector) was.Empty) }
 
-        // It fails only if the sector is written, if the chip fails, or if the numbers have run out.
+        // It fails only if the sector is written or lost, if the chip fails, or if the numbers have run out.
+        ensures stops { IfErr result
+            (StopsUpdate was.Empty (value_of N.flash self.old) (sole sector)) }
         ensures written { (updates : List Update)
             → IsOpenLayer N.flash N.shape N.bad self.old updates
             → result ≡ Err failure.Written → was_of (array_after updates sector) ≡ was.Written }
@@ -297,8 +294,10 @@ impl<N: Nand> Durable<N> {
             → OnOk result
             (IsOpenLayer N.flash N.shape N.bad self.new (update_of extent None ∷ updates)) }
         ensures nothing { result ≡ Ok was.Empty → N.flash self.new.nand ≡ N.flash self.old.nand }
+        ensures stored { IfOk result (WereStored (value_of N.flash self.old) extent) }
 
-        // It fails only if the chip does, or if the numbers have run out.
+        // It fails only if a sector is lost, if the chip fails, or if the numbers have run out.
+        ensures stops { IfErr result (StopsUpdate was.Written (value_of N.flash self.old) extent) }
         ensures fails { (updates : List Update) → IsOpenLayer N.flash N.shape N.bad self.old updates
             → IfErr result
             (Fails N.flash N.shape N.bad self.old self.new (update_of extent None) updates) }
@@ -326,8 +325,10 @@ impl<N: Nand> Durable<N> {
         }
     }
 
-    /// Returns once what was acknowledged is durable.
+    /// Returns once what was acknowledged is durable: has the chip sync.
     pub fn flush(&mut self) -> Result<(), Failure>
+        ensures syncs { OnOk result
+            (N.syncs self.new.nand ≡ (N.syncs self.old.nand + 1) % 2 ^ 64) }
         ensures open { (updates : List Update) → IsOpenLayer N.flash N.shape N.bad self.old updates
             → IsOpenLayer N.flash N.shape N.bad self.new updates }
         ensures only { OnErr result (result ≡ Err failure.PowerGone) }
@@ -346,6 +347,7 @@ impl<N: Nand> Durable<N> {
         requires { sector < layer_sectors self.old }
         ensures gives { (updates : List Update) → IsOpenLayer N.flash N.shape N.bad self.old updates
             → IfOk result (λ had. had ≡ was_of (array_after updates sector)) }
+        ensures tells { TellsStored (value_of N.flash self.old) (sole sector) result }
         ensures looks { Looks N.flash N.shape N.bad N.faults self.old self.new result }
         ensures only { (updates : List Update) → IsOpenLayer N.flash N.shape N.bad self.old updates
             → OnErr result (result ≡ Err failure.PowerGone) }
@@ -368,6 +370,7 @@ impl<N: Nand> Durable<N> {
         requires { LiesWithin (layer_sectors self.old) extent }
         ensures gives { (updates : List Update) → IsOpenLayer N.flash N.shape N.bad self.old updates
             → IfOk result (Were (array_after updates) extent) }
+        ensures tells { TellsStored (value_of N.flash self.old) extent result }
         ensures looks { Looks N.flash N.shape N.bad N.faults self.old self.new result }
         ensures only { (updates : List Update) → IsOpenLayer N.flash N.shape N.bad self.old updates
             → OnErr result (result ≡ Err failure.PowerGone) }

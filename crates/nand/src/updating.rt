@@ -106,6 +106,7 @@ impl<N: Nand> Durable<N> {
             → result ≡ Err failure.OutOfMemory
             → HasMarkedFailed N.shape N.bad N.faults self.old self.new }
         ensures overwrites { result ≢ Err failure.Written }
+        ensures lost { result ≢ Err failure.Lost }
         ensures once { (updates : List Update) → IsOpenLayer N.flash N.shape N.bad self.old updates
             → OnOk result
             (ProgramsOnce N.flash N.bad self.old self.new

@@ -9,5 +9,5 @@ pub returns-clause-page : goal.returns-clause-page
 returns-clause-page c within f acked begun consistent =
     let s = c.args.sector in
     let value = array_after consistent.updates s in
-    let mapped = subst (IsMappedTo f s value) c.in-Some.is (c.page.ensures f acked begun consistent) in
+    let mapped = subst (IsMappedTo f s value) c.in-Some.is (c.page.ensures.newest f acked begun consistent) in
     subst (λ (place : PlaceReport). HoldsNewest f s value place.block place.page) (sym c.place.ensures) mapped

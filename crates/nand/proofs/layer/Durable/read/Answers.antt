@@ -1,37 +1,68 @@
-use Rattle.std.proofs.Common.{◌≡◌, ◌∙◌, Ok, sym, ap}
-use Rattle.geometry.specs.declared.answer.Was.TheVariants as was
-use Rattle.geometry.specs.Sectors.{was_of}
-use Rattle.durable.specs.Updates.{array_after}
-use Rattle.nand.proofs.Readings.{gives_empty, gives_none, no_page, tells, tells_data}
+use Rattle.std.proofs.Common.{◌∙◌, Option, Ok, Err, refl, sym, ap, subst}
+use Rattle.geometry.specs.Sectors.{Sector}
+use Rattle.geometry.specs.declared.answer.Got.TheVariants as got
+use Rattle.nand.specs.Stored.{ReadsStored, value_of, told_of}
+use Rattle.nand.proofs.Readings.{data_in, empty_there, gives, has_bytes, in_page, no_page, tells, told_there}
 use Rattle.nand.proofs.layer.Durable.read.Goals as goal
 
+pub returns-in_default-clause-stored : goal.returns-in_default-clause-stored
+returns-in_default-clause-stored g c = subst (λ (has : Option Sector). ReadsStored has got.Empty c.args.out.now)
+    (sym (no_page g.N.Nand.flash c.args.self.now c.args.sector c.page.result c.page.ensures.map c.in_default.is)) refl
+
 pub returns-in_default-clause-gives : goal.returns-in_default-clause-gives
-returns-in_default-clause-gives g c updates is = gives_none (array_after updates c.args.sector) c.args.out.now
-    (no_page g.N.Nand.flash g.N.Nand.shape g.N.Nand.bad c.args.self.now updates is c.args.sector c.page.result c.page.ensures c.in_default.is)
+returns-in_default-clause-gives g c updates is =
+    gives g.N.Nand.flash c.args.self.now c.args.sector g.N.Nand.shape g.N.Nand.bad updates is c.requires.sector got.Empty c.args.out.now
+    (returns-in_default-clause-stored g c)
+
+pub returns-in-Ok-Empty-clause-stored : goal.returns-in-Ok-Empty-clause-stored
+returns-in-Ok-Empty-clause-stored g c =
+    let there = in_page g.N.Nand.flash c.args.self.now c.args.sector c.page.result c.page.ensures.map c.in-Some.at c.in-Some.is
+    c.deref.result.now c.deref.ensures.value c.chip_page.result c.chip_page.ensures in
+    let at = c.chip_page.result in
+    let told = sym (c.found.ensures.tells (g.N.Nand.flash c.args.self.now.nand at.block at.page) c.in-Ok.ensures.stamp)
+    ∙ (c.in-Ok-Empty.is ∙ ap Ok c.in-Ok-Empty.field-0-is) in
+    subst (λ (has : Option Sector). ReadsStored has got.Empty c.read.new.out) (sym (there ∙ empty_there _ told)) refl
 
 pub returns-in-Ok-Empty-clause-gives : goal.returns-in-Ok-Empty-clause-gives
 returns-in-Ok-Empty-clause-gives g c updates is =
-    let value = array_after updates c.args.sector in
-    let told = tells g.N.Nand.flash g.N.Nand.shape g.N.Nand.bad c.args.self.now updates is c.args.sector c.page.result c.page.ensures c.in-Some.at c.in-Some.is
-    c.deref.result.now c.deref.ensures.value c.chip_page.result c.chip_page.ensures c.in-Ok.reading c.found.result
-    c.in-Ok.ensures.stamp c.found.ensures.version in
-    let same : Ok (was_of value) ≡ Ok was.Empty = sym told ∙ (c.in-Ok-Empty.is ∙ ap Ok c.in-Ok-Empty.field-0-is) in
-    gives_empty value c.read.new.out (cc same)
+    gives g.N.Nand.flash c.args.self.now c.args.sector g.N.Nand.shape g.N.Nand.bad updates is c.requires.sector got.Empty c.read.new.out
+    (returns-in-Ok-Empty-clause-stored g c)
+
+pub returns-in-Ok-Written-clause-stored : goal.returns-in-Ok-Written-clause-stored
+returns-in-Ok-Written-clause-stored g c =
+    let there = in_page g.N.Nand.flash c.args.self.now c.args.sector c.page.result c.page.ensures.map c.in-Some.at c.in-Some.is
+    c.deref.result.now c.deref.ensures.value c.chip_page.result c.chip_page.ensures in
+    let at = c.chip_page.result in
+    let page = g.N.Nand.flash c.args.self.now.nand at.block at.page in
+    let told = sym (c.found.ensures.tells page c.in-Ok.ensures.stamp) ∙ (c.in-Ok-Written.is ∙ ap Ok c.in-Ok-Written.field-0-is) in
+    subst (λ (has : Option Sector). ReadsStored has got.Data c.read.new.out)
+    (sym (there ∙ data_in page c.args.sector c.read.new.out told c.in-Ok.ensures.main)) (refl, refl)
 
 pub returns-in-Ok-Written-clause-gives : goal.returns-in-Ok-Written-clause-gives
 returns-in-Ok-Written-clause-gives g c updates is =
-    let value = array_after updates c.args.sector in
-    let told = tells g.N.Nand.flash g.N.Nand.shape g.N.Nand.bad c.args.self.now updates is c.args.sector c.page.result c.page.ensures c.in-Some.at c.in-Some.is
-    c.deref.result.now c.deref.ensures.value c.chip_page.result c.chip_page.ensures c.in-Ok.reading c.found.result
-    c.in-Ok.ensures.stamp c.found.ensures.version in
-    let same : Ok (was_of value) ≡ Ok was.Written = sym told ∙ (c.in-Ok-Written.is ∙ ap Ok c.in-Ok-Written.field-0-is) in
-    tells_data g.N.Nand.flash g.N.Nand.shape g.N.Nand.bad c.args.self.now updates is c.args.sector c.page.result c.page.ensures c.in-Some.at c.in-Some.is
-    c.deref.result.now c.deref.ensures.value c.chip_page.result c.chip_page.ensures c.read.new.out
-    c.in-Ok.ensures.main (cc same)
+    gives g.N.Nand.flash c.args.self.now c.args.sector g.N.Nand.shape g.N.Nand.bad updates is c.requires.sector got.Data c.read.new.out
+    (returns-in-Ok-Written-clause-stored g c)
+
+pub returns-in-Ok-Written-clause-data : goal.returns-in-Ok-Written-clause-data
+returns-in-Ok-Written-clause-data g c _ =
+    let at = c.chip_page.result in
+    let f = g.N.Nand.flash c.args.self.now.nand in
+    let told = sym (c.found.ensures.tells (f at.block at.page) c.in-Ok.ensures.stamp) ∙ (c.in-Ok-Written.is ∙ ap Ok c.in-Ok-Written.field-0-is) in
+    has_bytes f at.block at.page c.args.sector c.read.new.out (data_in (f at.block at.page) c.args.sector c.read.new.out told c.in-Ok.ensures.main)
+
+pub returns-in-Err-found-clause-stops : goal.returns-in-Err-found-clause-stops
+returns-in-Err-found-clause-stops g c =
+    let at = c.chip_page.result in
+    let there = in_page g.N.Nand.flash c.args.self.now c.args.sector c.page.result c.page.ensures.map c.in-Some.at c.in-Some.is
+    c.deref.result.now c.deref.ensures.value at c.chip_page.ensures in
+    let told = c.found.ensures.tells (g.N.Nand.flash c.args.self.now.nand at.block at.page) c.in-Ok.ensures.stamp in
+    tells (value_of g.N.Nand.flash c.args.self.now) c.args.sector (Err c.in-Err-found.lost) (sym c.in-Err-found.is ∙ (told ∙ ap told_of (sym there)))
 
 pub returns-in-Err-found-clause-only : goal.returns-in-Err-found-clause-only
 returns-in-Err-found-clause-only g c updates is =
-    let told = tells g.N.Nand.flash g.N.Nand.shape g.N.Nand.bad c.args.self.now updates is c.args.sector c.page.result c.page.ensures c.in-Some.at c.in-Some.is
-    c.deref.result.now c.deref.ensures.value c.chip_page.result c.chip_page.ensures c.in-Ok.reading c.found.result
-    c.in-Ok.ensures.stamp c.found.ensures.version in
-    absurd (cc (sym told ∙ c.in-Err-found.is))
+    let at = c.chip_page.result in
+    let there = in_page g.N.Nand.flash c.args.self.now c.args.sector c.page.result c.page.ensures.map c.in-Some.at c.in-Some.is
+    c.deref.result.now c.deref.ensures.value at c.chip_page.ensures in
+    let told = c.found.ensures.tells (g.N.Nand.flash c.args.self.now.nand at.block at.page) c.in-Ok.ensures.stamp in
+    absurd (cc (sym c.in-Err-found.is ∙ told_there g.N.Nand.flash c.args.self.now c.args.sector g.N.Nand.shape g.N.Nand.bad updates is c.requires.sector
+    c.found.result (told ∙ ap told_of (sym there))))

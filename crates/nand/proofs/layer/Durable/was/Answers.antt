@@ -1,26 +1,48 @@
-use Rattle.std.proofs.Common.{◌≡◌, Err, Result, IfOk, OnErr, refl, sym, subst}
-use Rattle.geometry.specs.declared.answer.Was.{Was}
+use Rattle.std.proofs.Common.{◌≡◌, ◌∙◌, Ok, Err, Result, IfOk, OnErr, refl, sym, ap, subst}
 use Rattle.geometry.specs.Sectors.{was_of}
+use Rattle.geometry.specs.declared.answer.Was.{Was}
+use Rattle.geometry.specs.declared.answer.Was.TheVariants as was
 use Rattle.durable.specs.Updates.{array_after}
+use Rattle.nand.specs.Stored.{value_of, told_of}
 use Rattle.nand.specs.declared.failure.Failure.{Failure}
 use Rattle.nand.specs.declared.failure.Failure.TheVariants as failure
-use Rattle.nand.proofs.Readings.{no_page, tells, was_none}
+use Rattle.nand.proofs.Readings.{in_page, no_page, tells, told_there}
 use Rattle.nand.proofs.layer.Durable.was.Goals as goal
 
+pub returns-in_default-clause-tells : goal.returns-in_default-clause-tells
+returns-in_default-clause-tells g c =
+    let none = no_page g.N.Nand.flash c.args.self.now c.args.sector c.page.result c.page.ensures.map c.in_default.is in
+    tells (value_of g.N.Nand.flash c.args.self.now) c.args.sector (Ok was.Empty) (ap told_of (sym none))
+
 pub returns-in_default-clause-gives : goal.returns-in_default-clause-gives
-returns-in_default-clause-gives g c updates is = was_none (array_after updates c.args.sector)
-    (no_page g.N.Nand.flash g.N.Nand.shape g.N.Nand.bad c.args.self.now updates is c.args.sector c.page.result c.page.ensures c.in_default.is)
+returns-in_default-clause-gives g c updates is =
+    let none = no_page g.N.Nand.flash c.args.self.now c.args.sector c.page.result c.page.ensures.map c.in_default.is in
+    cc (told_there g.N.Nand.flash c.args.self.now c.args.sector g.N.Nand.shape g.N.Nand.bad updates is c.requires (Ok was.Empty) (ap told_of (sym none)))
+
+pub returns-in-Ok-clause-tells : goal.returns-in-Ok-clause-tells
+returns-in-Ok-clause-tells g c =
+    let at = c.chip_page.result in
+    let there = in_page g.N.Nand.flash c.args.self.now c.args.sector c.page.result c.page.ensures.map c.in-Some.at c.in-Some.is
+    c.deref.result.now c.deref.ensures.value at c.chip_page.ensures in
+    let told = c.found.ensures.tells (g.N.Nand.flash c.args.self.now.nand at.block at.page) c.in-Ok.ensures.stamp in
+    tells (value_of g.N.Nand.flash c.args.self.now) c.args.sector c.found.result (told ∙ ap told_of (sym there))
 
 pub returns-in-Ok-clause-gives : goal.returns-in-Ok-clause-gives
 returns-in-Ok-clause-gives g c updates is =
-    let told = tells g.N.Nand.flash g.N.Nand.shape g.N.Nand.bad c.args.self.now updates is c.args.sector c.page.result c.page.ensures c.in-Some.at c.in-Some.is
-    c.deref.result.now c.deref.ensures.value c.chip_page.result c.chip_page.ensures c.in-Ok.reading c.found.result
-    c.in-Ok.ensures.stamp c.found.ensures.version in
-    subst (λ (r : Result Was Failure). IfOk r (λ had. had ≡ was_of (array_after updates c.args.sector))) (sym told) refl
+    let at = c.chip_page.result in
+    let there = in_page g.N.Nand.flash c.args.self.now c.args.sector c.page.result c.page.ensures.map c.in-Some.at c.in-Some.is
+    c.deref.result.now c.deref.ensures.value at c.chip_page.ensures in
+    let told = c.found.ensures.tells (g.N.Nand.flash c.args.self.now.nand at.block at.page) c.in-Ok.ensures.stamp in
+    subst (λ (r : Result Was Failure). IfOk r (λ had. had ≡ was_of (array_after updates c.args.sector)))
+    (sym (told_there g.N.Nand.flash c.args.self.now c.args.sector g.N.Nand.shape g.N.Nand.bad updates is c.requires c.found.result
+    (told ∙ ap told_of (sym there)))) refl
 
 pub returns-in-Ok-clause-only : goal.returns-in-Ok-clause-only
 returns-in-Ok-clause-only g c updates is =
-    let told = tells g.N.Nand.flash g.N.Nand.shape g.N.Nand.bad c.args.self.now updates is c.args.sector c.page.result c.page.ensures c.in-Some.at c.in-Some.is
-    c.deref.result.now c.deref.ensures.value c.chip_page.result c.chip_page.ensures c.in-Ok.reading c.found.result
-    c.in-Ok.ensures.stamp c.found.ensures.version in
-    subst (λ (r : Result Was Failure). OnErr r (r ≡ Err failure.PowerGone)) (sym told) tt
+    let at = c.chip_page.result in
+    let there = in_page g.N.Nand.flash c.args.self.now c.args.sector c.page.result c.page.ensures.map c.in-Some.at c.in-Some.is
+    c.deref.result.now c.deref.ensures.value at c.chip_page.ensures in
+    let told = c.found.ensures.tells (g.N.Nand.flash c.args.self.now.nand at.block at.page) c.in-Ok.ensures.stamp in
+    subst (λ (r : Result Was Failure). OnErr r (r ≡ Err failure.PowerGone))
+    (sym (told_there g.N.Nand.flash c.args.self.now c.args.sector g.N.Nand.shape g.N.Nand.bad updates is c.requires c.found.result
+    (told ∙ ap told_of (sym there)))) tt

@@ -1,6 +1,9 @@
-use Rattle.std.proofs.Common.{◌∙◌, Some, sym}
+use Rattle.std.proofs.Common.{◌∙◌, Some, sym, subst}
 use Rattle.durable.specs.Updates.{sole}
+use Rattle.geometry.specs.declared.answer.Was.TheVariants as was
+use Rattle.nand.specs.Stored.{WereStored, value_of}
 use Rattle.nand.specs.Opened.{update_of}
+use Rattle.nand.proofs.Readings.{stops_first, stops_then}
 use Rattle.nand.specs.declared.failure.Failure.TheVariants as failure
 use Rattle.nand.proofs.Steps.{fails_after, fails_open, if_err, if_ok, keeps_after, keeps_same, marked_after, not_failed, not_lost, not_memory, on_ok}
 use Rattle.nand.proofs.Steps.{once_after, true_after}
@@ -8,6 +11,24 @@ use Rattle.nand.proofs.layer.Durable.write_new.Goals as goal
 
 pub returns-in-Ok-Empty-clause-empty : goal.returns-in-Ok-Empty-clause-empty
 returns-in-Ok-Empty-clause-empty g c updates is = on_ok c.update.result (sym (c.in-Ok-Empty.ensures.gives updates is) ∙ c.in-Ok-Empty.field-0-is)
+
+pub returns-in-Ok-Empty-clause-stored : goal.returns-in-Ok-Empty-clause-stored
+returns-in-Ok-Empty-clause-stored g c = on_ok c.update.result
+    (subst (WereStored (value_of g.N.Nand.flash c.args.self.now) (sole c.args.sector)) c.in-Ok-Empty.field-0-is c.in-Ok-Empty.ensures.tells)
+
+pub returns-in-Ok-Empty-clause-stops : goal.returns-in-Ok-Empty-clause-stops
+returns-in-Ok-Empty-clause-stops g c =
+    stops_then was.Empty (value_of g.N.Nand.flash c.args.self.now) (sole c.args.sector) c.update.result
+    (subst (WereStored (value_of g.N.Nand.flash c.args.self.now) (sole c.args.sector)) c.in-Ok-Empty.field-0-is c.in-Ok-Empty.ensures.tells)
+    c.update.ensures.lost c.update.ensures.overwrites
+
+pub returns-in-Ok-Written-clause-stops : goal.returns-in-Ok-Written-clause-stops
+returns-in-Ok-Written-clause-stops g c =
+    subst (WereStored (value_of g.N.Nand.flash c.args.self.now) (sole c.args.sector)) c.in-Ok-Written.field-0-is c.in-Ok-Written.ensures.tells
+
+pub returns-in-Err-clause-stops : goal.returns-in-Err-clause-stops
+returns-in-Err-clause-stops g c =
+    stops_first was.Empty (value_of g.N.Nand.flash c.args.self.now) (sole c.args.sector) c.in-Err.failure c.in-Err.ensures.tells
 
 pub returns-in-Ok-Empty-clause-written : goal.returns-in-Ok-Empty-clause-written
 returns-in-Ok-Empty-clause-written g c updates is written = absurd (c.update.ensures.overwrites written)
