@@ -13,7 +13,7 @@ use Rattle.durable.specs.declared.extent.Extent.{Extent}
 use Rattle.durable.proofs.Extents.{cases_covered, covered, not_covered}
 use Rattle.nand.specs.declared.failure.Failure.{Failure}
 use Rattle.nand.specs.declared.failure.Failure.TheVariants as failure
-use Rattle.nand.specs.Stored.{ReadsStored, StopsLook, StopsUpdate, TellsStored, WereStored, value_of, told_of, value_at, value_for}
+use Rattle.nand.specs.Stored.{ReadsStored, StopsLook, StopsUpdate, TellsStored, WereStored, stored_value, told_of, value_at, value_for}
 use Rattle.nand.specs.Nand.{HasBytes, ReadsMain}
 use Rattle.nand.specs.Numbers.{chip_page, numbered}
 use Rattle.nand.specs.declared.flash.Shape.{Shape}
@@ -134,13 +134,13 @@ module _ (wanted : Was) (has : ℕ → Option Sector) (e : Extent) where
 
 -- what a layer has of a sector
 module _ {N : Type 0} (flash : N → Flash) (layer : Durable N) (s : ℕ) where
-  pub no_page : (entry : Option PageAddr) → entry ≡ map_entry layer.core s → entry ≡ None → value_of flash layer s ≡ Some None
+  pub no_page : (entry : Option PageAddr) → entry ≡ map_entry layer.core s → entry ≡ None → stored_value flash layer s ≡ Some None
   no_page entry is none =
       ap (λ (at : Option PageAddr). value_at (numbered layer.numbers.items (flash layer.nand)) at s) (sym is ∙ none)
 
   pub in_page : (entry : Option PageAddr) → entry ≡ map_entry layer.core s → (at : PageAddr) → entry ≡ Some at → (ns : List ℕ)
       → ns ≡ layer.numbers.items → (place : PageAddr) → place ≡ chip_page ns at
-      → value_of flash layer s ≡ value_for (flash layer.nand place.block place.page) s
+      → stored_value flash layer s ≡ value_for (flash layer.nand place.block place.page) s
   in_page entry is at some ns same place placed =
       ap (λ (x : Option PageAddr). value_at (numbered layer.numbers.items (flash layer.nand)) x s) (sym is ∙ some)
       ∙ ap (λ (x : PageAddr). value_for (flash layer.nand x.block x.page) s) (sym (placed ∙ ap (λ (order : List ℕ). chip_page order at) same))
@@ -148,15 +148,15 @@ module _ {N : Type 0} (flash : N → Flash) (layer : Durable N) (s : ℕ) where
   -- an open layer has the array
   module _ (shape : N → Shape) (bad : N → List Bool) (updates : List Update) (is : IsOpenLayer flash shape bad layer updates)
       (lt : s < layer_sectors layer) where
-    pub in_array : value_of flash layer s ≡ Some (array_after updates s)
+    pub in_array : stored_value flash layer s ≡ Some (array_after updates s)
     in_array =
         let f = numbered layer.numbers.items (flash layer.nand) in
         let whole = is.consistent in
         entry_has f s (array_after whole.updates s) (map_entry layer.core s) (whole.represents.mapped s lt)
         ∙ ap Some (array_is f layer.core updates whole s)
 
-    pub gives : (got : Got) (out : List ℕ) → ReadsStored (value_of flash layer s) got out → ReadsSector (array_after updates s) got out
+    pub gives : (got : Got) (out : List ℕ) → ReadsStored (stored_value flash layer s) got out → ReadsSector (array_after updates s) got out
     gives got out reads = subst (λ (has : Option Sector). ReadsStored has got out) in_array reads
 
-    pub told_there : (result : Result Was Failure) → result ≡ told_of (value_of flash layer s) → result ≡ Ok (was_of (array_after updates s))
+    pub told_there : (result : Result Was Failure) → result ≡ told_of (stored_value flash layer s) → result ≡ Ok (was_of (array_after updates s))
     told_there result told = told ∙ ap told_of in_array

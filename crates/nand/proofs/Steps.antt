@@ -29,7 +29,7 @@ use Rattle.nand.specs.declared.layer.Durable.{Durable}
 use Rattle.nand.specs.Numbers.{IsOrder, good_before, is_marked, numbered}
 use Rattle.nand.specs.Opened.{CanOpen, Fails, HasMarkedFailed, IsOpenLayer, IsSameDevice, IsSpent, IsTrueCause, KeepsDevice, device_on}
 use Rattle.nand.specs.Opened.{layer_sectors, number_of, update_of}
-use Rattle.nand.specs.Stored.{value_of, value_at}
+use Rattle.nand.specs.Stored.{stored_value, value_at}
 use Rattle.nand.specs.Looks.{Looks}
 use Rattle.nand.specs.Programs.{ProgramsOnce}
 use Rattle.nand.proofs.Orders.{openable}
@@ -173,7 +173,7 @@ module _ {N : Type 0} {flash : N → Flash} {shape : N → Shape} {bad : N → L
       (once (none ∙ sym looks.device.marks))
 
   -- what the layer has of the sectors
-  pub stored_after : (s : ℕ) → value_of flash mid s ≡ value_of flash old s
+  pub stored_after : (s : ℕ) → stored_value flash mid s ≡ stored_value flash old s
   stored_after s =
       let has = λ (ns : List ℕ) (core : Core) (f : Flash). value_at (numbered ns f) (map_entry core s) s in
       ap (λ (ns : Vec ℕ Global). has ns.items mid.core (flash mid.nand)) looks.numbers

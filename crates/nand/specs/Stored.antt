@@ -27,8 +27,8 @@ value_at f None s = Some None
 value_at f (Some at) s = value_for (f at.block at.page) s
 
 -- the value that the layer has of a sector; none if it is lost: the page that the map has for it has no version of it
-abbrev pub value_of : {N : Type 0} → (N → Flash) → Durable N → ℕ → Option Sector
-value_of {N} flash layer s = value_at (numbered layer.numbers.items (flash layer.nand)) (map_entry layer.core s) s
+abbrev pub stored_value : {N : Type 0} → (N → Flash) → Durable N → ℕ → Option Sector
+stored_value {N} flash layer s = value_at (numbered layer.numbers.items (flash layer.nand)) (map_entry layer.core s) s
 
 -- a read returns what the layer has of the sector, and nothing if it is lost
 abbrev pub ReadsStored : Option Sector → Got → List ℕ → Type 0

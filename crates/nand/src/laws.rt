@@ -13,7 +13,7 @@ ghost use Rattle.durable.specs.Updates.{Update, sole};
 ghost use Rattle.durable.specs.declared.command.Command.TheVariants as command;
 ghost use Rattle.nand.specs.Cells.{IsWiped, contents_of, flash_in};
 ghost use Rattle.nand.specs.Chip.{Ends, HasSame, after_command, chip_bad, chip_erases, chip_faults, chip_flash, chip_shape, chip_syncs, coming, schedule_of};
-ghost use Rattle.nand.specs.Stored.{HasLostSector, ReadsStored, StopsLook, StopsUpdate, WereStored, value_of, value_at, value_for};
+ghost use Rattle.nand.specs.Stored.{HasLostSector, ReadsStored, StopsLook, StopsUpdate, WereStored, stored_value, value_at, value_for};
 ghost use Rattle.nand.specs.Histories.{IsFor, Leads, update_by};
 ghost use Rattle.nand.specs.Nand.{CountsCut, CountsFault, HasBytes, Performs, ReadsMain, ReadsStamp, noted_of, other_fault, value_with};
 ghost use Rattle.nand.specs.Numbers.{IsInReserve, IsInUse, IsOrder, Marks, chip_block, chip_page, good_before, is_marked, most_in_use, numbered};
@@ -101,9 +101,9 @@ pub fn stored_sectors()
         → value_at f (Some (record { block = 1; page = 2 })) 7 ≡ None }
     ensures lost { (layer : Layer Modelled) → layer.numbers.items ≡ 2 ∷ 0 ∷ 1 ∷ []
         → map_entry layer.core 7 ≡ Some (record { block = 0; page = 4 })
-        → chip_flash layer.nand 2 4 ≡ Torn → value_of chip_flash layer 7 ≡ None }
+        → chip_flash layer.nand 2 4 ≡ Torn → stored_value chip_flash layer 7 ≡ None }
     ensures unmapped { (layer : Layer Modelled)
-        → map_entry layer.core 7 ≡ None → value_of chip_flash layer 7 ≡ Some None }
+        → map_entry layer.core 7 ≡ None → stored_value chip_flash layer 7 ≡ Some None }
     ensures reads { ReadsStored (Some (Some (5 ∷ []))) got.Data (5 ∷ []) }
     ensures reads_other { ¬ ReadsStored (Some (Some (5 ∷ []))) got.Empty (5 ∷ []) }
     ensures reads_lost { ¬ ReadsStored None got.Empty (5 ∷ []) }

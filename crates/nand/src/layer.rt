@@ -11,7 +11,7 @@ ghost use Rattle.durable.specs.Flash.{IsErased, PageContents};
 ghost use Rattle.nand.specs.Numbers.{good_before};
 ghost use Rattle.nand.specs.Opened.{CanOpen, Fails, HasMarkedFailed, IsClosed, IsOpenLayer, IsSameDevice, IsTrueCause, KeepsDevice, ReadsSector, Were};
 ghost use Rattle.nand.specs.Opened.{device_on, layer_sectors, number_of, reserve_of, update_of};
-ghost use Rattle.nand.specs.Stored.{ReadsStored, StopsLook, StopsUpdate, TellsStored, WereStored, value_of, told_of, value_for};
+ghost use Rattle.nand.specs.Stored.{ReadsStored, StopsLook, StopsUpdate, TellsStored, WereStored, stored_value, told_of, value_for};
 ghost use Rattle.nand.specs.Looks.{Looks};
 ghost use Rattle.nand.specs.Nand.{HasBytes, ReadsStamp};
 ghost use Rattle.nand.specs.Programs.{ProgramsOnce};
@@ -169,8 +169,8 @@ impl<N: Nand> Durable<N> {
         // Also where pages have become unreadable: data are a version of the sector in the flash, and a lost sector is told as lost.
         ensures data { result ≡ Ok got.Data
             → HasBytes (N.flash self.old.nand) sector out.new }
-        ensures stored { IfOk result (λ got. ReadsStored (value_of N.flash self.old sector) got out.new) }
-        ensures stops { IfErr result (StopsLook (value_of N.flash self.old) (sole sector)) }
+        ensures stored { IfOk result (λ got. ReadsStored (stored_value N.flash self.old sector) got out.new) }
+        ensures stops { IfErr result (StopsLook (stored_value N.flash self.old) (sole sector)) }
 
         // It changes nothing, and fails only without power.
         ensures open { (updates : List Update) → IsOpenLayer N.flash N.shape N.bad self.old updates
@@ -247,11 +247,11 @@ impl<N: Nand> Durable<N> {
             (update_of (sole sector) (Some bytes.now) ∷ updates)) }
         ensures empty { (updates : List Update) → IsOpenLayer N.flash N.shape N.bad self.old updates
             → OnOk result (was_of (array_after updates sector) ≡ was.Empty) }
-        ensures stored { OnOk result (WereStored (value_of N.flash self.old) (sole sector) was.Empty) }
+        ensures stored { OnOk result (WereStored (stored_value N.flash self.old) (sole sector) was.Empty) }
 
         // It fails only if the sector is written or lost, if the chip fails, or if the numbers have run out.
         ensures stops { IfErr result
-            (StopsUpdate was.Empty (value_of N.flash self.old) (sole sector)) }
+            (StopsUpdate was.Empty (stored_value N.flash self.old) (sole sector)) }
         ensures written { (updates : List Update)
             → IsOpenLayer N.flash N.shape N.bad self.old updates
             → result ≡ Err failure.Written → was_of (array_after updates sector) ≡ was.Written }
@@ -294,10 +294,10 @@ impl<N: Nand> Durable<N> {
             → OnOk result
             (IsOpenLayer N.flash N.shape N.bad self.new (update_of extent None ∷ updates)) }
         ensures nothing { result ≡ Ok was.Empty → N.flash self.new.nand ≡ N.flash self.old.nand }
-        ensures stored { IfOk result (WereStored (value_of N.flash self.old) extent) }
+        ensures stored { IfOk result (WereStored (stored_value N.flash self.old) extent) }
 
         // It fails only if a sector is lost, if the chip fails, or if the numbers have run out.
-        ensures stops { IfErr result (StopsUpdate was.Written (value_of N.flash self.old) extent) }
+        ensures stops { IfErr result (StopsUpdate was.Written (stored_value N.flash self.old) extent) }
         ensures fails { (updates : List Update) → IsOpenLayer N.flash N.shape N.bad self.old updates
             → IfErr result
             (Fails N.flash N.shape N.bad self.old self.new (update_of extent None) updates) }
@@ -347,7 +347,7 @@ impl<N: Nand> Durable<N> {
         requires { sector < layer_sectors self.old }
         ensures gives { (updates : List Update) → IsOpenLayer N.flash N.shape N.bad self.old updates
             → IfOk result (λ had. had ≡ was_of (array_after updates sector)) }
-        ensures tells { TellsStored (value_of N.flash self.old) (sole sector) result }
+        ensures tells { TellsStored (stored_value N.flash self.old) (sole sector) result }
         ensures looks { Looks N.flash N.shape N.bad N.faults self.old self.new result }
         ensures only { (updates : List Update) → IsOpenLayer N.flash N.shape N.bad self.old updates
             → OnErr result (result ≡ Err failure.PowerGone) }
@@ -370,7 +370,7 @@ impl<N: Nand> Durable<N> {
         requires { LiesWithin (layer_sectors self.old) extent }
         ensures gives { (updates : List Update) → IsOpenLayer N.flash N.shape N.bad self.old updates
             → IfOk result (Were (array_after updates) extent) }
-        ensures tells { TellsStored (value_of N.flash self.old) extent result }
+        ensures tells { TellsStored (stored_value N.flash self.old) extent result }
         ensures looks { Looks N.flash N.shape N.bad N.faults self.old self.new result }
         ensures only { (updates : List Update) → IsOpenLayer N.flash N.shape N.bad self.old updates
             → OnErr result (result ≡ Err failure.PowerGone) }

@@ -1,7 +1,7 @@
 use Rattle.std.proofs.Common.{◌∙◌, Option, Ok, Err, refl, sym, ap, subst}
 use Rattle.geometry.specs.Sectors.{Sector}
 use Rattle.geometry.specs.declared.answer.Got.TheVariants as got
-use Rattle.nand.specs.Stored.{ReadsStored, value_of, told_of}
+use Rattle.nand.specs.Stored.{ReadsStored, stored_value, told_of}
 use Rattle.nand.proofs.Readings.{data_in, empty_there, gives, has_bytes, in_page, no_page, tells, told_there}
 use Rattle.nand.proofs.layer.Durable.read.Goals as goal
 
@@ -56,7 +56,7 @@ returns-in-Err-found-clause-stops g c =
     let there = in_page g.N.Nand.flash c.args.self.now c.args.sector c.page.result c.page.ensures.map c.in-Some.at c.in-Some.is
     c.deref.result.now c.deref.ensures.value at c.chip_page.ensures in
     let told = c.found.ensures.tells (g.N.Nand.flash c.args.self.now.nand at.block at.page) c.in-Ok.ensures.stamp in
-    tells (value_of g.N.Nand.flash c.args.self.now) c.args.sector (Err c.in-Err-found.lost) (sym c.in-Err-found.is ∙ (told ∙ ap told_of (sym there)))
+    tells (stored_value g.N.Nand.flash c.args.self.now) c.args.sector (Err c.in-Err-found.lost) (sym c.in-Err-found.is ∙ (told ∙ ap told_of (sym there)))
 
 pub returns-in-Err-found-clause-only : goal.returns-in-Err-found-clause-only
 returns-in-Err-found-clause-only g c updates is =

@@ -1,7 +1,7 @@
 use Rattle.std.proofs.Common.{◌≡◌, None, Err, ap, subst}
 use Rattle.durable.specs.Updates.{array_after}
 use Rattle.geometry.specs.declared.answer.Was.TheVariants as was
-use Rattle.nand.specs.Stored.{WereStored, value_of}
+use Rattle.nand.specs.Stored.{WereStored, stored_value}
 use Rattle.nand.specs.Opened.{Were, update_of}
 use Rattle.nand.proofs.Readings.{stops_first, stops_then}
 use Rattle.nand.specs.declared.failure.Failure.TheVariants as failure
@@ -15,21 +15,21 @@ returns-in-Ok-Empty-clause-was g c updates is =
 
 pub returns-in-Ok-Empty-clause-stored : goal.returns-in-Ok-Empty-clause-stored
 returns-in-Ok-Empty-clause-stored g c =
-    subst (WereStored (value_of g.N.Nand.flash c.args.self.now) c.args.extent) c.in-Ok-Empty.field-0-is c.in-Ok-Empty.ensures.tells
+    subst (WereStored (stored_value g.N.Nand.flash c.args.self.now) c.args.extent) c.in-Ok-Empty.field-0-is c.in-Ok-Empty.ensures.tells
 
 pub returns-in-Ok-clause-stored : goal.returns-in-Ok-clause-stored
 returns-in-Ok-clause-stored g c =
-    subst (WereStored (value_of g.N.Nand.flash c.args.self.now) c.args.extent) c.in-Ok-Written.field-0-is c.in-Ok-Written.ensures.tells
+    subst (WereStored (stored_value g.N.Nand.flash c.args.self.now) c.args.extent) c.in-Ok-Written.field-0-is c.in-Ok-Written.ensures.tells
 
 pub returns-in-Err-update-clause-stops : goal.returns-in-Err-update-clause-stops
 returns-in-Err-update-clause-stops g c =
-    stops_then was.Written (value_of g.N.Nand.flash c.args.self.now) c.args.extent (Err c.in-Err-update.failure)
-    (subst (WereStored (value_of g.N.Nand.flash c.args.self.now) c.args.extent) c.in-Ok-Written.field-0-is c.in-Ok-Written.ensures.tells)
+    stops_then was.Written (stored_value g.N.Nand.flash c.args.self.now) c.args.extent (Err c.in-Err-update.failure)
+    (subst (WereStored (stored_value g.N.Nand.flash c.args.self.now) c.args.extent) c.in-Ok-Written.field-0-is c.in-Ok-Written.ensures.tells)
     c.in-Err-update.ensures.lost c.in-Err-update.ensures.overwrites
 
 pub returns-in-Err-clause-stops : goal.returns-in-Err-clause-stops
 returns-in-Err-clause-stops g c =
-    stops_first was.Written (value_of g.N.Nand.flash c.args.self.now) c.args.extent c.in-Err.failure c.in-Err.ensures.tells
+    stops_first was.Written (stored_value g.N.Nand.flash c.args.self.now) c.args.extent c.in-Err.failure c.in-Err.ensures.tells
 
 pub returns-in-Ok-Empty-clause-acknowledged : goal.returns-in-Ok-Empty-clause-acknowledged
 returns-in-Ok-Empty-clause-acknowledged g c updates is =

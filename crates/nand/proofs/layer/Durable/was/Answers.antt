@@ -3,7 +3,7 @@ use Rattle.geometry.specs.Sectors.{was_of}
 use Rattle.geometry.specs.declared.answer.Was.{Was}
 use Rattle.geometry.specs.declared.answer.Was.TheVariants as was
 use Rattle.durable.specs.Updates.{array_after}
-use Rattle.nand.specs.Stored.{value_of, told_of}
+use Rattle.nand.specs.Stored.{stored_value, told_of}
 use Rattle.nand.specs.declared.failure.Failure.{Failure}
 use Rattle.nand.specs.declared.failure.Failure.TheVariants as failure
 use Rattle.nand.proofs.Readings.{in_page, no_page, tells, told_there}
@@ -12,7 +12,7 @@ use Rattle.nand.proofs.layer.Durable.was.Goals as goal
 pub returns-in_default-clause-tells : goal.returns-in_default-clause-tells
 returns-in_default-clause-tells g c =
     let none = no_page g.N.Nand.flash c.args.self.now c.args.sector c.page.result c.page.ensures.map c.in_default.is in
-    tells (value_of g.N.Nand.flash c.args.self.now) c.args.sector (Ok was.Empty) (ap told_of (sym none))
+    tells (stored_value g.N.Nand.flash c.args.self.now) c.args.sector (Ok was.Empty) (ap told_of (sym none))
 
 pub returns-in_default-clause-gives : goal.returns-in_default-clause-gives
 returns-in_default-clause-gives g c updates is =
@@ -25,7 +25,7 @@ returns-in-Ok-clause-tells g c =
     let there = in_page g.N.Nand.flash c.args.self.now c.args.sector c.page.result c.page.ensures.map c.in-Some.at c.in-Some.is
     c.deref.result.now c.deref.ensures.value at c.chip_page.ensures in
     let told = c.found.ensures.tells (g.N.Nand.flash c.args.self.now.nand at.block at.page) c.in-Ok.ensures.stamp in
-    tells (value_of g.N.Nand.flash c.args.self.now) c.args.sector c.found.result (told ∙ ap told_of (sym there))
+    tells (stored_value g.N.Nand.flash c.args.self.now) c.args.sector c.found.result (told ∙ ap told_of (sym there))
 
 pub returns-in-Ok-clause-gives : goal.returns-in-Ok-clause-gives
 returns-in-Ok-clause-gives g c updates is =

@@ -3,7 +3,7 @@ use Rattle.std.proofs.lemmas.Bool.{cases_eq}
 use Rattle.geometry.specs.Sectors.{was_of}
 use Rattle.geometry.specs.declared.answer.Was.TheVariants as was
 use Rattle.durable.specs.Updates.{array_after, sole}
-use Rattle.nand.specs.Stored.{WereStored, value_of}
+use Rattle.nand.specs.Stored.{WereStored, stored_value}
 use Rattle.nand.proofs.Readings.{empty_within, stops_within, written_within}
 use Rattle.nand.proofs.Steps.{stored_after, looks_after}
 use Rattle.nand.proofs.layer.Durable.were.Goals as goal
@@ -17,13 +17,13 @@ returns-in-Err-clause-looks g c = looks_after c.loop-sector.invariant.looks (Err
 
 pub returns-in-Ok-Written-clause-tells : goal.returns-in-Ok-Written-clause-tells
 returns-in-Ok-Written-clause-tells g c =
-    written_within (value_of g.N.Nand.flash c.loop-sector.self) (value_of g.N.Nand.flash c.args.self.now) c.args.extent c.loop-sector.sector
+    written_within (stored_value g.N.Nand.flash c.loop-sector.self) (stored_value g.N.Nand.flash c.args.self.now) c.args.extent c.loop-sector.sector
     (c.loop-sector.invariant.from, omega arith) (stored_after c.loop-sector.invariant.looks)
-    (subst (WereStored (value_of g.N.Nand.flash c.loop-sector.self) (sole c.loop-sector.sector)) c.in-Ok-Written.field-0-is c.in-Ok-Written.ensures.tells)
+    (subst (WereStored (stored_value g.N.Nand.flash c.loop-sector.self) (sole c.loop-sector.sector)) c.in-Ok-Written.field-0-is c.in-Ok-Written.ensures.tells)
 
 pub returns-in-Err-clause-tells : goal.returns-in-Err-clause-tells
 returns-in-Err-clause-tells g c =
-    stops_within (value_of g.N.Nand.flash c.loop-sector.self) (value_of g.N.Nand.flash c.args.self.now) c.args.extent c.loop-sector.sector
+    stops_within (stored_value g.N.Nand.flash c.loop-sector.self) (stored_value g.N.Nand.flash c.args.self.now) c.args.extent c.loop-sector.sector
     (c.loop-sector.invariant.from, omega arith) (stored_after c.loop-sector.invariant.looks) c.in-Err.failure c.in-Err.ensures.tells
 
 pub returns-in-Err-clause-only : goal.returns-in-Err-clause-only
@@ -40,10 +40,11 @@ loop-sector-preserved g c =
           (λ differs. inv.empty updates is k le (omega (arith, lt, differs)))
           (cases_eq k c.loop-sector.sector);
       stored = λ k le lt. ⊎_elim
-          (λ here. subst (λ (j : ℕ). value_of g.N.Nand.flash c.args.self.now j ≡ Some None) (sym here)
-          (empty_within (value_of g.N.Nand.flash c.loop-sector.self) (value_of g.N.Nand.flash c.args.self.now) c.args.extent c.loop-sector.sector
+          (λ here. subst (λ (j : ℕ). stored_value g.N.Nand.flash c.args.self.now j ≡ Some None) (sym here)
+          (empty_within (stored_value g.N.Nand.flash c.loop-sector.self) (stored_value g.N.Nand.flash c.args.self.now) c.args.extent c.loop-sector.sector
           (inv.from, omega arith) (stored_after inv.looks)
-          (subst (WereStored (value_of g.N.Nand.flash c.loop-sector.self) (sole c.loop-sector.sector)) c.in-Ok-Empty.field-0-is c.in-Ok-Empty.ensures.tells)))
+          (subst (WereStored (stored_value g.N.Nand.flash c.loop-sector.self) (sole c.loop-sector.sector))
+          c.in-Ok-Empty.field-0-is c.in-Ok-Empty.ensures.tells)))
           (λ differs. inv.stored k le (omega (arith, lt, differs)))
           (cases_eq k c.loop-sector.sector);
       closed = λ is. absurd (cc (sym c.in-Ok-Empty.is ∙ c.was.ensures.closed (inv.looks.mounted ∙ is)));

@@ -1,7 +1,7 @@
 use Rattle.std.proofs.Common.{◌∙◌, Some, sym, subst}
 use Rattle.durable.specs.Updates.{sole}
 use Rattle.geometry.specs.declared.answer.Was.TheVariants as was
-use Rattle.nand.specs.Stored.{WereStored, value_of}
+use Rattle.nand.specs.Stored.{WereStored, stored_value}
 use Rattle.nand.specs.Opened.{update_of}
 use Rattle.nand.proofs.Readings.{stops_first, stops_then}
 use Rattle.nand.specs.declared.failure.Failure.TheVariants as failure
@@ -14,21 +14,21 @@ returns-in-Ok-Empty-clause-empty g c updates is = on_ok c.update.result (sym (c.
 
 pub returns-in-Ok-Empty-clause-stored : goal.returns-in-Ok-Empty-clause-stored
 returns-in-Ok-Empty-clause-stored g c = on_ok c.update.result
-    (subst (WereStored (value_of g.N.Nand.flash c.args.self.now) (sole c.args.sector)) c.in-Ok-Empty.field-0-is c.in-Ok-Empty.ensures.tells)
+    (subst (WereStored (stored_value g.N.Nand.flash c.args.self.now) (sole c.args.sector)) c.in-Ok-Empty.field-0-is c.in-Ok-Empty.ensures.tells)
 
 pub returns-in-Ok-Empty-clause-stops : goal.returns-in-Ok-Empty-clause-stops
 returns-in-Ok-Empty-clause-stops g c =
-    stops_then was.Empty (value_of g.N.Nand.flash c.args.self.now) (sole c.args.sector) c.update.result
-    (subst (WereStored (value_of g.N.Nand.flash c.args.self.now) (sole c.args.sector)) c.in-Ok-Empty.field-0-is c.in-Ok-Empty.ensures.tells)
+    stops_then was.Empty (stored_value g.N.Nand.flash c.args.self.now) (sole c.args.sector) c.update.result
+    (subst (WereStored (stored_value g.N.Nand.flash c.args.self.now) (sole c.args.sector)) c.in-Ok-Empty.field-0-is c.in-Ok-Empty.ensures.tells)
     c.update.ensures.lost c.update.ensures.overwrites
 
 pub returns-in-Ok-Written-clause-stops : goal.returns-in-Ok-Written-clause-stops
 returns-in-Ok-Written-clause-stops g c =
-    subst (WereStored (value_of g.N.Nand.flash c.args.self.now) (sole c.args.sector)) c.in-Ok-Written.field-0-is c.in-Ok-Written.ensures.tells
+    subst (WereStored (stored_value g.N.Nand.flash c.args.self.now) (sole c.args.sector)) c.in-Ok-Written.field-0-is c.in-Ok-Written.ensures.tells
 
 pub returns-in-Err-clause-stops : goal.returns-in-Err-clause-stops
 returns-in-Err-clause-stops g c =
-    stops_first was.Empty (value_of g.N.Nand.flash c.args.self.now) (sole c.args.sector) c.in-Err.failure c.in-Err.ensures.tells
+    stops_first was.Empty (stored_value g.N.Nand.flash c.args.self.now) (sole c.args.sector) c.in-Err.failure c.in-Err.ensures.tells
 
 pub returns-in-Ok-Empty-clause-written : goal.returns-in-Ok-Empty-clause-written
 returns-in-Ok-Empty-clause-written g c updates is written = absurd (c.update.ensures.overwrites written)
