@@ -1,5 +1,6 @@
 -- The versions that the commands of a call leave.
-use Rattle.std.proofs.Common.{◌≡◌, ◌⊎◌, ◌∙◌, inl, inr, ⊎_elim, ℕ, Bool, true, false, List, Result, Ok, Err, OnOk, refl, sym, ap, subst}
+use Rattle.std.proofs.Common.{◌≡◌, ◌⊎◌, ◌∙◌, inl, inr, ⊎_elim, ◌≤◌, ◌<◌, ◌+◌, ◌-◌, ◌%◌, ◌^◌, ℕ, Bool, true, false}
+use Rattle.std.proofs.Common.{List, Result, Ok, Err, OnOk, refl, sym, ap, subst, arith}
 use Rattle.std.proofs.lemmas.Bool.{cases_eq, false≢true}
 use Rattle.geometry.specs.Sectors.{Sector}
 use Rattle.geometry.specs.declared.answer.Was.{Was}
@@ -8,14 +9,16 @@ use Rattle.durable.specs.declared.command.Command.{Command}
 use Rattle.durable.specs.declared.command.Command.TheVariants.{Program, Copy, Erase, Refused}
 use Rattle.durable.specs.declared.extent.Extent.{Extent}
 use Rattle.durable.specs.declared.memory.Core.{Core}
-use Rattle.durable.specs.Choice.{IsNext}
+use Rattle.durable.specs.Choice.{IsNext, Spends}
 use Rattle.durable.specs.Commands.{Completes, is_program}
 use Rattle.durable.specs.Flash.{Flash, PageContents, Version, SetsPage}
 use Rattle.durable.specs.Updates.{Update}
 use Rattle.durable.proofs.Cells.{erased_holds_none}
 use Rattle.nand.specs.declared.failure.Failure.{Failure}
+use Rattle.nand.specs.Nand.{tally_after}
 use Rattle.nand.specs.Numbers.{IsOrder, chip_block, numbered}
-use Rattle.nand.specs.Programs.{AddsVersion, HasSomewhere}
+use Rattle.nand.specs.Programs.{AddsVersion, HasSomewhere, TalliesOnce}
+use Rattle.nand.specs.declared.flash.Tally.{Tally}
 
 -- the flash has no version that it did not have before
 abbrev pub HasNoNew : Flash → Flash → Type 0
@@ -71,6 +74,82 @@ module _ (f g t : Flash) (numbers : List ℕ) (bad : List Bool) (blocks : ℕ) (
 pub adds_there : (f g t : Flash) (n k : ℕ) (update : Update) → g ≡ f → k ≡ n → AddsVersion g t k update → AddsVersion f t n update
 adds_there f g t n k update flash number adds = subst (λ (h : Flash). AddsVersion h t n update) flash
     (subst (λ (j : ℕ). AddsVersion g t j update) number adds)
+
+-- the same of counts that are those from before
+pub tallies_there : {old mid : Tally} {n m : ℕ} (new : Tally) → mid ≡ old → m ≡ n → TalliesOnce mid new m → TalliesOnce old new n
+tallies_there {old} {mid} {n} {m} new tally pages is = subst (λ (t : Tally). TalliesOnce t new n) tally (subst (TalliesOnce mid new) pages is)
+
+-- what a call has counted that isn't at its end and may still need so many commands
+pub record HasSpent (before now : Tally) (pages left : ℕ) : Type 0 where
+  pub copies : ℕ
+  pub erases : ℕ
+  pub programmed : now.programs ≡ before.programs
+  pub copied : now.copies % 2 ^ 64 ≡ (before.copies + copies) % 2 ^ 64
+  pub erased : now.erases % 2 ^ 64 ≡ (before.erases + erases) % 2 ^ 64
+  pub few : copies ≤ pages - left
+  pub one : erases ≤ 1
+  pub opened : erases ≤ pages + 1 - left
+
+pub none_spent : (tally : Tally) (pages left : ℕ) → HasSpent tally tally pages left
+none_spent tally pages left = record {
+  copies = 0;
+  erases = 0;
+  programmed = refl;
+  copied = omega arith;
+  erased = omega arith;
+  few = omega arith;
+  one = omega arith;
+  opened = omega arith;
+}
+
+pub still_spent : (before mid now : Tally) (m : Command) (pages old new : ℕ) → is_program m ≡ false → HasSpent before mid pages old
+    → now ≡ tally_after m mid → Spends m pages old new → HasSpent before now pages new
+still_spent before mid now (Program at n) pages old new is spent counted spends = absurd (false≢true (sym is))
+still_spent before mid now (Copy k from to) pages old new is spent counted spends = record {
+  copies = spent.copies + 1;
+  erases = spent.erases;
+  programmed = ap (λ (t : Tally). t.programs) counted ∙ spent.programmed;
+  copied = omega (arith, ap (λ (t : Tally). t.copies) counted, spent.copied);
+  erased = ap (λ (t : Tally). t.erases % 2 ^ 64) counted ∙ spent.erased;
+  few = omega (arith, spent.few, spends.0, spends.1);
+  one = spent.one;
+  opened = omega (arith, spent.opened, spends.0, spends.1);
+}
+still_spent before mid now (Erase b) pages old new is spent counted spends = record {
+  copies = spent.copies;
+  erases = spent.erases + 1;
+  programmed = ap (λ (t : Tally). t.programs) counted ∙ spent.programmed;
+  copied = ap (λ (t : Tally). t.copies % 2 ^ 64) counted ∙ spent.copied;
+  erased = omega (arith, ap (λ (t : Tally). t.erases) counted, spent.erased);
+  few = omega (arith, spent.few, spends.0, spends.1);
+  one = omega (arith, spent.opened, spends.0);
+  opened = omega (arith, spent.opened, spends.0, spends.1);
+}
+still_spent before mid now Refused pages old new is spent counted spends = record {
+  copies = spent.copies;
+  erases = spent.erases;
+  programmed = ap (λ (t : Tally). t.programs) counted ∙ spent.programmed;
+  copied = ap (λ (t : Tally). t.copies % 2 ^ 64) counted ∙ spent.copied;
+  erased = ap (λ (t : Tally). t.erases % 2 ^ 64) counted ∙ spent.erased;
+  few = omega (arith, spent.few, spends);
+  one = spent.one;
+  opened = omega (arith, spent.opened, spends);
+}
+
+pub tallies_once : (before mid now : Tally) (m : Command) (pages old new : ℕ) → is_program m ≡ true → HasSpent before mid pages old
+    → now ≡ tally_after m mid → Spends m pages old new → TalliesOnce before now pages
+tallies_once before mid now (Program at n) pages old new is spent counted spends = record {
+  copies = spent.copies;
+  erases = spent.erases;
+  programmed = ap (λ (t : Tally). t.programs) counted ∙ ap (λ (k : ℕ). (k + 1) % 2 ^ 64) spent.programmed;
+  copied = ap (λ (t : Tally). t.copies % 2 ^ 64) counted ∙ spent.copied;
+  erased = ap (λ (t : Tally). t.erases % 2 ^ 64) counted ∙ spent.erased;
+  few = omega (arith, spent.few, spends);
+  one = spent.one;
+}
+tallies_once before mid now (Copy k from to) pages old new is spent counted spends = absurd (false≢true is)
+tallies_once before mid now (Erase b) pages old new is spent counted spends = absurd (false≢true is)
+tallies_once before mid now Refused pages old new is spent counted spends = absurd (false≢true is)
 
 -- a call that programs nothing, or once
 pub or_once : (P Q : Type 0) (result : Result (Unit {0}) Failure) → OnOk result Q → OnOk result (P ⊎ Q)

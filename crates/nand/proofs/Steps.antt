@@ -25,6 +25,7 @@ use Rattle.nand.specs.declared.failure.Failure.TheVariants as failure
 use Rattle.nand.specs.declared.flash.Fault.{Fault}
 use Rattle.nand.specs.declared.flash.Fault.TheVariants as fault
 use Rattle.nand.specs.declared.flash.Shape.{Shape}
+use Rattle.nand.specs.declared.flash.Tally.{Tally}
 use Rattle.nand.specs.declared.layer.Durable.{Durable}
 use Rattle.nand.specs.Numbers.{IsOrder, good_before, is_marked, numbered}
 use Rattle.nand.specs.Opened.{CanOpen, Fails, HasMarkedFailed, IsOpenLayer, IsSameDevice, IsSpent, IsTrueCause, KeepsDevice, device_on}
@@ -33,7 +34,7 @@ use Rattle.nand.specs.Stored.{stored_value, value_at}
 use Rattle.nand.specs.Looks.{Looks}
 use Rattle.nand.specs.Programs.{ProgramsOnce}
 use Rattle.nand.proofs.Orders.{openable}
-use Rattle.nand.proofs.Programs.{adds_there}
+use Rattle.nand.proofs.Programs.{adds_there, tallies_there}
 use Rattle.durable.proofs.Subsequences.{all_of, between_same}
 
 -- the program adds its update, and no other command does
@@ -113,8 +114,8 @@ if_ok {T} {P} {Q} (Ok v) to is = to is
 if_ok {T} {P} {Q} (Err cause) to is = tt
 
 -- after a look that found something
-module _ {N : Type 0} {flash : N → Flash} {shape : N → Shape} {bad : N → List Bool} {faults : N → Fault → ℕ} {old mid : Durable N} {had : Was}
-    (looks : Looks flash shape bad faults old mid (Ok had)) where
+module _ {N : Type 0} {flash : N → Flash} {shape : N → Shape} {bad : N → List Bool} {faults : N → Fault → ℕ} {tally : N → Tally}
+    {old mid : Durable N} {had : Was} (looks : Looks flash shape bad faults tally old mid (Ok had)) where
   -- an update that failed
   pub fails_after : {new : Durable N} {update : Update} {updates : List Update} {cause : Failure} → Fails flash shape bad mid new update updates cause
       → Fails flash shape bad old new update updates cause
@@ -167,10 +168,13 @@ module _ {N : Type 0} {flash : N → Flash} {shape : N → Shape} {bad : N → L
       ap (λ (n : ℕ). n % 2 ^ 64) (looks.counts fault.Failed ∙ omega (arith, none))
 
   -- what the call programs
-  pub once_after : (new : Durable N) (update : Update) → ProgramsOnce flash bad mid new update → ProgramsOnce flash bad old new update
+  pub once_after : (new : Durable N) (update : Update) → ProgramsOnce flash shape bad tally mid new update
+      → ProgramsOnce flash shape bad tally old new update
   once_after new update once none =
-      adds_there (flash old.nand) (flash mid.nand) (flash new.nand) (number_of old) (number_of mid) update looks.same looks.number
-      (once (none ∙ sym looks.device.marks))
+      let there = once (none ∙ sym looks.device.marks) in (
+        adds_there (flash old.nand) (flash mid.nand) (flash new.nand) (number_of old) (number_of mid) update looks.same looks.number there.0,
+        tallies_there (tally new.nand) looks.tallied (ap (λ (s : Shape). s.pages) looks.device.chip) there.1,
+      )
 
   -- what the layer has of the sectors
   pub stored_after : (s : ℕ) → stored_value flash mid s ≡ stored_value flash old s
@@ -181,14 +185,15 @@ module _ {N : Type 0} {flash : N → Flash} {shape : N → Shape} {bad : N → L
       ∙ ap (λ (f : Flash). has old.numbers.items old.core f) looks.same)
 
   -- another look
-  pub looks_after : {new : Durable N} (result : Result Was Failure) → Looks flash shape bad faults mid new result
-      → Looks flash shape bad faults old new result
+  pub looks_after : {new : Durable N} (result : Result Was Failure) → Looks flash shape bad faults tally mid new result
+      → Looks flash shape bad faults tally old new result
   looks_after {new} result more = record {
     opens = λ updates is. more.opens updates (looks.opens updates is);
     cause = if_err result (λ cause. true_after new cause) more.cause;
     overwrites = more.overwrites;
     mounted = more.mounted ∙ looks.mounted;
     counts = if_ok result (λ same cause. same cause ∙ looks.counts cause) more.counts;
+    tallied = more.tallied ∙ looks.tallied;
     number = more.number ∙ looks.number;
     same = more.same ∙ looks.same;
     core = more.core ∙ looks.core;

@@ -13,6 +13,7 @@ use Rattle.nand.specs.declared.chip.Fate.TheVariants as fate
 use Rattle.nand.specs.declared.flash.Fault.{Fault}
 use Rattle.nand.specs.declared.flash.Fault.TheVariants as fault
 use Rattle.nand.specs.declared.flash.Shape.{Shape}
+use Rattle.nand.specs.declared.flash.Tally.{Tally}
 use Rattle.nand.specs.Cells.{flash_in}
 
 -- what the chip's pages hold
@@ -32,6 +33,10 @@ chip_faults chip fault.PowerGone = chip.cuts
 abbrev pub chip_syncs : Chip → ℕ
 chip_syncs chip = chip.syncs
 
+-- how many commands of each kind have succeeded, modulo 2^64
+abbrev pub chip_tally : Chip → Tally
+chip_tally chip = chip.tally
+
 -- of each block, whether it is marked bad
 abbrev pub chip_bad : Chip → List Bool
 chip_bad chip = chip.bad.items
@@ -48,6 +53,7 @@ pub record HasSame (old new : Chip) : Type 0 where
   pub erases : chip_erases new ≡ chip_erases old
   pub failures : new.failures ≡ old.failures
   pub cuts : new.cuts ≡ old.cuts
+  pub tally : chip_tally new ≡ chip_tally old
 
 -- a page is filled, or the command left nothing of it, a torn page, or all of it
 abbrev pub Sets : {T : Type 0} → Result T Fault → Flash → Flash → PageAddr → PageContents → Type 0

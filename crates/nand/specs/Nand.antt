@@ -3,6 +3,7 @@ use Rattle.std.specs.Prelude.{◌≡◌, ◌+◌, ◌%◌, ◌^◌, ℕ, Bool, L
 use Rattle.geometry.specs.Sectors.{Sector}
 use Rattle.durable.specs.declared.extent.Extent.{Extent}
 use Rattle.durable.specs.declared.command.Command.{Command}
+use Rattle.durable.specs.declared.command.Command.TheVariants.{Program, Copy, Erase, Refused}
 use Rattle.durable.specs.declared.found.Stamp.{Stamp as Noted}
 use Rattle.durable.specs.Flash.{Flash, PageContents, Erased, Torn, Version, is_trim}
 use Rattle.durable.specs.Updates.{Covers}
@@ -12,6 +13,7 @@ use Rattle.nand.specs.declared.flash.Fault.TheVariants as fault
 use Rattle.nand.specs.declared.flash.PowerGone.{PowerGone}
 use Rattle.nand.specs.declared.flash.Reading.{Reading}
 use Rattle.nand.specs.declared.flash.Reading.TheVariants as outcome
+use Rattle.nand.specs.declared.flash.Tally.{Tally}
 
 -- the value of a version: none after a trim, and otherwise its page's main bytes
 abbrev pub value_with : Bool → List ℕ → Sector
@@ -51,6 +53,17 @@ HasBytes f s bytes =
 abbrev pub Performs : {T : Type 0} → Command → Extent → Sector → Result T Fault → Flash → Flash → Type 0
 Performs {T} m extent value result f t =
     IsAllowed f m → OnOk result (Completes m extent value f t) × OnErr result (CutLeaves m extent value f t)
+
+-- one command more of this kind, modulo 2^64, and none of the other kinds
+abbrev pub tally_after : Command → Tally → Tally
+tally_after (Program at n) tally = record tally { programs = (tally.programs + 1) % 2 ^ 64 }
+tally_after (Copy k from to) tally = record tally { copies = (tally.copies + 1) % 2 ^ 64 }
+tally_after (Erase b) tally = record tally { erases = (tally.erases + 1) % 2 ^ 64 }
+tally_after Refused tally = tally
+
+-- a command that succeeded is counted by its kind, and one that failed is not
+abbrev pub CountsCommand : {T : Type 0} → Command → Tally → Tally → Result T Fault → Type 0
+CountsCommand {T} m before now result = OnOk result (now ≡ tally_after m before) × OnErr result (now ≡ before)
 
 -- the other one of the two faults
 abbrev pub other_fault : Fault → Fault

@@ -1,9 +1,11 @@
 -- What a call programs.
-use Rattle.std.specs.Prelude.{◌≡◌, ◌⊎◌, ℕ, Bool, List}
+use Rattle.std.specs.Prelude.{◌≡◌, ◌⊎◌, ◌≤◌, ◌+◌, ◌-◌, ◌%◌, ◌^◌, ℕ, Bool, List}
 use Rattle.geometry.specs.Sectors.{Sector}
 use Rattle.durable.specs.Flash.{Flash, Version}
 use Rattle.durable.specs.Updates.{Update}
 use Rattle.durable.specs.declared.extent.Extent.{Extent}
+use Rattle.nand.specs.declared.flash.Shape.{Shape}
+use Rattle.nand.specs.declared.flash.Tally.{Tally}
 use Rattle.nand.specs.declared.layer.Durable.{Durable}
 use Rattle.nand.specs.Opened.{number_of}
 
@@ -18,7 +20,19 @@ pub record AddsVersion (f t : Flash) (number : ℕ) (update : Update) : Type 0 w
   pub put : t block page ≡ Version update.extent number update.value
   pub others : (b p : ℕ) (e : Extent) (m : ℕ) (v : Sector) → t b p ≡ Version e m v → ((b ≡ block) × (p ≡ page)) ⊎ HasSomewhere f e m v
 
--- where no block was marked, so that no command has failed, the call has programmed one page: the update's, with the layer's next number
-abbrev pub ProgramsOnce : {N : Type 0} → (N → Flash) → (N → List Bool) → Durable N → Durable N → Update → Type 0
-ProgramsOnce {N} flash bad old new update =
+-- one program was counted, at most one erase, and at most as many copies as a block has pages but one; copies and erases modulo 2^64
+pub record TalliesOnce (before now : Tally) (pages : ℕ) : Type 0 where
+  pub copies : ℕ
+  pub erases : ℕ
+  pub programmed : now.programs ≡ (before.programs + 1) % 2 ^ 64
+  pub copied : now.copies % 2 ^ 64 ≡ (before.copies + copies) % 2 ^ 64
+  pub erased : now.erases % 2 ^ 64 ≡ (before.erases + erases) % 2 ^ 64
+  pub few : copies ≤ pages - 1
+  pub one : erases ≤ 1
+
+-- where no block was marked, so that no command has failed, the call has programmed one page: the update's, with the layer's next number. Beside
+-- that program it has done at most one erase, and at most as many copies as a block has pages but one
+abbrev pub ProgramsOnce : {N : Type 0} → (N → Flash) → (N → Shape) → (N → List Bool) → (N → Tally) → Durable N → Durable N → Update → Type 0
+ProgramsOnce {N} flash shape bad tally old new update =
     bad new.nand ≡ bad old.nand → AddsVersion (flash old.nand) (flash new.nand) (number_of old) update
+    × TalliesOnce (tally old.nand) (tally new.nand) (shape old.nand).pages

@@ -2,7 +2,7 @@ ghost use Rattle.std.specs.Prelude.{◌≡◌, ◌==◌, length};
 ghost use Rattle.std.specs.Int.{bit_at};
 
 use crate::cells::{Page, copied, copy_main, erase, lose, peek, put};
-use crate::flash::{Fault, Nand, PowerGone, Reading, Shape, Stamp};
+use crate::flash::{Fault, Nand, PowerGone, Reading, Shape, Stamp, Tally};
 use geometry::PageAddr;
 use std::alloc::{AllocError, Global};
 
@@ -38,10 +38,11 @@ pub struct Chip {
     cut: Option<(u64, Cut)>,
     // From which command on some fail: bit i of the mask says that the i-th after it does.
     failing: Option<(u64, u64)>,
-    // How many calls have ended so, modulo 2^64, and how many syncs have succeeded.
+    // How many calls have ended so, modulo 2^64, and how many syncs and commands of each kind have succeeded.
     cuts: u64,
     failures: u64,
     syncs: u64,
+    tally: Tally,
     // How many programs broke the order of a block's pages, or named a programmed page.
     violations: u64,
     pub ghost bad_sized: { length bad.items ≡ shape.blocks },
@@ -63,7 +64,7 @@ impl Chip {
     ghost use Rattle.durable.specs.Commands.{IsSameFlash};
     ghost use Rattle.durable.specs.Flash.{IsErased, SetsPage, Torn};
     ghost use Rattle.nand.specs.Cells.{contents_of};
-    ghost use Rattle.nand.specs.Chip.{after_command, chip_bad, chip_erases, chip_faults, chip_flash, chip_shape, chip_syncs};
+    ghost use Rattle.nand.specs.Chip.{after_command, chip_bad, chip_erases, chip_faults, chip_flash, chip_shape, chip_syncs, chip_tally};
     ghost use Rattle.nand.specs.Chip.{coming, fails_in, schedule_of, Ends, HasSame, Sets};
     ghost use Rattle.nand.specs.Nand.{CountsFault, CountsCut};
     ghost use Rattle.nand.specs.declared.flash.Fault.TheVariants as fault;
@@ -74,6 +75,8 @@ impl Chip {
         ensures bad { IfOk result
             (λ chip. (b : ℕ) → slice_index_or (chip_bad chip) b false ≡ false) }
         ensures erases { IfOk result (λ chip. (b : ℕ) → slice_index_or (chip_erases chip) b 0 ≡ 0) }
+        ensures tally { IfOk result
+            (λ chip. chip_tally chip ≡ record { programs = 0; copies = 0; erases = 0 }) }
         ensures schedule { IfOk result
             (λ chip. schedule_of chip
             ≡ record { powered = true; commands = 0; cut = None; failing = None }) }
@@ -99,6 +102,11 @@ impl Chip {
             cuts: 0,
             failures: 0,
             syncs: 0,
+            tally: Tally {
+                programs: 0,
+                copies: 0,
+                erases: 0,
+            },
             violations: 0,
         })
     }
@@ -144,6 +152,7 @@ impl Chip {
             ⊎ SetsPage (chip_flash self.old) (chip_flash self.new) at.block at.page Torn }
         ensures shape { chip_shape self.new ≡ chip_shape self.old }
         ensures bad { chip_bad self.new ≡ chip_bad self.old }
+        ensures tally { chip_tally self.new ≡ chip_tally self.old }
         ensures schedule { schedule_of self.new ≡ schedule_of self.old }
     {
         put(&mut self.blocks, at, Page::Torn);
@@ -231,6 +240,7 @@ impl Chip {
         ensures bad { chip_bad self.new ≡ chip_bad self.old }
         ensures shape { chip_shape self.new ≡ chip_shape self.old }
         ensures cause { CountsFault (chip_faults self.old) (chip_faults self.new) result }
+        ensures tally { chip_tally self.new ≡ chip_tally self.old }
     {
         let next = self.is_next(at);
         match self.fate() {
@@ -268,6 +278,7 @@ impl Chip {
         ensures flash { chip_flash self.new ≡ chip_flash self.old }
         ensures shape { chip_shape self.new ≡ chip_shape self.old }
         ensures bad { chip_bad self.new ≡ chip_bad self.old }
+        ensures tally { chip_tally self.new ≡ chip_tally self.old }
     {
         self.failures = self.failures.wrapping_add(1);
         Err(Fault::Failed)
@@ -281,6 +292,7 @@ impl Chip {
         ensures flash { chip_flash self.new ≡ chip_flash self.old }
         ensures shape { chip_shape self.new ≡ chip_shape self.old }
         ensures bad { chip_bad self.new ≡ chip_bad self.old }
+        ensures tally { chip_tally self.new ≡ chip_tally self.old }
     {
         self.cuts = self.cuts.wrapping_add(1);
         Err(Fault::PowerGone)
@@ -294,6 +306,7 @@ impl Chip {
         ensures shape { chip_shape self.new ≡ chip_shape self.old }
         ensures bad { chip_bad self.new ≡ chip_bad self.old }
         ensures syncs { chip_syncs self.new ≡ chip_syncs self.old }
+        ensures tally { chip_tally self.new ≡ chip_tally self.old }
     {
         if self.powered {
             return Ok(());
@@ -307,8 +320,9 @@ impl Nand for Chip {
     ghost use Rattle.std.specs.Prelude.{◌+◌, ◌%◌, ◌^◌, None, OnOk, slice_index_or, slice_set};
     ghost use Rattle.durable.specs.Updates.{sole};
     ghost use Rattle.durable.specs.declared.command.Command.TheVariants as command;
-    ghost use Rattle.nand.specs.Chip.{after_command, chip_bad, chip_erases, chip_faults, chip_flash, chip_shape, chip_syncs, coming, schedule_of, Ends};
-    ghost use Rattle.nand.specs.Nand.{CountsFault, Performs, value_with};
+    ghost use Rattle.nand.specs.Chip.{after_command, chip_bad, chip_erases, chip_faults, chip_flash, chip_shape, chip_syncs};
+    ghost use Rattle.nand.specs.Chip.{chip_tally, coming, schedule_of, Ends};
+    ghost use Rattle.nand.specs.Nand.{CountsCommand, CountsFault, Performs, value_with};
 
     ghost flash = { chip_flash };
 
@@ -320,8 +334,14 @@ impl Nand for Chip {
 
     ghost syncs = { chip_syncs };
 
+    ghost tally = { chip_tally };
+
     fn shape(&self) -> Shape {
         self.shape
+    }
+
+    fn tally(&self) -> Tally {
+        self.tally
     }
 
     fn is_bad(&mut self, block: u32) -> Result<bool, PowerGone> {
@@ -370,6 +390,8 @@ impl Nand for Chip {
         ensures shape { chip_shape self.new ≡ chip_shape self.old }
         ensures bad { chip_bad self.new ≡ chip_bad self.old }
         ensures cause { CountsFault (chip_faults self.old) (chip_faults self.new) result }
+        ensures tally { CountsCommand (command.Program at stamp.number)
+            (chip_tally self.old) (chip_tally self.new) result }
         ensures ends { Ends (coming (schedule_of self.old)) result }
         ensures schedule { schedule_of self.new ≡ after_command (schedule_of self.old) }
     {
@@ -377,7 +399,9 @@ impl Nand for Chip {
             let _ = self.fate();
             return self.failed();
         };
-        self.fill(at, Page::Version(stamp, main))
+        self.fill(at, Page::Version(stamp, main))?;
+        self.tally.programs = self.tally.programs.wrapping_add(1);
+        Ok(())
     }
 
     fn copyback(&mut self, from: PageAddr, to: PageAddr) -> Result<(), Fault>
@@ -386,6 +410,8 @@ impl Nand for Chip {
         ensures shape { chip_shape self.new ≡ chip_shape self.old }
         ensures bad { chip_bad self.new ≡ chip_bad self.old }
         ensures cause { CountsFault (chip_faults self.old) (chip_faults self.new) result }
+        ensures tally { CountsCommand (command.Copy 0 from to)
+            (chip_tally self.old) (chip_tally self.new) result }
         ensures ends { Ends (coming (schedule_of self.old)) result }
         ensures schedule { schedule_of self.new ≡ after_command (schedule_of self.old) }
     {
@@ -393,7 +419,9 @@ impl Nand for Chip {
             let _ = self.fate();
             return self.failed();
         };
-        self.fill(to, page)
+        self.fill(to, page)?;
+        self.tally.copies = self.tally.copies.wrapping_add(1);
+        Ok(())
     }
 
     fn erase(&mut self, block: u32) -> Result<(), Fault>
@@ -402,6 +430,8 @@ impl Nand for Chip {
         ensures shape { chip_shape self.new ≡ chip_shape self.old }
         ensures bad { chip_bad self.new ≡ chip_bad self.old }
         ensures cause { CountsFault (chip_faults self.old) (chip_faults self.new) result }
+        ensures tally { CountsCommand (command.Erase block)
+            (chip_tally self.old) (chip_tally self.new) result }
         ensures ends { Ends (coming (schedule_of self.old)) result }
         ensures schedule { schedule_of self.new ≡ after_command (schedule_of self.old) }
         ensures counted { OnOk result (chip_erases self.new
@@ -416,6 +446,7 @@ impl Nand for Chip {
                 if erase(&mut self.blocks, block) {
                     let count = self.erases[block as usize];
                     self.erases[block as usize] = count.wrapping_add(1);
+                    self.tally.erases = self.tally.erases.wrapping_add(1);
                     return Ok(());
                 }
                 self.failed()

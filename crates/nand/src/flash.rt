@@ -4,8 +4,9 @@ ghost use Rattle.durable.specs.Updates.{sole};
 ghost use Rattle.nand.specs.declared.flash.Shape.{Shape as Numbers};
 ghost use Rattle.durable.specs.declared.command.Command.TheVariants as command;
 ghost use Rattle.nand.specs.declared.flash.Fault.{Fault as Cause};
+ghost use Rattle.nand.specs.declared.flash.Tally.{Tally as Counts};
 ghost use Rattle.nand.specs.Numbers.{Marks};
-ghost use Rattle.nand.specs.Nand.{ReadsStamp, ReadsMain, Performs, CountsFault, CountsCut, value_with};
+ghost use Rattle.nand.specs.Nand.{ReadsStamp, ReadsMain, Performs, CountsCommand, CountsFault, CountsCut, value_with};
 
 use durable::Extent;
 use geometry::PageAddr;
@@ -33,6 +34,14 @@ pub struct Shape {
     pub blocks: u32,
     pub pages: u32,
     pub page_bytes: usize,
+}
+
+/// How many commands of each kind have succeeded, modulo 2^64.
+#[derive(Clone, Copy, Debug, PartialEq, Eq)]
+pub struct Tally {
+    pub programs: u64,
+    pub copies: u64,
+    pub erases: u64,
 }
 
 /// What is programmed into a page's spare bytes.
@@ -74,9 +83,16 @@ pub trait Nand {
     /// How many calls of `sync` have succeeded, modulo 2^64.
     ghost syncs: { Self → ℕ };
 
+    /// How many commands of each kind have succeeded, modulo 2^64. One that failed isn't counted.
+    ghost tally: { Self → Counts };
+
     /// How large the chip is.
     fn shape(&self) -> Shape
         ensures { result ≡ shape self.now };
+
+    /// How many commands of each kind have succeeded.
+    fn tally(&self) -> Tally
+        ensures { result ≡ tally self.now };
 
     /// Whether the block is marked bad.
     fn is_bad(&mut self, block: u32) -> Result<bool, PowerGone>
@@ -84,6 +100,7 @@ pub trait Nand {
         ensures flash { flash self.new ≡ flash self.old }
         ensures shape { shape self.new ≡ shape self.old }
         ensures bad { bad self.new ≡ bad self.old }
+        ensures tally { tally self.new ≡ tally self.old }
         ensures cause { CountsCut (faults self.old) (faults self.new) result };
 
     /// Marks a block bad for good. Its pages are still read.
@@ -93,6 +110,7 @@ pub trait Nand {
         ensures only { (bad self.new ≡ bad self.old) ⊎ Marks (bad self.old) (bad self.new) block }
         ensures flash { flash self.new ≡ flash self.old }
         ensures shape { shape self.new ≡ shape self.old }
+        ensures tally { tally self.new ≡ tally self.old }
         ensures cause { CountsCut (faults self.old) (faults self.new) result };
 
     /// Reads a page's stamp alone.
@@ -102,6 +120,7 @@ pub trait Nand {
         ensures flash { flash self.new ≡ flash self.old }
         ensures shape { shape self.new ≡ shape self.old }
         ensures bad { bad self.new ≡ bad self.old }
+        ensures tally { tally self.new ≡ tally self.old }
         ensures cause { CountsCut (faults self.old) (faults self.new) result };
 
     /// Reads a page's stamp, and its main bytes into `out`. If it isn't a version with bytes, any bytes may be there.
@@ -113,6 +132,7 @@ pub trait Nand {
         ensures flash { flash self.new ≡ flash self.old }
         ensures shape { shape self.new ≡ shape self.old }
         ensures bad { bad self.new ≡ bad self.old }
+        ensures tally { tally self.new ≡ tally self.old }
         ensures cause { CountsCut (faults self.old) (faults self.new) result };
 
     /// Programs an erased page. The main bytes of a trim are none.
@@ -122,6 +142,8 @@ pub trait Nand {
             (value_with stamp.trimmed main.now) result (flash self.old) (flash self.new) }
         ensures shape { shape self.new ≡ shape self.old }
         ensures bad { bad self.new ≡ bad self.old }
+        ensures tally { CountsCommand (command.Program at stamp.number)
+            (tally self.old) (tally self.new) result }
         ensures cause { CountsFault (faults self.old) (faults self.new) result };
 
     /// Copies a page with its stamp into an erased page.
@@ -130,6 +152,8 @@ pub trait Nand {
             (sole 0) None result (flash self.old) (flash self.new) }
         ensures shape { shape self.new ≡ shape self.old }
         ensures bad { bad self.new ≡ bad self.old }
+        ensures tally { CountsCommand (command.Copy 0 from to)
+            (tally self.old) (tally self.new) result }
         ensures cause { CountsFault (faults self.old) (faults self.new) result };
 
     /// Erases a block.
@@ -138,6 +162,8 @@ pub trait Nand {
             (sole 0) None result (flash self.old) (flash self.new) }
         ensures shape { shape self.new ≡ shape self.old }
         ensures bad { bad self.new ≡ bad self.old }
+        ensures tally { CountsCommand (command.Erase block)
+            (tally self.old) (tally self.new) result }
         ensures cause { CountsFault (faults self.old) (faults self.new) result };
 
     /// Returns once each command that was done is durable.
@@ -146,5 +172,6 @@ pub trait Nand {
         ensures flash { flash self.new ≡ flash self.old }
         ensures shape { shape self.new ≡ shape self.old }
         ensures bad { bad self.new ≡ bad self.old }
+        ensures tally { tally self.new ≡ tally self.old }
         ensures cause { CountsCut (faults self.old) (faults self.new) result };
 }

@@ -31,6 +31,7 @@ impl<N: Nand> Durable<N> {
             (Fails N.flash N.shape N.bad self.old self.new (update_by change.now) updates) }
         ensures cause { IfErr result (IsTrueCause N.faults self.old self.new) }
         ensures closed { IsClosed self.old → result ≡ Err failure.Closed }
+        ensures idle { IsClosed self.old → N.tally self.new.nand ≡ N.tally self.old.nand }
         ensures device { KeepsDevice N.shape N.bad N.faults self.old self.new }
         ensures marks { (updates : List Update) → IsOpenLayer N.flash N.shape N.bad self.old updates
             → OnOk result (HasMarkedFailed N.shape N.bad N.faults self.old self.new) }
@@ -40,7 +41,8 @@ impl<N: Nand> Durable<N> {
             → HasMarkedFailed N.shape N.bad N.faults self.old self.new }
         ensures once { (updates : List Update) → IsOpenLayer N.flash N.shape N.bad self.old updates
             → OnOk result ((N.flash self.new.nand ≡ N.flash self.old.nand)
-            ⊎ ProgramsOnce N.flash N.bad self.old self.new (update_by change.now)) }
+            × (N.tally self.new.nand ≡ N.tally self.old.nand)
+            ⊎ ProgramsOnce N.flash N.shape N.bad N.tally self.old self.new (update_by change.now)) }
     {
         match change {
             Change::Write(sector, bytes) => self.write(*sector, bytes),

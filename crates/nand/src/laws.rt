@@ -4,6 +4,7 @@ ghost use Rattle.std.specs.declared.alloc.Global.{Global as OnHeap};
 ghost use Rattle.geometry.specs.Sectors.{Sector};
 ghost use Rattle.geometry.specs.declared.answer.Got.TheVariants as got;
 ghost use Rattle.geometry.specs.declared.answer.Was.TheVariants as was;
+ghost use Rattle.geometry.specs.declared.page_addr.PageAddr.{PageAddr as Addr};
 ghost use Rattle.durable.specs.Device.{device_of, next_number_of};
 ghost use Rattle.durable.specs.Flash.{Erased, Flash, IsErased, SetsPage, Torn, Version};
 ghost use Rattle.durable.specs.Memory.{map_entry};
@@ -12,14 +13,16 @@ ghost use Rattle.durable.specs.Spare.{IsDuplicated};
 ghost use Rattle.durable.specs.Updates.{Update, sole};
 ghost use Rattle.durable.specs.declared.command.Command.TheVariants as command;
 ghost use Rattle.nand.specs.Cells.{IsWiped, contents_of, flash_in};
-ghost use Rattle.nand.specs.Chip.{Ends, HasSame, after_command, chip_bad, chip_erases, chip_faults, chip_flash, chip_shape, chip_syncs, coming, schedule_of};
+ghost use Rattle.nand.specs.Chip.{Ends, HasSame, after_command, chip_bad, chip_erases, chip_faults, chip_flash, chip_shape, chip_syncs};
+ghost use Rattle.nand.specs.Chip.{chip_tally, coming, schedule_of};
 ghost use Rattle.nand.specs.Stored.{HasLostSector, ReadsStored, StopsLook, StopsUpdate, WereStored, stored_value, value_at, value_for};
 ghost use Rattle.nand.specs.Histories.{IsFor, Leads, update_by};
-ghost use Rattle.nand.specs.Nand.{CountsCut, CountsFault, HasBytes, Performs, ReadsMain, ReadsStamp, noted_of, other_fault, value_with};
+ghost use Rattle.nand.specs.Nand.{CountsCommand, CountsCut, CountsFault, HasBytes, Performs, ReadsMain, ReadsStamp};
+ghost use Rattle.nand.specs.Nand.{noted_of, other_fault, tally_after, value_with};
 ghost use Rattle.nand.specs.Numbers.{IsInReserve, IsInUse, IsOrder, Marks, chip_block, chip_page, good_before, is_marked, most_in_use, numbered};
 ghost use Rattle.nand.specs.Opened.{CanFreeInUse, CanOpen, Fails, HasMarkedFailed, IsClosed, IsOpenLayer, IsRefusal, IsSameDevice, IsSpent, IsTrueCause};
 ghost use Rattle.nand.specs.Opened.{KeepsDevice, ReadsSector, Were, device_on, layer_sectors, most_used, number_of, reserve_of, update_of};
-ghost use Rattle.nand.specs.Programs.{AddsVersion, HasSomewhere, ProgramsOnce};
+ghost use Rattle.nand.specs.Programs.{AddsVersion, HasSomewhere, ProgramsOnce, TalliesOnce};
 ghost use Rattle.nand.specs.declared.chip.Chip.{Chip as Modelled};
 ghost use Rattle.nand.specs.declared.chip.Cut.TheVariants as cut;
 ghost use Rattle.nand.specs.declared.chip.Fate.TheVariants as fate;
@@ -31,6 +34,7 @@ ghost use Rattle.nand.specs.declared.flash.Fault.TheVariants as fault;
 ghost use Rattle.nand.specs.declared.flash.PowerGone.{PowerGone as NoPower};
 ghost use Rattle.nand.specs.declared.flash.Reading.TheVariants as outcome;
 ghost use Rattle.nand.specs.declared.flash.Shape.{Shape as Numbers};
+ghost use Rattle.nand.specs.declared.flash.Tally.{Tally as Counts};
 ghost use Rattle.nand.specs.declared.history.Change.{Change as Call};
 ghost use Rattle.nand.specs.declared.history.Change.TheVariants.{Trim, Write};
 ghost use Rattle.nand.specs.declared.layer.Durable.{Durable as Layer};
@@ -228,6 +232,7 @@ pub fn modelled()
     ensures failures { (chip : Modelled) → chip.failures ≡ 2 → chip_faults chip fault.Failed ≡ 2 }
     ensures cuts { (chip : Modelled) → chip.cuts ≡ 3 → chip_faults chip fault.PowerGone ≡ 3 }
     ensures syncs { (chip : Modelled) → chip.syncs ≡ 3 → chip_syncs chip ≡ 3 }
+    ensures tally { (chip : Modelled) → chip.tally.copies ≡ 3 → (chip_tally chip).copies ≡ 3 }
 {}
 
 /// What comes of a modelled chip's commands.
@@ -284,6 +289,8 @@ pub fn schedules()
         → chip_faults new fault.Failed ≡ chip_faults old fault.Failed }
     ensures same_cuts { (old new : Modelled) → HasSame old new
         → chip_faults new fault.PowerGone ≡ chip_faults old fault.PowerGone }
+    ensures same_tally { (old new : Modelled) → HasSame old new
+        → (chip_tally old).copies ≡ 3 → (chip_tally new).copies ≡ 3 }
     ensures bad { (chip : Modelled) → chip.bad.items ≡ true ∷ [] → chip_bad chip ≡ true ∷ [] }
     ensures erases { (chip : Modelled) → chip.erases.items ≡ 3 ∷ [] → chip_erases chip ≡ 3 ∷ [] }
     ensures powered { (chip : Modelled) → chip.powered ≡ true → (schedule_of chip).powered ≡ true }
@@ -434,14 +441,48 @@ pub fn programs()
         → AddsVersion f t 5 u → t 0 0 ≡ Version (sole 7) 5 None
         → t 1 0 ≢ Version (sole 7) 6 None }
     ensures numbered { (old new : Layer Modelled) (u : Update)
-        → ProgramsOnce chip_flash chip_bad old new u → chip_bad new.nand ≡ chip_bad old.nand
+        → ProgramsOnce chip_flash chip_shape chip_bad chip_tally old new u
+        → chip_bad new.nand ≡ chip_bad old.nand
         → number_of old ≡ 5 → HasSomewhere (chip_flash new.nand) u.extent 5 u.value }
     ensures once { (old new : Layer Modelled) (u : Update)
-        → ProgramsOnce chip_flash chip_bad old new u → chip_bad new.nand ≡ chip_bad old.nand
+        → ProgramsOnce chip_flash chip_shape chip_bad chip_tally old new u
+        → chip_bad new.nand ≡ chip_bad old.nand
         → IsErased (chip_flash old.nand) → chip_flash new.nand 0 0 ≡ Version (sole 7) 5 None
         → chip_flash new.nand 0 1 ≢ Version (sole 7) 6 None }
     ensures marked { (old new : Layer Modelled) (u : Update)
-        → chip_bad new.nand ≢ chip_bad old.nand → ProgramsOnce chip_flash chip_bad old new u }
+        → chip_bad new.nand ≢ chip_bad old.nand
+        → ProgramsOnce chip_flash chip_shape chip_bad chip_tally old new u }
+{}
+
+/// How commands are counted, and how many a call does.
+pub fn tallies()
+    ensures program { (at : Addr) (tally : Counts) → tally.programs ≡ 1
+        → tally_after (command.Program at 5) tally ≡ record tally { programs = 2 } }
+    ensures copy { (at : Addr) (tally : Counts) → tally.copies ≡ 2
+        → tally_after (command.Copy 7 at at) tally ≡ record tally { copies = 3 } }
+    ensures erase { (tally : Counts) → tally.erases ≡ 3
+        → tally_after (command.Erase 0) tally ≡ record tally { erases = 4 } }
+    ensures wraps { (tally : Counts) → tally.erases ≡ 2 ^ 64 - 1
+        → (tally_after (command.Erase 0) tally).erases ≡ 0 }
+    ensures none { (tally : Counts) → tally_after command.Refused tally ≡ tally }
+    ensures done { (before now : Counts) → before.erases ≡ 3
+        → CountsCommand {T = ℕ} (command.Erase 0) before now (Ok 0) → now.erases ≡ 4 }
+    ensures failed { (before now : Counts)
+        → CountsCommand {T = ℕ} (command.Erase 0) before now (Err fault.Failed) → now ≡ before }
+    ensures same { (tally : Counts)
+        → CountsCommand {T = ℕ} (command.Erase 0) tally tally (Err fault.Failed) }
+    ensures collects { TalliesOnce (record { programs = 1; copies = 2; erases = 3 })
+        (record { programs = 2; copies = 5; erases = 4 }) 4 }
+    ensures twice { (before now : Counts) → before.programs ≡ 1 → now.programs ≡ 3
+        → ¬ TalliesOnce before now 4 }
+    ensures copies { (before now : Counts) → before.copies ≡ 2 → now.copies ≡ 6
+        → ¬ TalliesOnce before now 4 }
+    ensures erases { (before now : Counts) → before.erases ≡ 3 → now.erases ≡ 5
+        → ¬ TalliesOnce before now 4 }
+    ensures updates { (old new : Layer Modelled) (u : Update)
+        → ProgramsOnce chip_flash chip_shape chip_bad chip_tally old new u
+        → chip_bad new.nand ≡ chip_bad old.nand
+        → (chip_tally old.nand).programs ≡ 5 → (chip_tally new.nand).programs ≡ 6 }
 {}
 
 /// How updates fail, and which causes are true.

@@ -21,7 +21,7 @@ ghost use Rattle.nand.specs.declared.flash.Fault.{Fault as Cause};
 ghost use Rattle.nand.specs.declared.flash.Fault.TheVariants as fault;
 
 use crate::failure::{Failure, OpenFailure};
-use crate::flash::{Nand, PowerGone, Reading};
+use crate::flash::{Nand, PowerGone, Reading, Tally};
 use crate::mounting::mount;
 use crate::numbers::chip_page;
 use durable::{Core, Extent};
@@ -81,6 +81,7 @@ impl<N: Nand> Durable<N> {
         ensures chip { IfOk result
             (λ layer. (N.flash layer.nand ≡ N.flash nand) × (N.shape layer.nand ≡ N.shape nand)
             × (N.bad layer.nand ≡ N.bad nand) × (layer_sectors layer ≡ sectors)) }
+        ensures tally { IfOk result (λ layer. N.tally layer.nand ≡ N.tally nand) }
         ensures capacity { OnOk result
             (HasCapacity sectors (good_before (N.bad nand) (N.shape nand).blocks)
             (N.shape nand).pages) }
@@ -152,6 +153,13 @@ impl<N: Nand> Durable<N> {
         self.reserve
     }
 
+    /// How many programs, copies and erases the chip has done since it counts, modulo 2^64.
+    pub fn tally(&self) -> Tally
+        ensures { result ≡ N.tally self.now.nand }
+    {
+        self.nand.tally()
+    }
+
     /// How many bytes a page has, and so a sector.
     pub fn page_bytes(&self) -> usize
         ensures { result ≡ (N.shape self.now.nand).page_bytes }
@@ -180,6 +188,7 @@ impl<N: Nand> Durable<N> {
         ensures cause { IfErr result (IsTrueCause N.faults self.old self.new) }
         ensures closed { IsClosed self.old → result ≡ Err failure.Closed }
         ensures flash { N.flash self.new.nand ≡ N.flash self.old.nand }
+        ensures tally { N.tally self.new.nand ≡ N.tally self.old.nand }
         ensures device { IsSameDevice N.shape N.bad self.old self.new }
     {
         if !self.mounted {
@@ -215,6 +224,7 @@ impl<N: Nand> Durable<N> {
             (update_of (sole sector) (Some bytes.now)) updates) }
         ensures cause { IfErr result (IsTrueCause N.faults self.old self.new) }
         ensures closed { IsClosed self.old → result ≡ Err failure.Closed }
+        ensures idle { IsClosed self.old → N.tally self.new.nand ≡ N.tally self.old.nand }
         ensures device { KeepsDevice N.shape N.bad N.faults self.old self.new }
         ensures marks { (updates : List Update) → IsOpenLayer N.flash N.shape N.bad self.old updates
             → OnOk result (HasMarkedFailed N.shape N.bad N.faults self.old self.new) }
@@ -224,7 +234,7 @@ impl<N: Nand> Durable<N> {
             → HasMarkedFailed N.shape N.bad N.faults self.old self.new }
         ensures once { (updates : List Update) → IsOpenLayer N.flash N.shape N.bad self.old updates
             → OnOk result
-            (ProgramsOnce N.flash N.bad self.old self.new
+            (ProgramsOnce N.flash N.shape N.bad N.tally self.old self.new
             (update_of (sole sector) (Some bytes.now))) }
         ensures overwrites { result ≢ Err failure.Written }
         ensures lost { result ≢ Err failure.Lost }
@@ -261,6 +271,9 @@ impl<N: Nand> Durable<N> {
             (update_of (sole sector) (Some bytes.now)) updates) }
         ensures cause { IfErr result (IsTrueCause N.faults self.old self.new) }
         ensures closed { IsClosed self.old → result ≡ Err failure.Closed }
+        ensures idle { IsClosed self.old → N.tally self.new.nand ≡ N.tally self.old.nand }
+        ensures refused { result ≡ Err failure.Written
+            → N.tally self.new.nand ≡ N.tally self.old.nand }
         ensures device { KeepsDevice N.shape N.bad N.faults self.old self.new }
         ensures marks { (updates : List Update) → IsOpenLayer N.flash N.shape N.bad self.old updates
             → OnOk result (HasMarkedFailed N.shape N.bad N.faults self.old self.new) }
@@ -270,7 +283,7 @@ impl<N: Nand> Durable<N> {
             → HasMarkedFailed N.shape N.bad N.faults self.old self.new }
         ensures once { (updates : List Update) → IsOpenLayer N.flash N.shape N.bad self.old updates
             → OnOk result
-            (ProgramsOnce N.flash N.bad self.old self.new
+            (ProgramsOnce N.flash N.shape N.bad N.tally self.old self.new
             (update_of (sole sector) (Some bytes.now))) }
     {
         let extent = Extent {
@@ -294,6 +307,7 @@ impl<N: Nand> Durable<N> {
             → OnOk result
             (IsOpenLayer N.flash N.shape N.bad self.new (update_of extent None ∷ updates)) }
         ensures nothing { result ≡ Ok was.Empty → N.flash self.new.nand ≡ N.flash self.old.nand }
+        ensures none { result ≡ Ok was.Empty → N.tally self.new.nand ≡ N.tally self.old.nand }
         ensures stored { IfOk result (WereStored (stored_value N.flash self.old) extent) }
 
         // It fails only if a sector is lost, if the chip fails, or if the numbers have run out.
@@ -303,6 +317,7 @@ impl<N: Nand> Durable<N> {
             (Fails N.flash N.shape N.bad self.old self.new (update_of extent None) updates) }
         ensures cause { IfErr result (IsTrueCause N.faults self.old self.new) }
         ensures closed { IsClosed self.old → result ≡ Err failure.Closed }
+        ensures idle { IsClosed self.old → N.tally self.new.nand ≡ N.tally self.old.nand }
         ensures device { KeepsDevice N.shape N.bad N.faults self.old self.new }
         ensures marks { (updates : List Update) → IsOpenLayer N.flash N.shape N.bad self.old updates
             → OnOk result (HasMarkedFailed N.shape N.bad N.faults self.old self.new) }
@@ -312,7 +327,7 @@ impl<N: Nand> Durable<N> {
             → HasMarkedFailed N.shape N.bad N.faults self.old self.new }
         ensures once { (updates : List Update) → IsOpenLayer N.flash N.shape N.bad self.old updates
             → result ≡ Ok was.Written
-            → ProgramsOnce N.flash N.bad self.old self.new (update_of extent None) }
+            → ProgramsOnce N.flash N.shape N.bad N.tally self.old self.new (update_of extent None) }
         ensures trims { result ≢ Err failure.Written }
     {
         match self.were(extent) {
@@ -334,6 +349,7 @@ impl<N: Nand> Durable<N> {
         ensures only { OnErr result (result ≡ Err failure.PowerGone) }
         ensures cause { IfErr result (IsTrueCause N.faults self.old self.new) }
         ensures flash { N.flash self.new.nand ≡ N.flash self.old.nand }
+        ensures tally { N.tally self.new.nand ≡ N.tally self.old.nand }
         ensures device { IsSameDevice N.shape N.bad self.old self.new }
     {
         match self.nand.sync() {
@@ -348,7 +364,7 @@ impl<N: Nand> Durable<N> {
         ensures gives { (updates : List Update) → IsOpenLayer N.flash N.shape N.bad self.old updates
             → IfOk result (λ had. had ≡ was_of (array_after updates sector)) }
         ensures tells { TellsStored (stored_value N.flash self.old) (sole sector) result }
-        ensures looks { Looks N.flash N.shape N.bad N.faults self.old self.new result }
+        ensures looks { Looks N.flash N.shape N.bad N.faults N.tally self.old self.new result }
         ensures only { (updates : List Update) → IsOpenLayer N.flash N.shape N.bad self.old updates
             → OnErr result (result ≡ Err failure.PowerGone) }
         ensures closed { IsClosed self.old → result ≡ Err failure.Closed }
@@ -371,7 +387,7 @@ impl<N: Nand> Durable<N> {
         ensures gives { (updates : List Update) → IsOpenLayer N.flash N.shape N.bad self.old updates
             → IfOk result (Were (array_after updates) extent) }
         ensures tells { TellsStored (stored_value N.flash self.old) extent result }
-        ensures looks { Looks N.flash N.shape N.bad N.faults self.old self.new result }
+        ensures looks { Looks N.flash N.shape N.bad N.faults N.tally self.old self.new result }
         ensures only { (updates : List Update) → IsOpenLayer N.flash N.shape N.bad self.old updates
             → OnErr result (result ≡ Err failure.PowerGone) }
         ensures closed { IsClosed self.old → result ≡ Err failure.Closed }

@@ -15,7 +15,7 @@ mod updating;
 pub use chip::{Chip, Cut};
 pub use durable::{Extent, MountFault};
 pub use failure::{Failure, OpenFailure};
-pub use flash::{Fault, Nand, PowerGone, Reading, Shape, Stamp};
+pub use flash::{Fault, Nand, PowerGone, Reading, Shape, Stamp, Tally};
 pub use geometry::{Got, PageAddr, Was};
 pub use history::Change;
 pub use layer::{Durable, NotOpened};

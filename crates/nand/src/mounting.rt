@@ -44,6 +44,7 @@ pub fn mount<N: Nand>(alloc: Global, nand: &mut N, sectors: u32) -> Result<Mount
     ensures flash { N.flash nand.new ≡ N.flash nand.old }
     ensures shape { N.shape nand.new ≡ N.shape nand.old }
     ensures bad { N.bad nand.new ≡ N.bad nand.old }
+    ensures tally { N.tally nand.new ≡ N.tally nand.old }
     ensures order { IfOk result
         (λ mounted. IsOrder mounted.numbers.items (N.bad nand.old) (N.shape nand.old).blocks) }
     ensures device { IfOk result
@@ -98,6 +99,7 @@ fn mount_in_order<N: Nand>(
     ensures flash { N.flash nand.new ≡ N.flash nand.old }
     ensures shape { N.shape nand.new ≡ N.shape nand.old }
     ensures bad { N.bad nand.new ≡ N.bad nand.old }
+    ensures tally { N.tally nand.new ≡ N.tally nand.old }
     ensures device { IfOk result
         (λ core. device_of core ≡ device_using used (N.shape nand.old) sectors) }
     ensures consistent { (updates : List Update)

@@ -62,6 +62,7 @@ pub fn order_of<N: Nand>(alloc: Global, nand: &mut N) -> Result<Order, OpenFailu
     ensures flash { N.flash nand.new ≡ N.flash nand.old }
     ensures shape { N.shape nand.new ≡ N.shape nand.old }
     ensures bad { N.bad nand.new ≡ N.bad nand.old }
+    ensures tally { N.tally nand.new ≡ N.tally nand.old }
     ensures faults { OnOk result ((cause : Cause)
         → N.faults nand.new cause ≡ N.faults nand.old cause) }
     ensures failures { N.faults nand.new fault.Failed ≡ N.faults nand.old fault.Failed }

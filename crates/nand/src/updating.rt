@@ -1,14 +1,15 @@
 //! How sectors get a new version, and how the layer goes on after a command that has failed.
 ghost use Rattle.std.specs.Prelude.{◌≡◌, ◌≢◌, ◌⊎◌, ◌<◌, ◌≤◌, ◌+◌, ◌^◌, ℕ, Bool, true, false, List, ◌∷◌, length, Ok, Err, OnOk, OnErr, IfErr};
+ghost use Rattle.durable.specs.Device.{device_of};
 ghost use Rattle.durable.specs.Failures.{Changes};
 ghost use Rattle.durable.specs.Updates.{LiesWithin, Update};
 ghost use Rattle.durable.specs.declared.command.Command.TheVariants as commands;
 ghost use Rattle.nand.specs.Attempts.{CanReplace, CountsStop, Leaves};
-ghost use Rattle.nand.specs.Nand.{CountsFault, Performs, value_with};
+ghost use Rattle.nand.specs.Nand.{CountsCommand, CountsFault, Performs, value_with};
 ghost use Rattle.nand.specs.Numbers.{IsOrder, good_before, is_marked, numbered};
 ghost use Rattle.nand.specs.Opened.{CanOpen, Fails, HasMarkedFailed, IsClosed, IsOpenLayer, IsSameDevice, IsTrueCause, KeepsDevice};
 ghost use Rattle.nand.specs.Opened.{layer_sectors, number_of, reserve_of, update_of};
-ghost use Rattle.nand.specs.Programs.{AddsVersion, ProgramsOnce};
+ghost use Rattle.nand.specs.Programs.{AddsVersion, ProgramsOnce, TalliesOnce};
 ghost use Rattle.nand.specs.declared.failure.Failure.TheVariants as failure;
 ghost use Rattle.nand.specs.declared.flash.Fault.{Fault as Cause};
 ghost use Rattle.nand.specs.declared.flash.Fault.TheVariants as fault;
@@ -57,6 +58,7 @@ fn perform<N: Nand>(
         (numbered numbers.now (N.flash nand.old)) (numbered numbers.now (N.flash nand.new)) }
     ensures shape { N.shape nand.new ≡ N.shape nand.old }
     ensures bad { N.bad nand.new ≡ N.bad nand.old }
+    ensures tally { CountsCommand command (N.tally nand.old) (N.tally nand.new) result }
     ensures cause { CountsFault (N.faults nand.old) (N.faults nand.new) result }
 {
     match command {
@@ -98,6 +100,7 @@ impl<N: Nand> Durable<N> {
             (update_of extent (value_with trimmed main.now)) updates) }
         ensures cause { IfErr result (IsTrueCause N.faults self.old self.new) }
         ensures closed { IsClosed self.old → result ≡ Err failure.Closed }
+        ensures idle { IsClosed self.old → N.tally self.new.nand ≡ N.tally self.old.nand }
         ensures device { KeepsDevice N.shape N.bad N.faults self.old self.new }
         ensures marks { (updates : List Update) → IsOpenLayer N.flash N.shape N.bad self.old updates
             → OnOk result (HasMarkedFailed N.shape N.bad N.faults self.old self.new) }
@@ -109,7 +112,7 @@ impl<N: Nand> Durable<N> {
         ensures lost { result ≢ Err failure.Lost }
         ensures once { (updates : List Update) → IsOpenLayer N.flash N.shape N.bad self.old updates
             → OnOk result
-            (ProgramsOnce N.flash N.bad self.old self.new
+            (ProgramsOnce N.flash N.shape N.bad N.tally self.old self.new
             (update_of extent (value_with trimmed main.now))) }
     {
         if !self.mounted {
@@ -165,6 +168,9 @@ impl<N: Nand> Durable<N> {
             (AddsVersion (N.flash self.old.nand) (N.flash self.new.nand)
             (number_of self.old) (update_of extent
             (value_with trimmed main.now))) }
+        ensures tally { OnOk result
+            (TalliesOnce (N.tally self.old.nand) (N.tally self.new.nand)
+            (device_of self.old.core).pages) }
     {
         loop {
             let command = self.core.next(extent);

@@ -24,6 +24,7 @@ loop-at-init g c = record {
   flash = refl;
   shape = refl;
   bad = refl;
+  tally = refl;
   faults = λ cause. refl;
   noted = c.in-Ok.ensures.notes (numbered c.args.numbers.now (g.N.Nand.flash c.args.nand.now));
 }
@@ -46,6 +47,7 @@ loop-at-preserved g c =
       flash = c.stamp.ensures.flash ∙ inv.flash;
       shape = c.stamp.ensures.shape ∙ inv.shape;
       bad = c.stamp.ensures.bad ∙ inv.bad;
+      tally = c.stamp.ensures.tally ∙ inv.tally;
       faults = λ cause. c.in-Ok-stamp.ensures.cause.0 cause ∙ inv.faults cause;
       noted = c.in_default-note.ensures.notes f inv.noted known;
     }

@@ -13,6 +13,7 @@ invariant-loop-at g l = record {
   flash : g.N.Nand.flash l.nand ≡ g.N.Nand.flash l.fn.nand;
   shape : g.N.Nand.shape l.nand ≡ g.N.Nand.shape l.fn.nand;
   bad : g.N.Nand.bad l.nand ≡ g.N.Nand.bad l.fn.nand;
+  tally : g.N.Nand.tally l.nand ≡ g.N.Nand.tally l.fn.nand;
   faults : (cause : Fault) → g.N.Nand.faults l.nand cause ≡ g.N.Nand.faults l.fn.nand cause;
   noted : HasNoted (numbered l.fn.numbers (g.N.Nand.flash l.fn.nand)) l.mount;
 }

@@ -8,6 +8,7 @@ loop-block-init g c = record {
   flash = refl;
   shape = refl;
   bad = refl;
+  tally = refl;
   faults = λ cause. refl;
   sized = c.in-Ok.ensures.all ∙ ap (λ (s : Shape). s.blocks) c.shape-blocks.ensures;
   good = refl;

@@ -8,6 +8,7 @@ invariant-loop-block g l = record {
   flash : g.N.Nand.flash l.nand ≡ g.N.Nand.flash l.fn.nand;
   shape : g.N.Nand.shape l.nand ≡ g.N.Nand.shape l.fn.nand;
   bad : g.N.Nand.bad l.nand ≡ g.N.Nand.bad l.fn.nand;
+  tally : g.N.Nand.tally l.nand ≡ g.N.Nand.tally l.fn.nand;
   faults : (cause : Fault) → g.N.Nand.faults l.nand cause ≡ g.N.Nand.faults l.fn.nand cause;
   sized : length l.numbers.items ≡ (g.N.Nand.shape l.fn.nand).blocks;
   good : l.good ≡ good_before (g.N.Nand.bad l.fn.nand) l.block;

@@ -1,18 +1,35 @@
 use Rattle.std.proofs.Common.{◌≡◌, ◌≢◌, ◌∙◌, ◌∷◌, ◌+◌, ◌^◌, ◌<◌, ⊎_elim, List, refl, sym, ap, subst, arith}
 use Rattle.std.proofs.lemmas.Bool.{cases_lt}
 use Rattle.durable.specs.declared.command.Command.TheVariants.{Refused}
-use Rattle.durable.specs.Device.{Device, NamesOn}
+use Rattle.durable.specs.Choice.{Spends, left}
+use Rattle.durable.specs.Device.{Device, NamesOn, device_of}
 use Rattle.durable.specs.Promise.{IsConsistent, IsRecoverable}
 use Rattle.durable.specs.Updates.{Update}
 use Rattle.durable.proofs.Promises.{completes_cut}
 use Rattle.nand.specs.Nand.{value_with}
 use Rattle.nand.specs.Numbers.{good_before, numbered}
 use Rattle.nand.specs.Opened.{IsOpenLayer, device_on, layer_sectors, reserve_of, update_of, used_blocks}
-use Rattle.nand.proofs.Programs.{adds_version, still_none}
+use Rattle.nand.proofs.Programs.{adds_version, none_new, none_spent, still_none, still_spent, tallies_once}
 use Rattle.nand.proofs.Replacing.{blank_after, blank_there, in_use, reserve_there, stopped}
 use Rattle.nand.proofs.Steps.{adds, keeps, moved, same_number, same_order}
 use Rattle.nand.proofs.layer.Durable.attempt.Goals as goal
 use Rattle.nand.proofs.layer.Durable.attempt.Goals.{in-Refused, in_default}
+
+pub loop-self-init : goal.loop-self-init
+loop-self-init g c = record {
+  mounted = refl;
+  shape = refl;
+  bad = refl;
+  device = refl;
+  number = refl;
+  faults = λ cause. refl;
+  spent = none_spent (g.N.Nand.tally c.args.self.now.nand) (device_of c.args.self.now.core).pages (left c.args.self.now.core);
+  reserve = refl;
+  order = λ updates h. h.order;
+  blank = λ updates h. h.blank;
+  had = λ updates h. none_new (g.N.Nand.flash c.args.self.now.nand) (g.N.Nand.flash c.args.self.now.nand) refl;
+  consistent = λ updates h. h.consistent;
+}
 
 pub returns-then-matches-clause-leaves : goal.returns-then-matches-clause-leaves
 returns-then-matches-clause-leaves g c updates h =
@@ -139,6 +156,15 @@ returns-then-is_last-clause-adds g c updates h =
     (g.N.Nand.shape mid).blocks order (inv.had updates h) c.next-command.result c.loop-self.self.core _ (update_of c.args.extent value)
     (sym c.is_last.ensures ∙ c.if-is_last.true) c.next-command.ensures.next inv.number completes
 
+pub returns-then-is_last-clause-tally : goal.returns-then-is_last-clause-tally
+returns-then-is_last-clause-tally g c =
+    let inv = c.loop-self.invariant in
+    let old = left c.loop-self.self.core in
+    let new = left c.done.new.self in
+    tallies_once (g.N.Nand.tally c.args.self.now.nand) (g.N.Nand.tally c.loop-self.self.nand) (g.N.Nand.tally c.perform.new.nand) c.next-command.result
+    (device_of c.args.self.now.core).pages old new (sym c.is_last.ensures ∙ c.if-is_last.true) inv.spent c.in_default-perform.ensures.tally.0
+    (subst (λ (d : Device). Spends c.next-command.result d.pages old new) inv.device c.done.ensures.spends)
+
 pub loop-self-preserved : goal.loop-self-preserved
 loop-self-preserved g c =
     let inv = c.loop-self.invariant in
@@ -161,6 +187,12 @@ loop-self-preserved g c =
       bad = c.perform.ensures.bad ∙ inv.bad;
       device = c.done.ensures.device ∙ inv.device;
       number = c.done.ensures.number ∙ (same_number c.next-command.result c.loop-self.self.core.next_number others ∙ inv.number);
+      spent =
+          let old = left c.loop-self.self.core in
+          let new = left c.done.new.self in
+          still_spent (g.N.Nand.tally was) (g.N.Nand.tally mid) (g.N.Nand.tally now) c.next-command.result (device_of c.args.self.now.core).pages old new
+          others inv.spent c.in_default-perform.ensures.tally.0
+          (subst (λ (d : Device). Spends c.next-command.result d.pages old new) inv.device c.done.ensures.spends);
       faults = λ cause. c.in_default-perform.ensures.cause.0 cause ∙ inv.faults cause;
       reserve = inv.reserve;
       order = λ updates h. same_order numbers (g.N.Nand.shape mid) (g.N.Nand.shape now) (g.N.Nand.bad mid) (g.N.Nand.bad now)

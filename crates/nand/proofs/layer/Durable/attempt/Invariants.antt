@@ -6,7 +6,7 @@ use Rattle.durable.specs.Updates.{Update}
 use Rattle.nand.specs.Numbers.{IsOrder, numbered}
 use Rattle.nand.specs.Opened.{IsOpenLayer, IsReserveBlank, layer_sectors, reserve_of}
 use Rattle.nand.specs.declared.flash.Fault.{Fault}
-use Rattle.nand.proofs.Programs.{HasNoNew}
+use Rattle.nand.proofs.Programs.{HasNoNew, HasSpent}
 use Rattle.nand.proofs.layer.Durable.attempt.Given as goal
 
 abbrev pub invariant-loop-self : goal.invariant-loop-self
@@ -17,6 +17,7 @@ invariant-loop-self g l = record {
   device : device_of l.self.core ≡ device_of l.fn.self.core;
   number : next_number_of l.self.core ≡ next_number_of l.fn.self.core;
   faults : (cause : Fault) → g.N.Nand.faults l.self.nand cause ≡ g.N.Nand.faults l.fn.self.nand cause;
+  spent : HasSpent (g.N.Nand.tally l.fn.self.nand) (g.N.Nand.tally l.self.nand) (device_of l.fn.self.core).pages (left l.self.core);
   reserve : reserve_of l.self ≡ reserve_of l.fn.self;
   order : (updates : List Update) → IsOpenLayer g.N.Nand.flash g.N.Nand.shape g.N.Nand.bad l.fn.self updates
       → IsOrder l.self.numbers.items (g.N.Nand.bad l.self.nand) (g.N.Nand.shape l.self.nand).blocks;

@@ -20,15 +20,17 @@ returns-in-Err-clause-fails g c updates is =
 
 pub returns-in-Write-clause-once : goal.returns-in-Write-clause-once
 returns-in-Write-clause-once g c updates is =
-    let once = λ (u : Update). OnOk c.write.result (ProgramsOnce g.N.Nand.flash g.N.Nand.bad c.args.self.now c.write.new.self u) in
+    let once = λ (u : Update).
+    OnOk c.write.result (ProgramsOnce g.N.Nand.flash g.N.Nand.shape g.N.Nand.bad g.N.Nand.tally c.args.self.now c.write.new.self u) in
     let bytes = ap (λ (main : List ℕ). update_of (sole c.in-Write.sector) (Some main)) c.deref.ensures.value in
     or_once _ _ c.write.result (subst once (bytes ∙ ap update_by (sym c.in-Write.is)) (c.write.ensures.once updates is))
 
 pub returns-in-Ok-clause-once : goal.returns-in-Ok-clause-once
 returns-in-Ok-clause-once g c updates is = by_answer c.in-Ok.field-0
-    (λ empty. c.in-Ok.ensures.nothing (ap Ok empty))
-    (λ written. subst (λ (x : Change). ProgramsOnce g.N.Nand.flash g.N.Nand.bad c.args.self.now c.trim.new.self (update_by x)) (sym c.in-Trim.is)
-    (c.in-Ok.ensures.once updates is (ap Ok written)))
+    (λ empty. (c.in-Ok.ensures.nothing (ap Ok empty), c.in-Ok.ensures.none (ap Ok empty)))
+    (λ written. subst
+    (λ (x : Change). ProgramsOnce g.N.Nand.flash g.N.Nand.shape g.N.Nand.bad g.N.Nand.tally c.args.self.now c.trim.new.self (update_by x))
+    (sym c.in-Trim.is) (c.in-Ok.ensures.once updates is (ap Ok written)))
 
 pub returns-in-Err-clause-memory : goal.returns-in-Err-clause-memory
 returns-in-Err-clause-memory g c updates is told =

@@ -1,4 +1,5 @@
 use Rattle.std.proofs.Common.{◌≡◌, ◌∙◌, inl, inr, ◌+◌, ◌-◌, ◌%◌, ◌^◌, ◌<◌, ◌≤◌, ℕ, Bool, List, Err, refl, sym, ap, subst, arith}
+use Rattle.durable.specs.Device.{Device}
 use Rattle.durable.specs.Updates.{Update}
 use Rattle.nand.specs.Attempts.{CountsStop, Leaves}
 use Rattle.nand.specs.Nand.{value_with}
@@ -9,7 +10,7 @@ use Rattle.nand.specs.declared.flash.Fault.TheVariants as fault
 use Rattle.nand.specs.declared.flash.Shape.{Shape}
 use Rattle.nand.specs.declared.updating.Stop.{Stop}
 use Rattle.nand.specs.declared.updating.Stop.TheVariants as stop
-use Rattle.nand.proofs.Programs.{adds_there}
+use Rattle.nand.proofs.Programs.{adds_there, tallies_there}
 use Rattle.nand.proofs.Replacing.{all_used, either, no_replacement, open_once, opens_once, settles, settles_made}
 use Rattle.nand.proofs.Steps.{fails_open, left_open, power_gone}
 use Rattle.nand.proofs.layer.Durable.update.Goals as goal
@@ -38,9 +39,12 @@ returns-in-Ok-clause-once g c updates h none =
     let holds = inv.holds updates h in
     let blocks = (g.N.Nand.shape c.args.self.now.nand).blocks in
     let zero : c.loop-self.failed ≡ 0 = omega (arith, holds.4, ap (λ (m : List Bool). good_before m blocks) (sym c.attempt.ensures.device.marks ∙ none)) in
-    let first = inv.first zero in
-    adds_there (g.N.Nand.flash c.args.self.now.nand) (g.N.Nand.flash c.loop-self.self.nand) (g.N.Nand.flash c.attempt.new.self.nand) _ _
-    (update_of c.args.extent (value_with c.args.trimmed c.args.main.now)) first.3 first.2 (c.in-Ok.ensures.adds holds.0 holds.2)
+    let first = inv.first zero in (
+      adds_there (g.N.Nand.flash c.args.self.now.nand) (g.N.Nand.flash c.loop-self.self.nand) (g.N.Nand.flash c.attempt.new.self.nand) _ _
+          (update_of c.args.extent (value_with c.args.trimmed c.args.main.now)) first.3 first.2 (c.in-Ok.ensures.adds holds.0 holds.2),
+      tallies_there (g.N.Nand.tally c.attempt.new.self.nand) first.4
+          (ap (λ (d : Device). d.pages) holds.2.device ∙ ap (λ (s : Shape). s.pages) inv.shape) c.in-Ok.ensures.tally,
+    )
 
 pub returns-then-failed-eq0-clause-fails : goal.returns-then-failed-eq0-clause-fails
 returns-then-failed-eq0-clause-fails g c updates h =

@@ -16,7 +16,7 @@ invariant-loop-self g l = record {
   failures : g.N.Nand.faults l.self.nand fault.Failed % 2 ^ 64 ≡ (g.N.Nand.faults l.fn.self.nand fault.Failed + l.failed) % 2 ^ 64;
   first : l.failed ≡ 0 → (g.N.Nand.faults l.self.nand fault.Failed ≡ g.N.Nand.faults l.fn.self.nand fault.Failed)
       × (g.N.Nand.bad l.self.nand ≡ g.N.Nand.bad l.fn.self.nand) × (number_of l.self ≡ number_of l.fn.self)
-      × (g.N.Nand.flash l.self.nand ≡ g.N.Nand.flash l.fn.self.nand);
+      × (g.N.Nand.flash l.self.nand ≡ g.N.Nand.flash l.fn.self.nand) × (g.N.Nand.tally l.self.nand ≡ g.N.Nand.tally l.fn.self.nand);
   holds : (updates : List Update) → IsOpenLayer g.N.Nand.flash g.N.Nand.shape g.N.Nand.bad l.fn.self updates
       → (after : List Update) × Makes false (update_of l.fn.extent (value_with l.fn.trimmed l.fn.main)) updates after
       × IsOpenLayer g.N.Nand.flash g.N.Nand.shape g.N.Nand.bad l.self after

@@ -14,5 +14,5 @@ invariant-loop-sector g l = record {
       → (k : ℕ) → l.fn.extent.first ≤ k → k < l.sector → was_of (array_after updates k) ≡ was.Empty;
   stored : (k : ℕ) → l.fn.extent.first ≤ k → k < l.sector → stored_value g.N.Nand.flash l.fn.self k ≡ Some None;
   closed : IsClosed l.fn.self → l.sector ≡ l.fn.extent.first;
-  looks : Looks g.N.Nand.flash g.N.Nand.shape g.N.Nand.bad g.N.Nand.faults l.fn.self l.self (Ok was.Empty);
+  looks : Looks g.N.Nand.flash g.N.Nand.shape g.N.Nand.bad g.N.Nand.faults g.N.Nand.tally l.fn.self l.self (Ok was.Empty);
 }
