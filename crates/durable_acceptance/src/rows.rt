@@ -67,6 +67,33 @@ fn each_cut_of_a_write_that_collects(rt: HostRuntime) -> Result<(), Fail> {
     Ok(())
 }
 
+// The same writes, and a refused one: what the sector held, and how many programs, copies and erases were counted after the call.
+const TALLIES: [(Call, Option<u8>, (u64, u64, u64)); 6] = [
+    (Call::Write(0, 1), None, (1, 0, 1)),
+    (Call::Write(1, 2), None, (2, 0, 1)),
+    (Call::Write(2, 3), None, (3, 0, 2)),
+    (Call::Write(0, 4), Some(1), (4, 0, 2)),
+    (Call::Write(1, 5), Some(2), (5, 1, 3)),
+    (Call::WriteNew(1, 6), Some(5), (5, 1, 3)),
+];
+
+#[test]
+fn each_write_counts_its_commands(rt: HostRuntime) -> Result<(), Fail> {
+    let Some(mut layer) = open(&rt, chip(rt.alloc(), 3, 2)?, 3) else {
+        return Ok(());
+    };
+    for (call, held, counted) in TALLIES {
+        expect(&rt, make(&rt, &mut layer, call, held).is_ok(), &call);
+        let tally = layer.tally();
+        expect(
+            &rt,
+            (tally.programs, tally.copies, tally.erases) == counted,
+            &(call, tally),
+        );
+    }
+    Ok(())
+}
+
 // A program that fails is a power cut: it leaves a torn page, and the chip is opened again.
 #[test]
 fn a_command_that_fails_loses_nothing(rt: HostRuntime) -> Result<(), Fail> {

@@ -20,7 +20,7 @@ pub record AddsVersion (f t : Flash) (number : ℕ) (update : Update) : Type 0 w
   pub put : t block page ≡ Version update.extent number update.value
   pub others : (b p : ℕ) (e : Extent) (m : ℕ) (v : Sector) → t b p ≡ Version e m v → ((b ≡ block) × (p ≡ page)) ⊎ HasSomewhere f e m v
 
--- one program was counted, at most one erase, and at most as many copies as a block has pages but one; copies and erases modulo 2^64
+-- one program was counted, at most one erase, and at most as many copies as a block has pages but one, modulo 2^64
 pub record TalliesOnce (before now : Tally) (pages : ℕ) : Type 0 where
   pub copies : ℕ
   pub erases : ℕ

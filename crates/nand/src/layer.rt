@@ -81,7 +81,8 @@ impl<N: Nand> Durable<N> {
         ensures chip { IfOk result
             (λ layer. (N.flash layer.nand ≡ N.flash nand) × (N.shape layer.nand ≡ N.shape nand)
             × (N.bad layer.nand ≡ N.bad nand) × (layer_sectors layer ≡ sectors)) }
-        ensures tally { IfOk result (λ layer. N.tally layer.nand ≡ N.tally nand) }
+        ensures tally { IfOk result (λ layer. N.tally layer.nand ≡ N.tally nand)
+            × IfErr result (λ refused. N.tally refused.nand ≡ N.tally nand) }
         ensures capacity { OnOk result
             (HasCapacity sectors (good_before (N.bad nand) (N.shape nand).blocks)
             (N.shape nand).pages) }

@@ -53,12 +53,12 @@ fn perform<N: Nand>(
     main: &[u8],
 ) -> Result<(), Fault>
     requires { trimmed ≡ false → length main.now ≡ (N.shape nand.old).page_bytes }
+    ensures tally { CountsCommand command (N.tally nand.old) (N.tally nand.new) result }
     ensures does { (bad : List Bool) (blocks : ℕ) → IsOrder numbers.now bad blocks
         → Performs command extent (value_with trimmed main.now) result
         (numbered numbers.now (N.flash nand.old)) (numbered numbers.now (N.flash nand.new)) }
     ensures shape { N.shape nand.new ≡ N.shape nand.old }
     ensures bad { N.bad nand.new ≡ N.bad nand.old }
-    ensures tally { CountsCommand command (N.tally nand.old) (N.tally nand.new) result }
     ensures cause { CountsFault (N.faults nand.old) (N.faults nand.new) result }
 {
     match command {
