@@ -3,7 +3,7 @@ use Rattle.geometry.specs.{Geometry.page_bytes_of, Geometry.words_of, Limits.Num
 use Rattle.shared_acceptance.proofs.many_threads.hosts_find_what_was_written_beside_brooms.Goals as goal
 
 pub play-passes-requires : goal.play-passes-requires
-play-passes-requires g c lifetimes =
+play-passes-requires g c =
     let same = c.in_ok-volume.ensures.geometry in
     let given = c.in_ok-geometry.ensures.given in
     let told = c.in_ok-volume.ensures in (
