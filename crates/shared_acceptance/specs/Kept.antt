@@ -1,5 +1,5 @@
 -- The one device of a row or a schedule, and what is held there; a seat of a broom at rest.
-use Rattle.std.specs.Prelude.{◌≡◌, ℕ, Option, List, [], Some, All, length}
+use Rattle.std.specs.Prelude.{◌≡◌, ℕ, Option, List, [], Some}
 use Rattle.std.proofs.Props.{props}
 use Rattle.geometry.specs.Geometry.{page_bytes_of, words_of}
 use Rattle.flash_rule.specs.declared.facts.Pin.{Pin}
@@ -7,14 +7,10 @@ use Rattle.flash_rule.specs.declared.facts.Pin.TheVariants as pin
 use Rattle.flash_table.specs.declared.flash.Flash.{Flash}
 use Rattle.flash_table.specs.Flash.{view_of, geometry_of}
 use Rattle.flash_table.specs.declared.broom_seat.BroomSeat.{BroomSeat}
-use Rattle.flash_table.specs.declared.pass.Pass.{Pass}
-use Rattle.broom.specs.declared.broom.Broom.{Broom}
 use Rattle.broom.specs.Once.{number-prop, filed-prop}
 use Rattle.broom.specs.Ready.{IsRested}
-use Rattle.host.specs.Ready.{IsReady}
 use Rattle.host.specs.declared.holding.Held.{Held}
 use Rattle.host.specs.Holding.{Holds, pass_of}
-use Rattle.volume.specs.Brooms.{IsBroomReady}
 use Rattle.volume.specs.declared.volume.Volume.{Volume}
 use Rattle.volume.specs.Volume.{flash_of}
 
@@ -33,10 +29,6 @@ held_value h = value_in (view_of (pass_of h)).pin
 abbrev pub IsHome : Option Volume → Volume → Type 0
 IsHome home v =
     (home ≡ Some v) × (page_bytes_of (geometry_of (flash_of v)) ≡ 32) × (words_of (geometry_of (flash_of v)) ≡ 4)
-
--- this is the device, with these passes and two brooms
-abbrev pub HasActors : Option Volume → Volume → List Pass → List Broom → Type 0
-HasActors home v passes brooms = IsHome home v × All (IsReady (flash_of v)) passes × All (IsBroomReady v) brooms × (length brooms ≡ 2)
 
 -- that this value is held is a fact with at most one proof, so that a struct can keep it together with its hold
 pub Holds-prop : (f : Flash) (h : Held) (value : List ℕ) → IsProp (Holds f h value)

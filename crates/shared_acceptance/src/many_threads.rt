@@ -1,8 +1,9 @@
 //! Three hosts and two brooms at the same time, each in its own thread.
-ghost use Rattle.std.specs.Prelude.{◌<◌, All};
+ghost use Rattle.std.specs.Prelude.{◌≡◌, ◌<◌, All, length};
 ghost use Rattle.host.specs.Ready.{IsReady};
+ghost use Rattle.volume.specs.Brooms.{IsBroomReady};
 ghost use Rattle.volume.specs.Volume.{flash_of};
-ghost use Rattle.shared_acceptance.specs.Kept.{HasActors, IsHome};
+ghost use Rattle.shared_acceptance.specs.Kept.{IsHome};
 
 use crate::actor_setup::{fold, give_back, next_broom, next_host};
 use crate::actors::{Actor, Home, call_at};
@@ -184,7 +185,10 @@ fn play<'x, R: Threads + Wait + Sync, H: Home + Send + Sync>(
     brooms: Vec<Broom>,
     rounds: u64,
 ) -> (Vec<Pass>, Ended)
-    requires { HasActors H.home volume.now passes.items brooms.items }
+    requires home { IsHome H.home volume.now }
+    requires ready { All (IsReady (flash_of volume.now)) passes.items }
+    requires brooms { All (IsBroomReady volume.now) brooms.items }
+    requires two { length brooms.items ≡ 2 }
     ensures { All (IsReady (flash_of volume.now)) result.0.items }
 {
     let (mut passes, mut brooms) = (passes, brooms);

@@ -1,8 +1,9 @@
 //! Schedules that are drawn from seeds.
-ghost use Rattle.std.specs.Prelude.{All};
+ghost use Rattle.std.specs.Prelude.{◌≡◌, All, length};
 ghost use Rattle.host.specs.Ready.{IsReady};
+ghost use Rattle.volume.specs.Brooms.{IsBroomReady};
 ghost use Rattle.volume.specs.Volume.{flash_of};
-ghost use Rattle.shared_acceptance.specs.Kept.{HasActors};
+ghost use Rattle.shared_acceptance.specs.Kept.{IsHome};
 
 use crate::actor_setup::{end_all, next_broom, next_host};
 use crate::actors::Home;
@@ -38,7 +39,10 @@ fn play<'x, R: Wait + Abort + AllocGlobal, H: Home>(
     brooms: Vec<Broom>,
     oracle: Oracle,
 ) -> (Vec<Pass>, Oracle)
-    requires { HasActors H.home volume.now passes.items brooms.items }
+    requires home { IsHome H.home volume.now }
+    requires ready { All (IsReady (flash_of volume.now)) passes.items }
+    requires brooms { All (IsBroomReady volume.now) brooms.items }
+    requires two { length brooms.items ≡ 2 }
     ensures { All (IsReady (flash_of volume.now)) result.0.items }
 {
     let (mut passes, mut brooms) = (passes, brooms);
