@@ -14,11 +14,6 @@ from gate import tree
 
 # The beginning of a line that holds only a comment, by the suffix of the file.
 COMMENTS = {".rt": "//", ".antt": "--"}
-# What no layout changes: a string, a character, and a comment behind code with its end of line.
-WHOLE = re.compile(r"""(b?r?"(?:[^"\\]|\\.)*"|b?'(?:[^'\\]|\\.)'|//[^\n]*\n)""", re.DOTALL)
-# What changes where `rt fmt` lays a line out as several, by the suffix: white space, what it puts at the ends of brackets, and imports.
-LAID_OUT = {".rt": re.compile(r"(?<=[(\[{])\s+|\s+(?=[)\]}])"), ".antt": re.compile(r"(?<=[(\[{])\s+(?:\|\s+)?|[,;]?\s+(?=[)\]}])")}
-IMPORTS = re.compile(r"(?<!pub )(?<!ghost )((?:pub |ghost )?use [^\s{}]+\.\{)([^{}]*)\};?\s+\1")
 
 
 def version():
@@ -26,41 +21,12 @@ def version():
     return subprocess.run(["rt", "version"], check=True, capture_output=True, text=True).stdout.strip()
 
 
-def unbroken(text, laid_out):
-    """A text as if no line were broken: each run of white space as one space, and none at the inner ends of brackets."""
-    parts = WHOLE.split(text)
-    parts[::2] = (re.sub(r"\s+", " ", laid_out.sub("", it)) for it in parts[::2])
-    return "".join(parts).strip()
-
-
-def items(lines):
-    """The items of an .antt file, as their texts, and the number of blocks that are open around each."""
-    blocks, found, opens = [0], [], False
-    for line in lines:
-        deep = len(line) - len(line.lstrip())
-        if opens and deep > blocks[-1]:
-            blocks.append(deep)
-        while deep < blocks[-1]:
-            blocks.pop()
-        if found and (deep > blocks[-1] or line[deep] in ")]}"):
-            found[-1][0].append(line)
-        else:
-            found.append(([line], len(blocks)))
-        opens = line.split()[-1] == "where"
-    return [("\n".join(its), inside) for its, inside in found]
-
-
 def meaning(path):
-    """The text of a file without what no check reads: lines that hold only a comment, the breaks of lines, and how imports of one module
-    are divided."""
+    """The text of a file without empty lines and lines that hold only a comment, which no check reads."""
     if path.suffix not in COMMENTS:
         return path.read_bytes()
-    lines = [it for it in path.read_text().splitlines() if it.strip() and not it.lstrip().startswith(COMMENTS[path.suffix])]
-    parts = items(lines) if path.suffix == ".antt" else [("\n".join([*lines, ""]), 0)]
-    text = "".join(f"{' ' * inside}{unbroken(it, LAID_OUT[path.suffix])}\n" for it, inside in parts)
-    while text != (joined := IMPORTS.sub(r"\1\2, ", text)):
-        text = joined
-    return text.encode()
+    lines = (it for it in path.read_text().splitlines() if it.strip() and not it.lstrip().startswith(COMMENTS[path.suffix]))
+    return "\n".join(lines).encode()
 
 
 def files_of(name, *parts):

@@ -19,43 +19,6 @@ for edit in crates/*/must-fail/*.edit; do
   echo "rt: must-fail ${name%%/*}/$(basename "$edit"): $said"
 done
 """
-LONG = """use low.{one, two}
-pub use low.{three}
-word : (x : N) → N
-word x = elim x [zero ↦ "a  b" | suc y ↦ (f x, y)]
-module _ (x : N) where
-  inner : N
-  inner = record { one = x; two = x }
-outer : N
-"""
-BROKEN = """use low.{one}
-use low.{
-  two,
-}
-pub use low.{three}
-
-word :
-    (x : N)
-    → N
-word x =
-    elim x [
-      | zero ↦ "a  b"
-      | suc y ↦ (
-        f x,
-        y,
-      )
-    ]
-module _
-    (x : N) where
-  inner : N
-  inner =
-      record {
-        one = x;
-        two = x;
-      }
-outer : N
-"""
-CODE = "fn low() {\n    f(x); // a\n    g((x,), ' ', \"  \");\n    f(x);\n}\n"
 OLD, NEW = "rattle-kit-1a logic 01", "rattle-kit-1b logic 01"
 
 
@@ -129,32 +92,6 @@ class Refused(Small):
         self.assertEqual(self.record(), before)
         self.write("crates/low/src/lib.rt", "mod changed; // low\n")
         self.assertEqual(self.gate()[1], ["low", "uses"])
-
-    def test_a_broken_line_is_no_changed_text(self):
-        self.write("crates/low/specs/Low.antt", LONG)
-        self.write("crates/low/src/lib.rt", "fn low() -> u32 {\n    1\n}\n")
-        self.run_main(wrong_bodies, "low", "high")
-        before = self.record()
-        self.write("crates/low/specs/Low.antt", BROKEN)
-        self.write("crates/low/src/lib.rt", "fn low()\n    -> u32\n{\n    1\n}\n\n")
-        self.assertEqual(self.gate()[1], ["uses"])
-        self.assertEqual(self.record(), before)
-
-    def test_what_a_line_means_is_text(self):
-        self.write("crates/low/specs/Low.antt", LONG)
-        for old, new in (("  inner", "inner"), ("f x, y", "f x y"), ('"a  b"', '"a b"'), ("{one, two}", "{one}"), ("pub use", "use")):
-            self.assertIn(old, LONG)
-            self.run_main(wrong_bodies, "low")
-            before = self.record()
-            self.write("crates/low/specs/Low.antt", LONG.replace(old, new))
-            self.assertEqual(self.gate()[1], ["high", "low", "uses"])
-            self.assertNotEqual(self.record(), before)
-            self.write("crates/low/specs/Low.antt", LONG)
-        for old, new in (("f(x);", "f(x)"), ("(x,)", "(x)"), ('"  "', '" "'), ("// a\n", "// a ")):
-            self.write("crates/low/src/lib.rt", CODE)
-            self.run_main(wrong_bodies, "low", "high")
-            self.write("crates/low/src/lib.rt", CODE.replace(old, new))
-            self.assertEqual(self.gate()[1], ["low", "uses"], old)
 
     def test_an_edit_has_to_fit_its_file(self):
         self.edit("low", "low_errs", ("// low", "// high"))
