@@ -1,15 +1,17 @@
 -- What a list of calls leaves.
-use Rattle.std.proofs.Common.{◌≡◌, ◌⊎◌, ◌∙◌, inl, inr, ◌+◌, ◌<◌, ℕ, zero, suc, Bool, false, List, [], ◌∷◌, ◌++◌, length, Result, Ok, Err, IfOk, IfErr}
+use Rattle.std.proofs.Common.{◌≡◌, ◌⊎◌, ◌∙◌, inl, inr, ◌+◌, ◌<◌, All, ℕ, zero, suc, Bool, false, List, [], ◌∷◌, ◌++◌, length, Result, Ok, Err, IfOk, IfErr}
 use Rattle.std.proofs.Common.{get_or, set, refl, sym, ap, subst, arith}
+use Rattle.std.proofs.lemmas.List.Elements.{All-append, All-cons, All-nil}
 use Rattle.durable.specs.Flash.{Flash}
 use Rattle.durable.specs.Updates.{Makes, Update}
 use Rattle.nand.specs.declared.failure.Failure.{Failure}
+use Rattle.nand.specs.declared.flash.Fault.{Fault}
 use Rattle.nand.specs.declared.flash.Shape.{Shape}
 use Rattle.nand.specs.declared.history.Change.{Change}
 use Rattle.nand.specs.declared.layer.Durable.{Durable}
 use Rattle.nand.specs.declared.layer.NotOpened.{NotOpened}
 use Rattle.nand.specs.Histories.{Leads, update_by}
-use Rattle.nand.specs.Opened.{CanOpen, Fails, IsOpenLayer, IsOpenable, layer_sectors}
+use Rattle.nand.specs.Opened.{CanOpen, Fails, HasFailed, IsOpenLayer, IsOpenable, layer_sectors}
 
 -- a chip that holds the same can be opened too
 pub same_chip : {N : Type 0} (flash : N → Flash) (shape : N → Shape) (bad : N → List Bool) (nand back : N) (sectors : ℕ) (updates : List Update)
@@ -86,6 +88,17 @@ leads_more calls outcomes pushed n call acknowledged before middle after leads p
     subst (λ (os : List Bool). Leads calls os before after)
     (sym (ap (λ (os : List Bool). set os n acknowledged) put ∙ set_last outcomes false acknowledged n same))
     (one_more calls outcomes n call acknowledged before middle after leads same lt is follows)
+
+-- what a call that is told as not acknowledged shows
+abbrev pub Explains : {N : Type 0} → (N → Flash) → (N → Shape) → (N → List Bool) → (N → Fault → ℕ) → Bool → Type 0
+Explains flash shape bad faults told = told ≡ false → HasFailed flash shape bad faults
+
+-- one outcome more was put behind the others, and then set
+pub all_more : (P : Bool → Type 0) (outcomes pushed : List Bool) (n : ℕ) (acknowledged : Bool) → All P outcomes → P acknowledged
+    → pushed ≡ outcomes ++ false ∷ [] → length outcomes ≡ n → All P (set pushed n acknowledged)
+all_more P outcomes pushed n acknowledged all last put same =
+    subst (All P) (sym (ap (λ (os : List Bool). set os n acknowledged) put ∙ set_last outcomes false acknowledged n same))
+    (All-append P outcomes (acknowledged ∷ []) all (All-cons P acknowledged [] last (All-nil P)))
 
 longer : (outcomes : List Bool) (last : Bool) → length (outcomes ++ last ∷ []) ≡ length outcomes + 1
 longer [] last = refl

@@ -13,7 +13,7 @@ use Rattle.durable.specs.declared.extent.Extent.{Extent}
 use Rattle.durable.proofs.Extents.{cases_covered, covered, not_covered}
 use Rattle.nand.specs.declared.failure.Failure.{Failure}
 use Rattle.nand.specs.declared.failure.Failure.TheVariants as failure
-use Rattle.nand.specs.Stored.{ReadsStored, StopsLook, StopsUpdate, TellsStored, WereStored, stored_value, told_of, value_at, value_for}
+use Rattle.nand.specs.Stored.{AreEmptyBefore, ReadsStored, StopsLook, StopsUpdate, TellsStored, WereStored, stored_value, told_of, value_at, value_for}
 use Rattle.nand.specs.Nand.{HasBytes, ReadsMain}
 use Rattle.nand.specs.Numbers.{chip_page, numbered}
 use Rattle.nand.specs.declared.flash.Shape.{Shape}
@@ -79,16 +79,20 @@ empty_there (Some None) told = refl
 empty_there (Some (Some bytes)) told = absurd (cc told)
 
 -- what is told of one sector
+none_before : (has : ℕ → Option Sector) (s : ℕ) → AreEmptyBefore has (sole s) s
+none_before has s j le lt = absurd (omega (arith, le, lt))
+
 tells_as : (has : ℕ → Option Sector) (s : ℕ) (value : Option Sector) → has s ≡ value → TellsStored has (sole s) (told_of value)
-tells_as has s None is = (s, (omega arith, omega arith), is)
+tells_as has s None is = (s, (omega arith, omega arith), none_before has s, is)
 tells_as has s (Some None) is = λ k on. subst (λ (j : ℕ). has j ≡ Some None) (omega (arith, on.0, on.1)) is
-tells_as has s (Some (Some bytes)) is = (s, (omega arith, omega arith), bytes, is)
+tells_as has s (Some (Some bytes)) is = (s, (omega arith, omega arith), none_before has s, bytes, is)
 
 pub tells : (has : ℕ → Option Sector) (s : ℕ) (result : Result Was Failure) → result ≡ told_of (has s) → TellsStored has (sole s) result
 tells has s result is = subst (TellsStored has (sole s)) (sym is) (tells_as has s (has s) refl)
 
 -- one sector of an extent
-module _ (has before : ℕ → Option Sector) (e : Extent) (s : ℕ) (on : Covers e s) (same : (k : ℕ) → has k ≡ before k) where
+module _ (has before : ℕ → Option Sector) (e : Extent) (s : ℕ) (on : Covers e s) (same : (k : ℕ) → has k ≡ before k)
+    (first : AreEmptyBefore before e s) where
   there : (value : Option Sector) (k : ℕ) → Covers (sole s) k → has k ≡ value → before s ≡ value
   there value k at is = sym (same s) ∙ subst (λ (j : ℕ). has j ≡ value) (omega (arith, at.0, at.1)) is
 
@@ -96,10 +100,10 @@ module _ (has before : ℕ → Option Sector) (e : Extent) (s : ℕ) (on : Cover
   empty_within empty = sym (same s) ∙ empty s (omega arith, omega arith)
 
   pub written_within : WereStored has (sole s) was.Written → WereStored before e was.Written
-  written_within is = (s, on, is.2, there (Some (Some is.2)) is.0 is.1 is.3)
+  written_within is = (s, on, first, is.3, there (Some (Some is.3)) is.0 is.1 is.4)
 
   pub stops_within : (cause : Failure) → StopsLook has (sole s) cause → StopsLook before e cause
-  stops_within failure.Lost is = (s, on, there None is.0 is.1 is.2)
+  stops_within failure.Lost is = (s, on, first, there None is.0 is.1 is.3)
   stops_within failure.PowerGone is = tt
   stops_within failure.Closed is = tt
   stops_within failure.Failed is = is

@@ -54,6 +54,7 @@ pub record HasSame (old new : Chip) : Type 0 where
   pub failures : new.failures ≡ old.failures
   pub cuts : new.cuts ≡ old.cuts
   pub tally : chip_tally new ≡ chip_tally old
+  pub syncs : chip_syncs new ≡ chip_syncs old
 
 -- a page is filled, or the command left nothing of it, a torn page, or all of it
 abbrev pub Sets : {T : Type 0} → Result T Fault → Flash → Flash → PageAddr → PageContents → Type 0

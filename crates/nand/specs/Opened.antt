@@ -104,6 +104,11 @@ HasMarkedFailed {N} shape bad faults old new =
     let now = good_before (bad new.nand) (shape old.nand).blocks in
     faults new.nand fault.Failed % 2 ^ 64 ≡ (faults old.nand fault.Failed + (was - now)) % 2 ^ 64
 
+-- the same of a layer that was open
+abbrev pub MarksFailed : {N : Type 0} → (N → Flash) → (N → Shape) → (N → List Bool) → (N → Fault → ℕ) → Durable N → Durable N → Type 0
+MarksFailed flash shape bad faults old new =
+    (updates : List Update) → IsOpenLayer flash shape bad old updates → HasMarkedFailed shape bad faults old new
+
 -- the call is refused, and the array stays as it was
 abbrev pub IsRefusal : Failure → Type 0
 IsRefusal failure.PowerGone = ⊥
@@ -137,6 +142,17 @@ IsTrueCause {N} faults old new failure.Closed = IsClosed old
 IsTrueCause {N} faults old new failure.NoNumber = 2 ^ 64 ≤ number_of old + 1
 IsTrueCause {N} faults old new failure.Written = Unit {0}
 IsTrueCause {N} faults old new failure.Lost = Unit {0}
+
+-- a call of an open layer has failed for a true cause: the power went, a command failed, or the numbers had run out
+pub record HasFailed {N : Type 0} (flash : N → Flash) (shape : N → Shape) (bad : N → List Bool) (faults : N → Fault → ℕ) : Type 0 where
+  pub old : Durable N
+  pub new : Durable N
+  pub updates : List Update
+  pub cause : Failure
+  pub holds : IsOpenLayer flash shape bad old updates
+  pub true : IsTrueCause faults old new cause
+  pub written : cause ≢ failure.Written
+  pub lost : cause ≢ failure.Lost
 
 -- what a read returns: that the sector is empty, or its bytes
 abbrev pub ReadsSector : Sector → Got → List ℕ → Type 0

@@ -1,5 +1,5 @@
 -- What a layer has of its sectors, whatever its flash holds, and what a call that looks at them tells of it.
-use Rattle.std.specs.Prelude.{◌≡◌, ℕ, List, Option, None, Some, Result, Ok, Err, if◌then◌else◌}
+use Rattle.std.specs.Prelude.{◌≡◌, ◌<◌, ◌≤◌, ℕ, List, Option, None, Some, Result, Ok, Err, if◌then◌else◌}
 use Rattle.geometry.specs.Sectors.{Sector, was_of}
 use Rattle.geometry.specs.declared.answer.Got.{Got}
 use Rattle.geometry.specs.declared.answer.Was.{Was}
@@ -35,14 +35,19 @@ abbrev pub ReadsStored : Option Sector → Got → List ℕ → Type 0
 ReadsStored None found out = ⊥
 ReadsStored (Some value) found out = ReadsSector value found out
 
--- all sectors of an extent are there and empty, or one of them is there and written
+-- the sectors of an extent before this one are there and empty
+abbrev pub AreEmptyBefore : (ℕ → Option Sector) → Extent → ℕ → Type 0
+AreEmptyBefore has extent k = (j : ℕ) → extent.first ≤ j → j < k → has j ≡ Some None
+
+-- all sectors of an extent are there and empty, or the first that isn't so is there and written
 abbrev pub WereStored : (ℕ → Option Sector) → Extent → Was → Type 0
 WereStored has extent was.Empty = (k : ℕ) → Covers extent k → has k ≡ Some None
-WereStored has extent was.Written = (k : ℕ) × Covers extent k × (bytes : List ℕ) × (has k ≡ Some (Some bytes))
+WereStored has extent was.Written =
+    (k : ℕ) × Covers extent k × AreEmptyBefore has extent k × (bytes : List ℕ) × (has k ≡ Some (Some bytes))
 
--- a sector of an extent is lost
+-- the first sector of an extent that isn't there and empty is lost
 abbrev pub HasLostSector : (ℕ → Option Sector) → Extent → Type 0
-HasLostSector has extent = (k : ℕ) × Covers extent k × (has k ≡ None)
+HasLostSector has extent = (k : ℕ) × Covers extent k × AreEmptyBefore has extent k × (has k ≡ None)
 
 -- a look at the sectors of an extent fails only where one is lost, and if the power is gone or the layer closed
 abbrev pub StopsLook : (ℕ → Option Sector) → Extent → Failure → Type 0

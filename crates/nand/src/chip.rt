@@ -153,6 +153,7 @@ impl Chip {
         ensures shape { chip_shape self.new ≡ chip_shape self.old }
         ensures bad { chip_bad self.new ≡ chip_bad self.old }
         ensures tally { chip_tally self.new ≡ chip_tally self.old }
+        ensures syncs { chip_syncs self.new ≡ chip_syncs self.old }
         ensures schedule { schedule_of self.new ≡ schedule_of self.old }
     {
         put(&mut self.blocks, at, Page::Torn);
@@ -241,6 +242,7 @@ impl Chip {
         ensures shape { chip_shape self.new ≡ chip_shape self.old }
         ensures cause { CountsFault (chip_faults self.old) (chip_faults self.new) result }
         ensures tally { chip_tally self.new ≡ chip_tally self.old }
+        ensures syncs { chip_syncs self.new ≡ chip_syncs self.old }
     {
         let next = self.is_next(at);
         match self.fate() {
@@ -279,6 +281,7 @@ impl Chip {
         ensures shape { chip_shape self.new ≡ chip_shape self.old }
         ensures bad { chip_bad self.new ≡ chip_bad self.old }
         ensures tally { chip_tally self.new ≡ chip_tally self.old }
+        ensures syncs { chip_syncs self.new ≡ chip_syncs self.old }
     {
         self.failures = self.failures.wrapping_add(1);
         Err(Fault::Failed)
@@ -293,6 +296,7 @@ impl Chip {
         ensures shape { chip_shape self.new ≡ chip_shape self.old }
         ensures bad { chip_bad self.new ≡ chip_bad self.old }
         ensures tally { chip_tally self.new ≡ chip_tally self.old }
+        ensures syncs { chip_syncs self.new ≡ chip_syncs self.old }
     {
         self.cuts = self.cuts.wrapping_add(1);
         Err(Fault::PowerGone)
@@ -305,8 +309,8 @@ impl Chip {
         ensures flash { chip_flash self.new ≡ chip_flash self.old }
         ensures shape { chip_shape self.new ≡ chip_shape self.old }
         ensures bad { chip_bad self.new ≡ chip_bad self.old }
-        ensures syncs { chip_syncs self.new ≡ chip_syncs self.old }
         ensures tally { chip_tally self.new ≡ chip_tally self.old }
+        ensures syncs { chip_syncs self.new ≡ chip_syncs self.old }
     {
         if self.powered {
             return Ok(());
@@ -389,6 +393,7 @@ impl Nand for Chip {
             (chip_flash self.old) (chip_flash self.new) }
         ensures shape { chip_shape self.new ≡ chip_shape self.old }
         ensures bad { chip_bad self.new ≡ chip_bad self.old }
+        ensures syncs { chip_syncs self.new ≡ chip_syncs self.old }
         ensures cause { CountsFault (chip_faults self.old) (chip_faults self.new) result }
         ensures tally { CountsCommand (command.Program at stamp.number)
             (chip_tally self.old) (chip_tally self.new) result }
@@ -409,6 +414,7 @@ impl Nand for Chip {
             (chip_flash self.old) (chip_flash self.new) }
         ensures shape { chip_shape self.new ≡ chip_shape self.old }
         ensures bad { chip_bad self.new ≡ chip_bad self.old }
+        ensures syncs { chip_syncs self.new ≡ chip_syncs self.old }
         ensures cause { CountsFault (chip_faults self.old) (chip_faults self.new) result }
         ensures tally { CountsCommand (command.Copy 0 from to)
             (chip_tally self.old) (chip_tally self.new) result }
@@ -429,6 +435,7 @@ impl Nand for Chip {
             (chip_flash self.old) (chip_flash self.new) }
         ensures shape { chip_shape self.new ≡ chip_shape self.old }
         ensures bad { chip_bad self.new ≡ chip_bad self.old }
+        ensures syncs { chip_syncs self.new ≡ chip_syncs self.old }
         ensures cause { CountsFault (chip_faults self.old) (chip_faults self.new) result }
         ensures tally { CountsCommand (command.Erase block)
             (chip_tally self.old) (chip_tally self.new) result }

@@ -1,4 +1,4 @@
-ghost use Rattle.std.specs.Prelude.{◌≡◌, ◌⊎◌, ◌<◌, ◌+◌, ◌%◌, ◌^◌, ℕ, Bool, true, false, List, length, slice_index_or, IfOk, OnOk};
+ghost use Rattle.std.specs.Prelude.{◌≡◌, ◌⊎◌, ◌<◌, ◌+◌, ◌%◌, ◌^◌, ℕ, Bool, true, false, List, length, slice_index_or, IfOk, OnErr, OnOk};
 ghost use Rattle.durable.specs.Flash.{Flash};
 ghost use Rattle.durable.specs.Updates.{sole};
 ghost use Rattle.nand.specs.declared.flash.Shape.{Shape as Numbers};
@@ -101,6 +101,7 @@ pub trait Nand {
         ensures shape { shape self.new ≡ shape self.old }
         ensures bad { bad self.new ≡ bad self.old }
         ensures tally { tally self.new ≡ tally self.old }
+        ensures syncs { syncs self.new ≡ syncs self.old }
         ensures cause { CountsCut (faults self.old) (faults self.new) result };
 
     /// Marks a block bad for good. Its pages are still read.
@@ -111,6 +112,7 @@ pub trait Nand {
         ensures flash { flash self.new ≡ flash self.old }
         ensures shape { shape self.new ≡ shape self.old }
         ensures tally { tally self.new ≡ tally self.old }
+        ensures syncs { syncs self.new ≡ syncs self.old }
         ensures cause { CountsCut (faults self.old) (faults self.new) result };
 
     /// Reads a page's stamp alone.
@@ -121,6 +123,7 @@ pub trait Nand {
         ensures shape { shape self.new ≡ shape self.old }
         ensures bad { bad self.new ≡ bad self.old }
         ensures tally { tally self.new ≡ tally self.old }
+        ensures syncs { syncs self.new ≡ syncs self.old }
         ensures cause { CountsCut (faults self.old) (faults self.new) result };
 
     /// Reads a page's stamp, and its main bytes into `out`. If it isn't a version with bytes, any bytes may be there.
@@ -133,6 +136,7 @@ pub trait Nand {
         ensures shape { shape self.new ≡ shape self.old }
         ensures bad { bad self.new ≡ bad self.old }
         ensures tally { tally self.new ≡ tally self.old }
+        ensures syncs { syncs self.new ≡ syncs self.old }
         ensures cause { CountsCut (faults self.old) (faults self.new) result };
 
     /// Programs an erased page. The main bytes of a trim are none.
@@ -144,6 +148,7 @@ pub trait Nand {
         ensures bad { bad self.new ≡ bad self.old }
         ensures tally { CountsCommand (command.Program at stamp.number)
             (tally self.old) (tally self.new) result }
+        ensures syncs { syncs self.new ≡ syncs self.old }
         ensures cause { CountsFault (faults self.old) (faults self.new) result };
 
     /// Copies a page with its stamp into an erased page.
@@ -154,6 +159,7 @@ pub trait Nand {
         ensures bad { bad self.new ≡ bad self.old }
         ensures tally { CountsCommand (command.Copy 0 from to)
             (tally self.old) (tally self.new) result }
+        ensures syncs { syncs self.new ≡ syncs self.old }
         ensures cause { CountsFault (faults self.old) (faults self.new) result };
 
     /// Erases a block.
@@ -164,11 +170,13 @@ pub trait Nand {
         ensures bad { bad self.new ≡ bad self.old }
         ensures tally { CountsCommand (command.Erase block)
             (tally self.old) (tally self.new) result }
+        ensures syncs { syncs self.new ≡ syncs self.old }
         ensures cause { CountsFault (faults self.old) (faults self.new) result };
 
     /// Returns once each command that was done is durable.
     fn sync(&mut self) -> Result<(), PowerGone>
         ensures counts { OnOk result (syncs self.new ≡ (syncs self.old + 1) % 2 ^ 64) }
+        ensures failed { OnErr result (syncs self.new ≡ syncs self.old) }
         ensures flash { flash self.new ≡ flash self.old }
         ensures shape { shape self.new ≡ shape self.old }
         ensures bad { bad self.new ≡ bad self.old }

@@ -1,7 +1,7 @@
-ghost use Rattle.std.specs.Prelude.{◌≡◌, ◌⊎◌, All, List, ◌∷◌, [], length, Ok, Err, OnOk, IfOk, IfErr};
+ghost use Rattle.std.specs.Prelude.{◌≡◌, ◌≢◌, ◌⊎◌, All, false, List, ◌∷◌, [], length, Ok, Err, OnOk, IfOk, IfErr};
 ghost use Rattle.durable.specs.Updates.{Makes, Update};
 ghost use Rattle.nand.specs.Histories.{IsFor, Leads, update_by};
-ghost use Rattle.nand.specs.Opened.{CanOpen, Fails, HasMarkedFailed, IsClosed, IsOpenLayer, IsTrueCause, KeepsDevice, layer_sectors};
+ghost use Rattle.nand.specs.Opened.{CanOpen, Fails, HasFailed, IsClosed, IsOpenLayer, IsTrueCause, KeepsDevice, MarksFailed, layer_sectors};
 ghost use Rattle.nand.specs.Programs.{ProgramsOnce};
 ghost use Rattle.nand.specs.declared.failure.Failure.TheVariants as failure;
 
@@ -33,12 +33,10 @@ impl<N: Nand> Durable<N> {
         ensures closed { IsClosed self.old → result ≡ Err failure.Closed }
         ensures idle { IsClosed self.old → N.tally self.new.nand ≡ N.tally self.old.nand }
         ensures device { KeepsDevice N.shape N.bad N.faults self.old self.new }
-        ensures marks { (updates : List Update) → IsOpenLayer N.flash N.shape N.bad self.old updates
-            → OnOk result (HasMarkedFailed N.shape N.bad N.faults self.old self.new) }
-        ensures memory { (updates : List Update)
-            → IsOpenLayer N.flash N.shape N.bad self.old updates
-            → result ≡ Err failure.OutOfMemory
-            → HasMarkedFailed N.shape N.bad N.faults self.old self.new }
+        ensures marks { OnOk result (MarksFailed N.flash N.shape N.bad N.faults self.old self.new) }
+        ensures memory { result ≡ Err failure.OutOfMemory
+            → MarksFailed N.flash N.shape N.bad N.faults self.old self.new }
+        ensures overwrites { result ≢ Err failure.Written }
         ensures once { (updates : List Update) → IsOpenLayer N.flash N.shape N.bad self.old updates
             → OnOk result ((N.flash self.new.nand ≡ N.flash self.old.nand)
             × (N.tally self.new.nand ≡ N.tally self.old.nand)
@@ -74,6 +72,11 @@ impl<N: Nand> Durable<N> {
             × Leads changes.now acknowledged.new.items before after
             × CanOpen N.flash N.shape N.bad refused.nand sectors after) }
         ensures all { OnOk result (length acknowledged.new.items ≡ length changes.now) }
+
+        // It tells a call as not acknowledged only if one has failed.
+        ensures failed { (before : List Update) → CanOpen N.flash N.shape N.bad nand sectors before
+            → All (λ told. told ≡ false → HasFailed N.flash N.shape N.bad N.faults)
+            acknowledged.new.items }
         ensures device { IfOk result
             (λ layer. (layer_sectors layer ≡ sectors) × (N.shape layer.nand ≡ N.shape nand)) }
     {
@@ -111,6 +114,8 @@ impl<N: Nand> Durable<N> {
             (λ refused. (after : List Update)
             × Makes acknowledged.new (update_by change.now) updates after
             × CanOpen N.flash N.shape N.bad refused.nand (layer_sectors self) after) }
+        ensures failed { (updates : List Update) → IsOpenLayer N.flash N.shape N.bad self updates
+            → acknowledged.new ≡ false → HasFailed N.flash N.shape N.bad N.faults }
         ensures device { IfOk result
             (λ layer. (layer_sectors layer ≡ layer_sectors self)
             × (N.shape layer.nand ≡ N.shape self.nand)) }

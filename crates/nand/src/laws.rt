@@ -20,8 +20,9 @@ ghost use Rattle.nand.specs.Histories.{IsFor, Leads, update_by};
 ghost use Rattle.nand.specs.Nand.{CountsCommand, CountsCut, CountsFault, HasBytes, Performs, ReadsMain, ReadsStamp};
 ghost use Rattle.nand.specs.Nand.{noted_of, other_fault, tally_after, value_with};
 ghost use Rattle.nand.specs.Numbers.{IsInReserve, IsInUse, IsOrder, Marks, chip_block, chip_page, good_before, is_marked, most_in_use, numbered};
-ghost use Rattle.nand.specs.Opened.{CanFreeInUse, CanOpen, Fails, HasMarkedFailed, IsClosed, IsOpenLayer, IsRefusal, IsSameDevice, IsSpent, IsTrueCause};
-ghost use Rattle.nand.specs.Opened.{KeepsDevice, ReadsSector, Were, device_on, layer_sectors, most_used, number_of, reserve_of, update_of};
+ghost use Rattle.nand.specs.Opened.{CanFreeInUse, CanOpen, Fails, HasFailed, IsClosed, IsOpenLayer, IsRefusal, IsSameDevice, IsSpent};
+ghost use Rattle.nand.specs.Opened.{IsTrueCause, KeepsDevice, MarksFailed, ReadsSector, Were};
+ghost use Rattle.nand.specs.Opened.{device_on, layer_sectors, most_used, number_of, reserve_of, update_of};
 ghost use Rattle.nand.specs.Programs.{AddsVersion, HasSomewhere, ProgramsOnce, TalliesOnce};
 ghost use Rattle.nand.specs.declared.chip.Chip.{Chip as Modelled};
 ghost use Rattle.nand.specs.declared.chip.Cut.TheVariants as cut;
@@ -115,12 +116,16 @@ pub fn stored_sectors()
         → WereStored has (record { first = 7; count = 2 }) was.Empty }
     ensures were_lost { (has : ℕ → Option Sector) → has 8 ≡ None
         → ¬ WereStored has (record { first = 7; count = 2 }) was.Empty }
-    ensures were_written { (has : ℕ → Option Sector) → has 8 ≡ Some (Some (5 ∷ []))
+    ensures were_written { (has : ℕ → Option Sector) → has 7 ≡ Some None → has 8 ≡ Some (Some (5 ∷ []))
         → WereStored has (record { first = 7; count = 2 }) was.Written }
     ensures not_written { (has : ℕ → Option Sector) → has 7 ≡ None → has 8 ≡ Some None
         → ¬ WereStored has (record { first = 7; count = 2 }) was.Written }
-    ensures has_lost { (has : ℕ → Option Sector) → has 8 ≡ None
+    ensures written_behind { (has : ℕ → Option Sector) → has 7 ≡ None → has 8 ≡ Some (Some (5 ∷ []))
+        → ¬ WereStored has (record { first = 7; count = 2 }) was.Written }
+    ensures has_lost { (has : ℕ → Option Sector) → has 7 ≡ Some None → has 8 ≡ None
         → HasLostSector has (record { first = 7; count = 2 }) }
+    ensures lost_behind { (has : ℕ → Option Sector) → has 7 ≡ Some (Some (5 ∷ [])) → has 8 ≡ None
+        → ¬ HasLostSector has (record { first = 7; count = 2 }) }
     ensures none_lost { (has : ℕ → Option Sector) → has 7 ≡ Some None → has 8 ≡ Some None
         → ¬ HasLostSector has (record { first = 7; count = 2 }) }
 {}
@@ -291,6 +296,8 @@ pub fn schedules()
         → chip_faults new fault.PowerGone ≡ chip_faults old fault.PowerGone }
     ensures same_tally { (old new : Modelled) → HasSame old new
         → (chip_tally old).copies ≡ 3 → (chip_tally new).copies ≡ 3 }
+    ensures same_syncs { (old new : Modelled) → HasSame old new
+        → chip_syncs old ≡ 3 → chip_syncs new ≡ 3 }
     ensures bad { (chip : Modelled) → chip.bad.items ≡ true ∷ [] → chip_bad chip ≡ true ∷ [] }
     ensures erases { (chip : Modelled) → chip.erases.items ≡ 3 ∷ [] → chip_erases chip ≡ 3 ∷ [] }
     ensures powered { (chip : Modelled) → chip.powered ≡ true → (schedule_of chip).powered ≡ true }
@@ -521,11 +528,22 @@ pub fn failing()
         → KeepsDevice chip_shape chip_bad chip_faults old new
         → chip_faults old.nand fault.Failed ≡ 2
         → chip_faults new.nand fault.Failed ≡ 2 → chip_bad new.nand ≡ chip_bad old.nand }
-    ensures one_mark { (old new : Layer Modelled)
-        → HasMarkedFailed chip_shape chip_bad chip_faults old new → (chip_shape old.nand).blocks ≡ 2
+    ensures one_mark { (old new : Layer Modelled) (updates : List Update)
+        → IsOpenLayer chip_flash chip_shape chip_bad old updates
+        → MarksFailed chip_flash chip_shape chip_bad chip_faults old new
+        → (chip_shape old.nand).blocks ≡ 2
         → chip_bad old.nand ≡ false ∷ false ∷ []
         → chip_bad new.nand ≡ true ∷ false ∷ [] → chip_faults old.nand fault.Failed ≡ 3
         → chip_faults new.nand fault.Failed % 2 ^ 64 ≡ 4 }
+    ensures failed_open { (has : HasFailed chip_flash chip_shape chip_bad chip_faults)
+        → has.old.mounted ≡ true }
+    ensures failed_true { (has : HasFailed chip_flash chip_shape chip_bad chip_faults)
+        → has.cause ≡ failure.PowerGone
+        → chip_faults has.new.nand fault.PowerGone ≢ chip_faults has.old.nand fault.PowerGone }
+    ensures failed_written { (has : HasFailed chip_flash chip_shape chip_bad chip_faults)
+        → has.cause ≢ failure.Written }
+    ensures failed_lost { (has : HasFailed chip_flash chip_shape chip_bad chip_faults)
+        → has.cause ≢ failure.Lost }
     ensures spare { (shape : Numbers) → shape.blocks ≡ 9
         → shape.pages ≡ 4 → ¬ IsSpent shape [] 8 5 }
     ensures spent { (shape : Numbers) → shape.blocks ≡ 3 → shape.pages ≡ 4 → IsSpent shape [] 8 5 }

@@ -9,15 +9,14 @@ ghost use Rattle.durable.specs.declared.fault.MountFault.TheVariants as mount_fa
 ghost use Rattle.durable.specs.Device.{IsWrittenOn, losses_of};
 ghost use Rattle.durable.specs.Flash.{IsErased, PageContents};
 ghost use Rattle.nand.specs.Numbers.{good_before};
-ghost use Rattle.nand.specs.Opened.{CanOpen, Fails, HasMarkedFailed, IsClosed, IsOpenLayer, IsSameDevice, IsTrueCause, KeepsDevice, ReadsSector, Were};
-ghost use Rattle.nand.specs.Opened.{device_on, layer_sectors, number_of, reserve_of, update_of};
+ghost use Rattle.nand.specs.Opened.{CanOpen, Fails, IsClosed, IsOpenLayer, IsSameDevice, IsTrueCause, KeepsDevice, MarksFailed, ReadsSector, Were};
+ghost use Rattle.nand.specs.Opened.{device_on, layer_sectors, reserve_of, update_of};
 ghost use Rattle.nand.specs.Stored.{ReadsStored, StopsLook, StopsUpdate, TellsStored, WereStored, stored_value, told_of, value_for};
 ghost use Rattle.nand.specs.Looks.{Looks};
 ghost use Rattle.nand.specs.Nand.{HasBytes, ReadsStamp};
 ghost use Rattle.nand.specs.Programs.{ProgramsOnce};
 ghost use Rattle.nand.specs.declared.failure.Failure.TheVariants as failure;
 ghost use Rattle.nand.specs.declared.failure.OpenFailure.TheVariants as why;
-ghost use Rattle.nand.specs.declared.flash.Fault.{Fault as Cause};
 ghost use Rattle.nand.specs.declared.flash.Fault.TheVariants as fault;
 
 use crate::failure::{Failure, OpenFailure};
@@ -227,12 +226,9 @@ impl<N: Nand> Durable<N> {
         ensures closed { IsClosed self.old → result ≡ Err failure.Closed }
         ensures idle { IsClosed self.old → N.tally self.new.nand ≡ N.tally self.old.nand }
         ensures device { KeepsDevice N.shape N.bad N.faults self.old self.new }
-        ensures marks { (updates : List Update) → IsOpenLayer N.flash N.shape N.bad self.old updates
-            → OnOk result (HasMarkedFailed N.shape N.bad N.faults self.old self.new) }
-        ensures memory { (updates : List Update)
-            → IsOpenLayer N.flash N.shape N.bad self.old updates
-            → result ≡ Err failure.OutOfMemory
-            → HasMarkedFailed N.shape N.bad N.faults self.old self.new }
+        ensures marks { OnOk result (MarksFailed N.flash N.shape N.bad N.faults self.old self.new) }
+        ensures memory { result ≡ Err failure.OutOfMemory
+            → MarksFailed N.flash N.shape N.bad N.faults self.old self.new }
         ensures once { (updates : List Update) → IsOpenLayer N.flash N.shape N.bad self.old updates
             → OnOk result
             (ProgramsOnce N.flash N.shape N.bad N.tally self.old self.new
@@ -276,12 +272,9 @@ impl<N: Nand> Durable<N> {
         ensures refused { result ≡ Err failure.Written
             → N.tally self.new.nand ≡ N.tally self.old.nand }
         ensures device { KeepsDevice N.shape N.bad N.faults self.old self.new }
-        ensures marks { (updates : List Update) → IsOpenLayer N.flash N.shape N.bad self.old updates
-            → OnOk result (HasMarkedFailed N.shape N.bad N.faults self.old self.new) }
-        ensures memory { (updates : List Update)
-            → IsOpenLayer N.flash N.shape N.bad self.old updates
-            → result ≡ Err failure.OutOfMemory
-            → HasMarkedFailed N.shape N.bad N.faults self.old self.new }
+        ensures marks { OnOk result (MarksFailed N.flash N.shape N.bad N.faults self.old self.new) }
+        ensures memory { result ≡ Err failure.OutOfMemory
+            → MarksFailed N.flash N.shape N.bad N.faults self.old self.new }
         ensures once { (updates : List Update) → IsOpenLayer N.flash N.shape N.bad self.old updates
             → OnOk result
             (ProgramsOnce N.flash N.shape N.bad N.tally self.old self.new
@@ -320,12 +313,9 @@ impl<N: Nand> Durable<N> {
         ensures closed { IsClosed self.old → result ≡ Err failure.Closed }
         ensures idle { IsClosed self.old → N.tally self.new.nand ≡ N.tally self.old.nand }
         ensures device { KeepsDevice N.shape N.bad N.faults self.old self.new }
-        ensures marks { (updates : List Update) → IsOpenLayer N.flash N.shape N.bad self.old updates
-            → OnOk result (HasMarkedFailed N.shape N.bad N.faults self.old self.new) }
-        ensures memory { (updates : List Update)
-            → IsOpenLayer N.flash N.shape N.bad self.old updates
-            → result ≡ Err failure.OutOfMemory
-            → HasMarkedFailed N.shape N.bad N.faults self.old self.new }
+        ensures marks { OnOk result (MarksFailed N.flash N.shape N.bad N.faults self.old self.new) }
+        ensures memory { result ≡ Err failure.OutOfMemory
+            → MarksFailed N.flash N.shape N.bad N.faults self.old self.new }
         ensures once { (updates : List Update) → IsOpenLayer N.flash N.shape N.bad self.old updates
             → result ≡ Ok was.Written
             → ProgramsOnce N.flash N.shape N.bad N.tally self.old self.new (update_of extent None) }

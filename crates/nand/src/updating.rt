@@ -7,7 +7,7 @@ ghost use Rattle.durable.specs.declared.command.Command.TheVariants as commands;
 ghost use Rattle.nand.specs.Attempts.{CanReplace, CountsStop, Leaves};
 ghost use Rattle.nand.specs.Nand.{CountsCommand, CountsFault, Performs, value_with};
 ghost use Rattle.nand.specs.Numbers.{IsOrder, good_before, is_marked, numbered};
-ghost use Rattle.nand.specs.Opened.{CanOpen, Fails, HasMarkedFailed, IsClosed, IsOpenLayer, IsSameDevice, IsTrueCause, KeepsDevice};
+ghost use Rattle.nand.specs.Opened.{CanOpen, Fails, IsClosed, IsOpenLayer, IsSameDevice, IsTrueCause, KeepsDevice, MarksFailed};
 ghost use Rattle.nand.specs.Opened.{layer_sectors, number_of, reserve_of, update_of};
 ghost use Rattle.nand.specs.Programs.{AddsVersion, ProgramsOnce, TalliesOnce};
 ghost use Rattle.nand.specs.declared.failure.Failure.TheVariants as failure;
@@ -102,12 +102,9 @@ impl<N: Nand> Durable<N> {
         ensures closed { IsClosed self.old → result ≡ Err failure.Closed }
         ensures idle { IsClosed self.old → N.tally self.new.nand ≡ N.tally self.old.nand }
         ensures device { KeepsDevice N.shape N.bad N.faults self.old self.new }
-        ensures marks { (updates : List Update) → IsOpenLayer N.flash N.shape N.bad self.old updates
-            → OnOk result (HasMarkedFailed N.shape N.bad N.faults self.old self.new) }
-        ensures memory { (updates : List Update)
-            → IsOpenLayer N.flash N.shape N.bad self.old updates
-            → result ≡ Err failure.OutOfMemory
-            → HasMarkedFailed N.shape N.bad N.faults self.old self.new }
+        ensures marks { OnOk result (MarksFailed N.flash N.shape N.bad N.faults self.old self.new) }
+        ensures memory { result ≡ Err failure.OutOfMemory
+            → MarksFailed N.flash N.shape N.bad N.faults self.old self.new }
         ensures overwrites { result ≢ Err failure.Written }
         ensures lost { result ≢ Err failure.Lost }
         ensures once { (updates : List Update) → IsOpenLayer N.flash N.shape N.bad self.old updates

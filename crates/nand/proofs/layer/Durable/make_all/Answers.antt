@@ -1,8 +1,9 @@
-use Rattle.std.proofs.Common.{◌∙◌, List, Bool, ℕ, refl, sym, ap, arith, subst, length}
+use Rattle.std.proofs.Common.{◌∙◌, All, List, Bool, ℕ, refl, sym, ap, arith, subst, length}
+use Rattle.std.proofs.lemmas.List.Elements.{All-nil}
 use Rattle.std.proofs.lemmas.Result.{err_from_is_err_and}
 use Rattle.nand.specs.Histories.{Leads}
 use Rattle.nand.specs.Opened.{CanOpen}
-use Rattle.nand.proofs.Histories.{leads_more, one_longer, same_chip}
+use Rattle.nand.proofs.Histories.{Explains, all_more, leads_more, one_longer, same_chip}
 use Rattle.nand.proofs.layer.Durable.make_all.Goals as goal
 
 pub loop-i-init : goal.loop-i-init
@@ -15,6 +16,7 @@ loop-i-init g c = record {
     subst (λ (outcomes : List Bool). Leads c.args.changes.now outcomes before before) (sym c.requires.none) refl,
     c.in_ok-layer.ensures.«open» before is,
   );
+  failed = λ before is. subst (All (Explains g.N.Nand.flash g.N.Nand.shape g.N.Nand.bad g.N.Nand.faults)) (sym c.requires.none) (All-nil _);
 }
 
 pub returns-in_err-layer-clause-back : goal.returns-in_err-layer-clause-back
@@ -47,6 +49,22 @@ returns-in-Err-make_or_reopen-clause-back g c before is =
       subst (λ (n : ℕ). CanOpen g.N.Nand.flash g.N.Nand.shape g.N.Nand.bad c.in-Err-make_or_reopen.refused.nand n back.0) inv.sectors back.2,
     )
 
+pub returns-in_err-layer-clause-failed : goal.returns-in_err-layer-clause-failed
+returns-in_err-layer-clause-failed g c before is =
+    subst (All (Explains g.N.Nand.flash g.N.Nand.shape g.N.Nand.bad g.N.Nand.faults)) (sym c.requires.none) (All-nil _)
+
+pub returns-in-Err-clause-failed : goal.returns-in-Err-clause-failed
+returns-in-Err-clause-failed g c before is =
+    subst (All (Explains g.N.Nand.flash g.N.Nand.shape g.N.Nand.bad g.N.Nand.faults)) (sym c.in-Err.ensures.items) (c.loop-i.invariant.failed before is)
+
+pub returns-in-Err-make_or_reopen-clause-failed : goal.returns-in-Err-make_or_reopen-clause-failed
+returns-in-Err-make_or_reopen-clause-failed g c before is =
+    let inv = c.loop-i.invariant in
+    let leads = inv.leads before is in
+    all_more (Explains g.N.Nand.flash g.N.Nand.shape g.N.Nand.bad g.N.Nand.faults)
+    c.loop-i.acknowledged.items c.push.new.self.items c.loop-i.i c.make_or_reopen.new.acknowledged (inv.failed before is)
+    (c.in-Err-make_or_reopen.ensures.failed leads.0 leads.2) c.in_default.ensures.items inv.made
+
 pub loop-i-preserved : goal.loop-i-preserved
 loop-i-preserved g c =
     let inv = c.loop-i.invariant in
@@ -64,4 +82,9 @@ loop-i-preserved g c =
                 (omega (arith, c.loop-i-test.true, c.loop-i.auto.i-end)) c.index-changes-i.is more.1,
             more.2,
           );
+      failed = λ before is.
+          let leads = inv.leads before is in
+          all_more (Explains g.N.Nand.flash g.N.Nand.shape g.N.Nand.bad g.N.Nand.faults)
+          c.loop-i.acknowledged.items c.push.new.self.items c.loop-i.i c.make_or_reopen.new.acknowledged (inv.failed before is)
+          (c.in-Ok.ensures.failed leads.0 leads.2) c.in_default.ensures.items inv.made;
     }

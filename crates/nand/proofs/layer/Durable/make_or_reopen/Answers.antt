@@ -1,4 +1,4 @@
-use Rattle.std.proofs.Common.{◌∷◌, ◌∙◌, ℕ, false, IfErr, refl, subst}
+use Rattle.std.proofs.Common.{◌∷◌, ◌∙◌, ℕ, false, Err, IfErr, refl, ap, subst}
 use Rattle.nand.specs.Histories.{update_by}
 use Rattle.nand.proofs.Histories.{LeavesChip, comes_back, opens, reopens}
 use Rattle.nand.proofs.layer.Durable.make_or_reopen.Goals as goal
@@ -22,3 +22,15 @@ returns-in-Err-clause-back g c updates is =
     (reopens g.N.Nand.flash g.N.Nand.shape g.N.Nand.bad c.args.self c.make.new.self c.into_nand.result (update_by c.args.change.now) updates c.in-Err.field-0
     c.sectors-sectors.result sectors c.into_nand.ensures.chip (c.in-Err.ensures.fails updates is))
     c.open.ensures.back)
+
+pub returns-in-Err-clause-failed : goal.returns-in-Err-clause-failed
+returns-in-Err-clause-failed g c updates is told = record {
+  old = c.args.self;
+  new = c.make.new.self;
+  updates = updates;
+  cause = c.in-Err.field-0;
+  holds = is;
+  true = c.in-Err.ensures.cause;
+  written = λ written. c.in-Err.ensures.overwrites (ap Err written);
+  lost = (c.in-Err.ensures.fails updates is).readable;
+}

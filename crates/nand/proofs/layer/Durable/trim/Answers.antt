@@ -61,10 +61,10 @@ returns-in-Ok-clause-marks g c updates is =
     marked_after c.in-Ok-Written.ensures.looks c.update.new.self (c.in-Ok.ensures.marks updates (c.were.ensures.looks.opens updates is))
 
 pub returns-in-Err-update-clause-memory : goal.returns-in-Err-update-clause-memory
-returns-in-Err-update-clause-memory g c updates is told =
+returns-in-Err-update-clause-memory g c told updates is =
     let memory : c.in-Err-update.failure ≡ failure.OutOfMemory = cc told in
     marked_after c.in-Ok-Written.ensures.looks c.update.new.self
-    (c.in-Err-update.ensures.memory updates (c.were.ensures.looks.opens updates is) (ap Err memory))
+    (c.in-Err-update.ensures.memory (ap Err memory) updates (c.were.ensures.looks.opens updates is))
 
 pub returns-in-Err-update-clause-fails : goal.returns-in-Err-update-clause-fails
 returns-in-Err-update-clause-fails g c updates is =
@@ -84,7 +84,7 @@ returns-in-Err-clause-fails g c updates is =
     (not_failed c.in-Err.failure (c.in-Err.ensures.only updates is))
 
 pub returns-in-Err-clause-memory : goal.returns-in-Err-clause-memory
-returns-in-Err-clause-memory g c updates is told = absurd (not_memory c.in-Err.failure (c.in-Err.ensures.only updates is) told)
+returns-in-Err-clause-memory g c told updates is = absurd (not_memory c.in-Err.failure (c.in-Err.ensures.only updates is) told)
 
 pub returns-in-Err-clause-device : goal.returns-in-Err-clause-device
 returns-in-Err-clause-device g c = keeps_same c.were.ensures.looks.device

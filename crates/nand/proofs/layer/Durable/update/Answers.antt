@@ -155,7 +155,7 @@ returns-in-Err-clause-fails g c updates h =
     }
 
 pub returns-in-Err-clause-memory : goal.returns-in-Err-clause-memory
-returns-in-Err-clause-memory g c updates h told =
+returns-in-Err-clause-memory g c told updates h =
     let inv = c.loop-self.invariant in
     let was = c.args.self.now.nand in
     let mid = c.attempt.new.self.nand in

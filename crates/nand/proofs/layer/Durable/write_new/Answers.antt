@@ -45,12 +45,13 @@ pub returns-in-Ok-Empty-clause-device : goal.returns-in-Ok-Empty-clause-device
 returns-in-Ok-Empty-clause-device g c = keeps_after c.in-Ok-Empty.ensures.looks c.update.ensures.device
 
 pub returns-in-Ok-Empty-clause-marks : goal.returns-in-Ok-Empty-clause-marks
-returns-in-Ok-Empty-clause-marks g c updates is = if_ok c.update.result (λ marked. marked_after c.in-Ok-Empty.ensures.looks c.update.new.self marked)
-    (c.update.ensures.marks updates (c.was.ensures.looks.opens updates is))
+returns-in-Ok-Empty-clause-marks g c =
+    if_ok c.update.result (λ marked updates is. marked_after c.in-Ok-Empty.ensures.looks c.update.new.self
+    (marked updates (c.was.ensures.looks.opens updates is))) c.update.ensures.marks
 
 pub returns-in-Ok-Empty-clause-memory : goal.returns-in-Ok-Empty-clause-memory
-returns-in-Ok-Empty-clause-memory g c updates is told =
-    marked_after c.in-Ok-Empty.ensures.looks c.update.new.self (c.update.ensures.memory updates (c.was.ensures.looks.opens updates is) told)
+returns-in-Ok-Empty-clause-memory g c told updates is =
+    marked_after c.in-Ok-Empty.ensures.looks c.update.new.self (c.update.ensures.memory told updates (c.was.ensures.looks.opens updates is))
 
 pub returns-in-Ok-Empty-clause-once : goal.returns-in-Ok-Empty-clause-once
 returns-in-Ok-Empty-clause-once g c updates is =
@@ -75,7 +76,7 @@ returns-in-Err-clause-fails g c updates is =
     (not_lost c.in-Err.failure (c.in-Err.ensures.only updates is)) (not_failed c.in-Err.failure (c.in-Err.ensures.only updates is))
 
 pub returns-in-Err-clause-memory : goal.returns-in-Err-clause-memory
-returns-in-Err-clause-memory g c updates is told = absurd (not_memory c.in-Err.failure (c.in-Err.ensures.only updates is) told)
+returns-in-Err-clause-memory g c told updates is = absurd (not_memory c.in-Err.failure (c.in-Err.ensures.only updates is) told)
 
 pub returns-in-Err-clause-device : goal.returns-in-Err-clause-device
 returns-in-Err-clause-device g c = keeps_same c.was.ensures.looks.device
