@@ -1,6 +1,6 @@
 -- A handle of a shared device, as its caller sees it. For each call one total function gives the code that has to be returned, and says
 -- between which passes or brooms the clauses of the device's own call hold.
-use Rattle.std.specs.Prelude.{◌≡◌, ℕ, nat_le, if◌then◌else◌, List, [], length, Option, None, Some, is_some}
+use Rattle.std.specs.Prelude.{◌≡◌, ◌≤◌, ℕ, nat_le, if◌then◌else◌, List, [], length, Option, None, Some, is_some}
 use Rattle.std.specs.Arc.{arc_value}
 use Rattle.geometry.specs.declared.geometry.Geometry.{Geometry}
 use Rattle.geometry.specs.Geometry.{sectors_of, blocks_of}
@@ -9,12 +9,15 @@ use Rattle.geometry.specs.History.{Call, Trim, held}
 use Rattle.geometry.specs.declared.answer.Was.{Was}
 use Rattle.flash_table.specs.declared.pass.Pass.{Pass}
 use Rattle.flash_table.specs.Flash.{view_of, geometry_of}
+use Rattle.broom.specs.Handing.{DrainedBy, HandsNothing, IsBelow}
+use Rattle.broom.specs.declared.answer.Drain.{Drain}
 use Rattle.broom.specs.declared.broom.Broom.{Broom}
+use Rattle.broom.specs.declared.turns.Choice.{Choice}
 use Rattle.volume.specs.declared.volume.Volume.{Volume}
 use Rattle.volume.specs.Volume.{flash_of}
-use Rattle.volume.specs.Correct.{Asked, Answer, Does}
+use Rattle.volume.specs.Correct.{Asked, Answer, Does, Replaced}
 use Rattle.flash_table.specs.Steps.{HasCalled, HasNumber}
-use Rattle.host.specs.Told.{Wrote, WroteNew}
+use Rattle.host.specs.Told.{Refused, Wrote, WroteNew}
 use Rattle.host.specs.Holding.{pass_of}
 use Rattle.exports.specs.declared.seat.Holder.{Holder}
 use Rattle.exports.specs.declared.seat.Host.{Host}
@@ -75,6 +78,12 @@ abbrev pub BroomCalled : Option Seat → Option Seat → (Volume → Broom → B
 BroomCalled (Some (seat.Sweeper s)) (Some (seat.Sweeper t)) says = (t.volume ≡ s.volume) × says (sweeper_volume s) s.broom t.broom
 BroomCalled (Some (seat.Sweeper s)) _ says = ⊥
 BroomCalled before after says = after ≡ before
+
+-- a broom drained so, by this choice of the block: it put nothing into the queue and took nothing from it, and the block is one of the device's
+pub record Drains (choice : Choice) (v : Volume) (before : Broom) (answer : Drain) (after : Broom) : Type 0 where
+  pub told : DrainedBy choice before answer after
+  pub queue : HandsNothing before after
+  pub below : IsBelow (blocks_of (numbers_of v)) answer
 
 -- all that the pass of a handle's host has seen of the history
 abbrev pub seen_of : Option Seat → List Call
@@ -147,3 +156,11 @@ HasWrittenNew p s bytes was q = (t : ℕ) → HasNumber t p → WroteNew (view_o
 -- the pass has emptied the sector, which was so
 unfoldable pub HasTrimmed : Pass → ℕ → Was → Pass → Type 0
 HasTrimmed p s was q = (t : ℕ) → HasNumber t p → HasCalled p (Trim t s) s was q
+
+-- a write has ended with this code: it was one step of the array, and wrote so; or it found no block; or the pass is as it was
+pub record WriteEnds (v : Volume) (p : Pass) (asked : Asked) (has : Was → Pass → Type 0) (result : ℕ) (q : Pass) : Type 0 where
+  pub correct : result ≤ WRITTEN → IsStep v p asked (Replaced (was_by result)) q
+  pub wrote : result ≤ WRITTEN → has (was_by result) q
+  pub refused : result ≡ NO_BLOCK → Refused (view_of p) (view_of q)
+  pub sector : result ≡ NO_SECTOR → q ≡ p
+  pub page : result ≡ NOT_A_PAGE → q ≡ p

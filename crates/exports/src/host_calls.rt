@@ -1,10 +1,11 @@
 //! The calls of a host, by codes.
 ghost use Rattle.std.specs.Prelude.{◌≡◌, ◌<◌, ◌≤◌, ℕ, length};
 ghost use Rattle.flash_table.specs.Flash.{view_of, opened_of};
-ghost use Rattle.host.specs.Told.{Searched, Refused};
+ghost use Rattle.host.specs.Told.{Searched};
 ghost use Rattle.volume.specs.Correct.{Read, Look, Write, WriteNew, Trim, Found, IsWritten, Replaced};
 ghost use Rattle.exports.specs.Codes.{got_by, written_by, was_by};
-ghost use Rattle.exports.specs.Shared.{host_volume, IsStep, HasWritten, HasWrittenNew, HasTrimmed, read_code, read_buffer, look_code, write_code, trim_code};
+ghost use Rattle.exports.specs.Shared.{host_volume, read_code, read_buffer, look_code, write_code, trim_code};
+ghost use Rattle.exports.specs.Shared.{HasTrimmed, HasWritten, HasWrittenNew, IsStep, WriteEnds};
 
 use crate::codes::{DONE, NO_BLOCK, NO_SECTOR, NOT_A_PAGE, WRITTEN, code_of};
 use crate::seat::Host;
@@ -67,15 +68,8 @@ impl Host {
     pub(crate) fn write(&mut self, sector: u32, bytes: &[u8]) -> u32
         ensures device { self.new.volume ≡ self.old.volume }
         ensures code { result ≡ write_code sector (length bytes.now) result self.old }
-        ensures correct { result ≤ WRITTEN
-            → IsStep (host_volume self.old) self.old.pass
-            (Write sector bytes.now) (Replaced (was_by result)) self.new.pass }
-        ensures wrote { result ≤ WRITTEN
-            → HasWritten self.old.pass sector bytes.now (was_by result) self.new.pass }
-        ensures refused { result ≡ NO_BLOCK
-            → Refused (view_of self.old.pass) (view_of self.new.pass) }
-        ensures same { result ≡ NO_SECTOR → self.new.pass ≡ self.old.pass }
-        ensures same_page { result ≡ NOT_A_PAGE → self.new.pass ≡ self.old.pass }
+        ensures wrote { WriteEnds (host_volume self.old) self.old.pass (Write sector bytes.now)
+            (HasWritten self.old.pass sector bytes.now) result self.new.pass }
     {
         let geometry = self.volume.geometry();
         if sector >= geometry.sectors() {
@@ -95,15 +89,8 @@ impl Host {
     pub(crate) fn write_new(&mut self, sector: u32, bytes: &[u8]) -> u32
         ensures device { self.new.volume ≡ self.old.volume }
         ensures code { result ≡ write_code sector (length bytes.now) result self.old }
-        ensures correct { result ≤ WRITTEN
-            → IsStep (host_volume self.old) self.old.pass
-            (WriteNew sector bytes.now) (Replaced (was_by result)) self.new.pass }
-        ensures wrote { result ≤ WRITTEN
-            → HasWrittenNew self.old.pass sector bytes.now (was_by result) self.new.pass }
-        ensures refused { result ≡ NO_BLOCK
-            → Refused (view_of self.old.pass) (view_of self.new.pass) }
-        ensures same { result ≡ NO_SECTOR → self.new.pass ≡ self.old.pass }
-        ensures same_page { result ≡ NOT_A_PAGE → self.new.pass ≡ self.old.pass }
+        ensures wrote { WriteEnds (host_volume self.old) self.old.pass (WriteNew sector bytes.now)
+            (HasWrittenNew self.old.pass sector bytes.now) result self.new.pass }
     {
         let geometry = self.volume.geometry();
         if sector >= geometry.sectors() {

@@ -1,6 +1,6 @@
 //! Laws of what C sees of a device. Each function has no code: its clauses say where a definition holds and where it doesn't, and what a code or a
 //! report is on small values.
-ghost use Rattle.std.specs.Prelude.{◌≡◌, ℕ, List, [], ◌∷◌, ◌++◌, Option, Some, None, true, false, length, slice_get};
+ghost use Rattle.std.specs.Prelude.{◌≡◌, ◌<◌, ℕ, List, [], ◌∷◌, ◌++◌, Option, Some, None, true, false, length, slice_get};
 ghost use Rattle.ftl_one.specs.declared.one_ftl.OneFtl.{OneFtl};
 ghost use Rattle.ftl_one.specs.Stock.{opening, next};
 ghost use Rattle.ftl_one.specs.Laws.{block_at};
@@ -9,8 +9,8 @@ ghost use Rattle.geometry.specs.declared.answer.Got.TheVariants as got;
 ghost use Rattle.geometry.specs.declared.answer.Was.TheVariants as was;
 ghost use Rattle.geometry.specs.declared.answer.Was.{Was};
 ghost use Rattle.flash_table.specs.Steps.{HasCalled, HasNumber};
-ghost use Rattle.host.specs.Told.{Wrote, WroteNew};
-ghost use Rattle.volume.specs.Correct.{Answer, Asked, Does};
+ghost use Rattle.host.specs.Told.{Refused, Wrote, WroteNew};
+ghost use Rattle.volume.specs.Correct.{Answer, Asked, Does, Replaced};
 ghost use Rattle.geometry.specs.declared.fault.GeometryFault.TheVariants as fault;
 ghost use Rattle.geometry.specs.declared.geometry.Geometry.{Geometry};
 ghost use Rattle.geometry.specs.Geometry.{luns_of, blocks_of, pages_of, words_of, sectors_of, endurance_of, hosts_of, brooms_of};
@@ -29,7 +29,8 @@ ghost use Rattle.broom.specs.Ready.{blocks_of_broom, marks_of, view_of_broom};
 ghost use Rattle.broom.specs.declared.broom.Broom.{Broom};
 ghost use Rattle.broom.specs.Loading.{AllLoaded, HasState, StateLoaded, counts_in};
 ghost use Rattle.broom.specs.Survey.{loads_of};
-ghost use Rattle.broom.specs.Told.{KeepsSurvey, counts_kept, states_kept};
+ghost use Rattle.broom.specs.Handing.{place_of};
+ghost use Rattle.broom.specs.Told.{KeepsSurvey, NextTold, counts_kept, states_kept};
 ghost use Rattle.broom.specs.declared.block_counts.BlockCounts.{BlockCounts};
 ghost use Rattle.flash_rule.specs.BroomPlays.{Loaded};
 ghost use Rattle.geometry.specs.Greedy.{IsClosed as IsMarked};
@@ -41,12 +42,13 @@ ghost use Rattle.exports.specs.declared.reports.StateReport.{StateReport};
 ghost use Rattle.volume.specs.Brooms.{IsFresh};
 ghost use Rattle.volume.specs.Volume.{flash_of, queue_of};
 ghost use Rattle.volume.specs.declared.volume.Volume.{Volume};
+ghost use Rattle.broom.specs.declared.answer.Drain.{Drain};
 ghost use Rattle.broom.specs.declared.answer.Drain.TheVariants as drain;
+ghost use Rattle.broom.specs.declared.turns.Choice.TheVariants as choice;
 ghost use Rattle.broom.specs.declared.answer.Erase.TheVariants as erase;
 ghost use Rattle.exports.specs.declared.handle.Handle.{Handle};
 ghost use Rattle.exports.specs.declared.reports.BlockReport.{BlockReport};
 ghost use Rattle.exports.specs.declared.reports.NumbersReport.{NumbersReport};
-ghost use Rattle.exports.specs.declared.reports.PageReport.{PageReport};
 ghost use Rattle.exports.specs.declared.seat.Holder.{Holder};
 ghost use Rattle.exports.specs.declared.seat.Host.{Host};
 ghost use Rattle.exports.specs.declared.seat.Seat.{Seat};
@@ -63,7 +65,7 @@ ghost use Rattle.exports.specs.One.{write_on, write_new_on, trim_on, read_on, bu
 ghost use Rattle.exports.specs.Opening.{AreFresh, IsClosed, capped, shared_open_code};
 ghost use Rattle.exports.specs.Shared.{BroomCalled, HostCalled, numbers_of, host_volume, sweeper_volume, holder_volume, seen_of, by_host, by_sweeper};
 ghost use Rattle.exports.specs.Shared.{host_code, sweeper_code, read_code, read_buffer, look_code, write_code, trim_code, erased_code};
-ghost use Rattle.exports.specs.Shared.{numbers_code, numbers_report, IsStep, HasWritten, HasWrittenNew, HasTrimmed};
+ghost use Rattle.exports.specs.Shared.{Drains, numbers_code, numbers_report, IsStep, HasWritten, HasWrittenNew, HasTrimmed, WriteEnds};
 ghost use Rattle.exports.specs.Small.{IsSmall, worn_block, worn, zeros};
 ghost use Rattle.exports.specs.Tallies.{empty_tally, erased_by, in_a_word, moved_by, tally_of, with_drain, with_erase};
 ghost use Rattle.flash_rule.specs.declared.facts.Cycle.{Cycle};
@@ -132,6 +134,20 @@ pub fn writes_of_hosts()
         → WroteNew (view_of p) t s bytes was (view_of q) }
 {}
 
+/// How a write of a host has ended, by its code.
+pub fn ends_of_writes()
+    ensures correct { (v : Volume) (p q : Pass) (asked : Asked)
+        → WriteEnds v p asked (λ w r. p ≡ p) 0 q → IsStep v p asked (Replaced was.Empty) q }
+    ensures wrote { (v : Volume) (p q : Pass) (asked : Asked)
+        → WriteEnds v p asked (λ w r. (w ≡ was.Written) × (r ≡ p)) 1 q → q ≡ p }
+    ensures refused { (v : Volume) (p q : Pass) (asked : Asked)
+        → WriteEnds v p asked (λ w r. p ≡ p) 7 q → Refused (view_of p) (view_of q) }
+    ensures sector { (v : Volume) (p q : Pass) (asked : Asked)
+        → WriteEnds v p asked (λ w r. p ≡ p) 3 q → q ≡ p }
+    ensures page { (v : Volume) (p q : Pass) (asked : Asked)
+        → WriteEnds v p asked (λ w r. p ≡ p) 4 q → q ≡ p }
+{}
+
 /// What a call of a broom leaves of a handle: a broom is one at its device, of which the call says something, and any other handle is as it was.
 pub fn calls_of_brooms()
     ensures others { (l : OneFtl) (h : Host) (k : Holder) (y : Option Seat)
@@ -150,6 +166,16 @@ pub fn calls_of_brooms()
     ensures values { (s : Sweeper) → (by_sweeper {X = ℕ} None 4 5 (λ s. 7) ≡ 4)
         × (by_sweeper {X = ℕ} (Some seat.Away) 4 5 (λ s. 7) ≡ 5)
         × (by_sweeper {X = ℕ} (Some (seat.Sweeper s)) 4 5 (λ s. 7) ≡ 7) }
+{}
+
+/// What a broom's drain has done: what a drain by this choice does, nothing at the queue, and of a block of the device alone.
+pub fn drains_of_brooms()
+    ensures told { (v : Volume) (b c : Broom) (a : Drain)
+        → Drains choice.Next v b a c → NextTold b a c }
+    ensures queue { (v : Volume) (b c : Broom) (a : Drain)
+        → Drains choice.Next v b a c → place_of c ≡ place_of b }
+    ensures below { (v : Volume) (b c : Broom)
+        → Drains choice.Next v b (drain.Drained 7 3) c → 7 < blocks_of (numbers_of v) }
 {}
 
 /// What a hold, a call on a held page and a release leave of a handle.

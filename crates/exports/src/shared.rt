@@ -1,12 +1,11 @@
 //! A device that threads share: the calls of C. Each is a call of the device, on the seat of its handle.
 ghost use Rattle.std.specs.Prelude.{◌≡◌, ◌≢◌, ◌<◌, ◌≤◌, ℕ, List, None, Some, is_some, length};
-ghost use Rattle.geometry.specs.Geometry.{blocks_of};
 ghost use Rattle.flash_table.specs.Flash.{view_of, opened_of};
-ghost use Rattle.host.specs.Told.{Searched, Refused};
-ghost use Rattle.broom.specs.Told.{DrainTold, NextTold, SurveyLeft, KeepsSurvey, Unmarks};
-ghost use Rattle.broom.specs.Dead.{DeadTold};
+ghost use Rattle.host.specs.Told.{Searched};
+ghost use Rattle.broom.specs.Told.{KeepsSurvey, Unmarks};
 ghost use Rattle.broom.specs.Erasing.{EraseTold};
-ghost use Rattle.broom.specs.Handing.{HandsNothing, IsBelow};
+ghost use Rattle.broom.specs.Handing.{HandsNothing};
+ghost use Rattle.broom.specs.declared.turns.Choice.TheVariants as choice;
 ghost use Rattle.broom.specs.Restocking.{RestockTold};
 ghost use Rattle.broom.specs.Loading.{AllLoaded, counts_in};
 ghost use Rattle.broom.specs.Ready.{blocks_of_broom};
@@ -25,7 +24,7 @@ ghost use Rattle.exports.specs.Holding.{by_holder, holder_code, hold_code, HoldC
 ghost use Rattle.exports.specs.Holding.{copy_code, copied, word_code, word_read, page_report};
 ghost use Rattle.exports.specs.Shared.{numbers_of, sweeper_volume, by_host, host_code, sweeper_code, HostCalled, BroomCalled, seen_of, read_code, read_buffer};
 ghost use Rattle.exports.specs.Shared.{look_code, write_code, trim_code, erased_code, numbers_code, numbers_report, IsStep, HasWritten};
-ghost use Rattle.exports.specs.Shared.{HasWrittenNew, HasTrimmed, by_sweeper};
+ghost use Rattle.exports.specs.Shared.{Drains, HasWrittenNew, HasTrimmed, WriteEnds, by_sweeper};
 ghost use Rattle.volume.specs.Correct.{Read, Look, Write, WriteNew, Trim, Found, IsWritten, Replaced};
 
 use crate::codes::{
@@ -123,15 +122,8 @@ pub extern "C" fn mintlintel_host_write(
 ) -> u32
     ensures code { result
         ≡ host_code (seat_of handle.old) (write_code sector (length bytes.now) result) }
-    ensures correct { HostCalled (seat_of handle.old) (seat_of handle.new)
-        (λ v p q. result ≤ WRITTEN
-        → IsStep v p (Write sector bytes.now) (Replaced (was_by result)) q) }
     ensures wrote { HostCalled (seat_of handle.old) (seat_of handle.new)
-        (λ v p q. result ≤ WRITTEN → HasWritten p sector bytes.now (was_by result) q) }
-    ensures refused { HostCalled (seat_of handle.old) (seat_of handle.new)
-        (λ v p q. result ≡ NO_BLOCK → Refused (view_of p) (view_of q)) }
-    ensures same { HostCalled (seat_of handle.old) (seat_of handle.new)
-        (λ v p q. (result ≡ NO_SECTOR → q ≡ p) × (result ≡ NOT_A_PAGE → q ≡ p)) }
+        (λ v p q. WriteEnds v p (Write sector bytes.now) (HasWritten p sector bytes.now) result q) }
 {
     handle.typed().on(alloc, |seat| match seat {
         Seat::Host(host) => host.write(sector, bytes),
@@ -149,15 +141,8 @@ pub extern "C" fn mintlintel_host_write_new(
 ) -> u32
     ensures code { result
         ≡ host_code (seat_of handle.old) (write_code sector (length bytes.now) result) }
-    ensures correct { HostCalled (seat_of handle.old) (seat_of handle.new)
-        (λ v p q. result ≤ WRITTEN
-        → IsStep v p (WriteNew sector bytes.now) (Replaced (was_by result)) q) }
     ensures wrote { HostCalled (seat_of handle.old) (seat_of handle.new)
-        (λ v p q. result ≤ WRITTEN → HasWrittenNew p sector bytes.now (was_by result) q) }
-    ensures refused { HostCalled (seat_of handle.old) (seat_of handle.new)
-        (λ v p q. result ≡ NO_BLOCK → Refused (view_of p) (view_of q)) }
-    ensures same { HostCalled (seat_of handle.old) (seat_of handle.new)
-        (λ v p q. (result ≡ NO_SECTOR → q ≡ p) × (result ≡ NOT_A_PAGE → q ≡ p)) }
+        (λ v p q. WriteEnds v p (WriteNew sector bytes.now) (HasWrittenNew p sector bytes.now) result q) }
 {
     handle.typed().on(alloc, |seat| match seat {
         Seat::Host(host) => host.write_new(sector, bytes),
@@ -270,13 +255,7 @@ pub extern "C" fn mintlintel_broom_drain(
     ensures code { result ≡ sweeper_code (seat_of handle.old)
         (λ _. drain_code (drain_by result block.new moved.new)) }
     ensures drained { BroomCalled (seat_of handle.old) (seat_of handle.new)
-        (λ v b c. DrainTold b (drain_by result block.new moved.new) c) }
-    ensures left { BroomCalled (seat_of handle.old) (seat_of handle.new)
-        (λ v b c. SurveyLeft b (drain_by result block.new moved.new) c) }
-    ensures queue { BroomCalled (seat_of handle.old) (seat_of handle.new)
-        (λ v b c. HandsNothing b c) }
-    ensures below { BroomCalled (seat_of handle.old) (seat_of handle.new)
-        (λ v b c. IsBelow (blocks_of (numbers_of v)) (drain_by result block.new moved.new)) }
+        (λ v b c. Drains choice.Survey v b (drain_by result block.new moved.new) c) }
     ensures block { result ≢ DONE → block.new ≡ block.old }
     ensures moved { result ≢ DONE → moved.new ≡ moved.old }
 {
@@ -297,42 +276,12 @@ pub extern "C" fn mintlintel_broom_drain_next(
     ensures code { result ≡ sweeper_code (seat_of handle.old)
         (λ _. drain_code (drain_by result block.new moved.new)) }
     ensures drained { BroomCalled (seat_of handle.old) (seat_of handle.new)
-        (λ v b c. NextTold b (drain_by result block.new moved.new) c) }
-    ensures queue { BroomCalled (seat_of handle.old) (seat_of handle.new)
-        (λ v b c. HandsNothing b c) }
-    ensures below { BroomCalled (seat_of handle.old) (seat_of handle.new)
-        (λ v b c. IsBelow (blocks_of (numbers_of v)) (drain_by result block.new moved.new)) }
+        (λ v b c. Drains choice.Next v b (drain_by result block.new moved.new) c) }
     ensures block { result ≢ DONE → block.new ≡ block.old }
     ensures moved { result ≢ DONE → moved.new ≡ moved.old }
 {
     drained(alloc, handle, block, moved, |seat, out| match seat {
         Seat::Sweeper(sweeper) => sweeper.drain_next(out),
-        _ => WRONG_KIND,
-    })
-}
-
-/// Surveys the device, and drains the closed block with the fewest live pages if it has none: no page moves, so no spare is needed. With 0 its
-/// number is written, and 0 for the pages that moved.
-#[unsafe(no_mangle)]
-pub extern "C" fn mintlintel_broom_drain_dead(
-    alloc: Global,
-    handle: &mut Handle,
-    block: &mut u32,
-    moved: &mut u32,
-) -> u32
-    ensures code { result ≡ sweeper_code (seat_of handle.old)
-        (λ _. drain_code (drain_by result block.new moved.new)) }
-    ensures drained { BroomCalled (seat_of handle.old) (seat_of handle.new)
-        (λ v b c. DeadTold b (drain_by result block.new moved.new) c) }
-    ensures queue { BroomCalled (seat_of handle.old) (seat_of handle.new)
-        (λ v b c. HandsNothing b c) }
-    ensures below { BroomCalled (seat_of handle.old) (seat_of handle.new)
-        (λ v b c. IsBelow (blocks_of (numbers_of v)) (drain_by result block.new moved.new)) }
-    ensures block { result ≢ DONE → block.new ≡ block.old }
-    ensures moved { result ≢ DONE → moved.new ≡ moved.old }
-{
-    drained(alloc, handle, block, moved, |seat, out| match seat {
-        Seat::Sweeper(sweeper) => sweeper.drain_dead(out),
         _ => WRONG_KIND,
     })
 }
@@ -352,6 +301,28 @@ pub extern "C" fn mintlintel_broom_erase(alloc: Global, handle: &mut Handle, blo
 {
     handle.typed().on(alloc, |seat| match seat {
         Seat::Sweeper(sweeper) => sweeper.erase(block),
+        _ => WRONG_KIND,
+    })
+}
+
+/// Surveys the device, and drains the closed block with the fewest live pages if it has none: no page moves, so no spare is needed. With 0 its
+/// number is written, and 0 for the pages that moved.
+#[unsafe(no_mangle)]
+pub extern "C" fn mintlintel_broom_drain_dead(
+    alloc: Global,
+    handle: &mut Handle,
+    block: &mut u32,
+    moved: &mut u32,
+) -> u32
+    ensures code { result ≡ sweeper_code (seat_of handle.old)
+        (λ _. drain_code (drain_by result block.new moved.new)) }
+    ensures drained { BroomCalled (seat_of handle.old) (seat_of handle.new)
+        (λ v b c. Drains choice.Dead v b (drain_by result block.new moved.new) c) }
+    ensures block { result ≢ DONE → block.new ≡ block.old }
+    ensures moved { result ≢ DONE → moved.new ≡ moved.old }
+{
+    drained(alloc, handle, block, moved, |seat, out| match seat {
+        Seat::Sweeper(sweeper) => sweeper.drain_dead(out),
         _ => WRONG_KIND,
     })
 }

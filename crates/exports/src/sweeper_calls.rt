@@ -1,14 +1,13 @@
 //! The calls of a broom, by codes.
 ghost use Rattle.std.specs.Prelude.{◌≡◌, ◌≢◌};
-ghost use Rattle.geometry.specs.Geometry.{blocks_of};
-ghost use Rattle.broom.specs.Told.{DrainTold, NextTold, SurveyLeft, KeepsSurvey, Unmarks};
-ghost use Rattle.broom.specs.Dead.{DeadTold};
+ghost use Rattle.broom.specs.Told.{KeepsSurvey, Unmarks};
 ghost use Rattle.broom.specs.Erasing.{EraseTold};
-ghost use Rattle.broom.specs.Handing.{HandsNothing, IsBelow};
+ghost use Rattle.broom.specs.Handing.{HandsNothing};
 ghost use Rattle.broom.specs.Restocking.{RestockTold};
 ghost use Rattle.broom.specs.declared.answer.Drain.TheVariants as drain;
+ghost use Rattle.broom.specs.declared.turns.Choice.TheVariants as choice;
 ghost use Rattle.exports.specs.Codes.{drain_code, drain_by, erase_by, restock_code, stocked_by};
-ghost use Rattle.exports.specs.Shared.{numbers_of, sweeper_volume, erased_code};
+ghost use Rattle.exports.specs.Shared.{Drains, sweeper_volume, erased_code};
 ghost use Rattle.exports.specs.Tallies.{empty_tally, with_drain, with_erase};
 
 use crate::codes::{
@@ -23,13 +22,8 @@ impl Sweeper {
     pub(crate) fn drain(&mut self, out: &mut Drained) -> u32
         ensures device { self.new.volume ≡ self.old.volume }
         ensures code { result ≡ drain_code (drain_by result out.new.block out.new.moved) }
-        ensures drained { DrainTold self.old.broom
+        ensures drained { Drains choice.Survey (sweeper_volume self.old) self.old.broom
             (drain_by result out.new.block out.new.moved) self.new.broom }
-        ensures left { SurveyLeft self.old.broom
-            (drain_by result out.new.block out.new.moved) self.new.broom }
-        ensures queue { HandsNothing self.old.broom self.new.broom }
-        ensures below { IsBelow (blocks_of (numbers_of (sweeper_volume self.old)))
-            (drain_by result out.new.block out.new.moved) }
         ensures same { result ≢ DONE → out.new ≡ out.old }
     {
         let pages = self.volume.geometry().pages();
@@ -44,11 +38,8 @@ impl Sweeper {
     pub(crate) fn drain_next(&mut self, out: &mut Drained) -> u32
         ensures device { self.new.volume ≡ self.old.volume }
         ensures code { result ≡ drain_code (drain_by result out.new.block out.new.moved) }
-        ensures drained { NextTold self.old.broom
+        ensures drained { Drains choice.Next (sweeper_volume self.old) self.old.broom
             (drain_by result out.new.block out.new.moved) self.new.broom }
-        ensures queue { HandsNothing self.old.broom self.new.broom }
-        ensures below { IsBelow (blocks_of (numbers_of (sweeper_volume self.old)))
-            (drain_by result out.new.block out.new.moved) }
         ensures same { result ≢ DONE → out.new ≡ out.old }
     {
         let pages = self.volume.geometry().pages();
@@ -63,11 +54,8 @@ impl Sweeper {
     pub(crate) fn drain_dead(&mut self, out: &mut Drained) -> u32
         ensures device { self.new.volume ≡ self.old.volume }
         ensures code { result ≡ drain_code (drain_by result out.new.block out.new.moved) }
-        ensures drained { DeadTold self.old.broom
+        ensures drained { Drains choice.Dead (sweeper_volume self.old) self.old.broom
             (drain_by result out.new.block out.new.moved) self.new.broom }
-        ensures queue { HandsNothing self.old.broom self.new.broom }
-        ensures below { IsBelow (blocks_of (numbers_of (sweeper_volume self.old)))
-            (drain_by result out.new.block out.new.moved) }
         ensures same { result ≢ DONE → out.new ≡ out.old }
     {
         let answer = self.volume.drain_dead(&mut self.broom, &mut NoGate);

@@ -24,7 +24,7 @@ use mir.Val.{Val}
 use base.Logic.{SProp, ent, sep, emp, ex}
 use base.Fml.{Lft, Share}
 use types.Logic.{Logic, sem}
-use types.Kit.{raw, by, fsplit3, use0, use1, updating, group, now, show}
+use types.Kit.{Item, raw, by, fsplit3, use0, use1, updating, group, now, show}
 use types.Mut.{open_ref}
 use denote.Follow.{Part, lends_Part}
 use denote.Memory.{mem}
@@ -38,6 +38,11 @@ module _ {M : Type 1} {𝓤 : Ura M} (𝓛 : Logic 𝓤) (R T : RattleType) (F :
 
   abbrev pub Lent : T.Denot → GName → SProp 𝓤
   Lent = Part 𝓛 R T F ℓ κ q b o b o γ (emp 𝓤) back_alone
+
+  -- once it is lent: the reference at the other type, the token of its lifetime, and what the first reference will be
+  abbrev pub lent : T.Denot → Item 𝓤
+  lent y = later (some (λ (δ : GName). ‵ ((MutRef ℓ κ T).own_val (record { ref_ptr = (b, o); ghost_name = δ; now = y }) (vptr b o ∷ []))
+      ⊛ ‵ (flft κ q) ⊛ ‵ (follows R T γ δ F)))
 
   pub lends_as : (x : R.Denot) (y : T.Denot) → ent 𝓤 (sem 𝓛 ((mem R).own_at x b o)) (sem 𝓛 ((mem T).own_at y b o)) → (vs : List Val)
       → ent 𝓤 (sep 𝓤 (sem 𝓛 ((MutRef ℓ κ R).own_val (record { ref_ptr = (b, o); ghost_name = γ; now = x }) vs)) (A.lft κ q)) (H.⇛ (ex 𝓤 (Lent y)))

@@ -1,11 +1,11 @@
 -- `typed` lends the handle at its type, which owns the same two words and the same seat.
-use Rattle.handles.proofs.Lending.{List, [], ◌∷◌, refl, proved, named, vptr, id⊢, GName, ftrue, flft, tables, ‵, ◌⊛◌, some, later, at_ret, ◌$◌, ◌∵◌, !, qed}
+use Rattle.handles.proofs.Lending.{[], ◌∷◌, refl, proved, named, vptr, id⊢, ftrue, flft, tables, ‵, ◌⊛◌, at_ret, ◌$◌, ◌∵◌, !, qed}
 use Rattle.handles.proofs.Lending.{done, move, keep, use2, split, split3, join, fjoin, await, pick, suffices, frame, stop, addr, of_opd, enter, first, blocks}
 use Rattle.handles.proofs.Lending.{exec, returns, alloc_all, pass_all, free_all, look_at, get, through, sets, sets_last, env, no, follows}
 use denote.Memory.{part_of}
-use Rattle.handles.proofs.Lending.{RattleType, MutRef, mut_vals, mut_Tells, plain, mut_ref_to, nothing, Stays, walk_of, says, stay_dropped, Goes-spent_ref}
-use Rattle.handles.proofs.Lending.{ends_at, after, lends_as}
-use Rattle.handles.specs.contracts.handle.Handle as typed_handles
+use Rattle.handles.proofs.Lending.{MutRef, mut_vals, mut_Tells, plain, mut_ref_to, nothing, Stays, walk_of, says, stay_dropped, Goes-spent_ref}
+use Rattle.handles.proofs.Lending.{ends_at, after, lent, lends_as}
+use Rattle.handles.specs.contracts.handle.Handle as typed
 use Rattle.exports.specs.Handles.{typed_of, handle_of}
 use Rattle.exports.specs.contracts.seat.Seat as seats
 use Rattle.exports.specs.contracts.handle.Handle.{the_row as R}
@@ -13,32 +13,22 @@ use Rattle.exports.specs.contracts.handle.Handle.typed as f
 use Rattle.exports.proofs.handle.Handle.typed.Statement.{statement}
 use Rattle.exports.proofs.handle.Handle.typed.Code as code
 
-abbrev T : RattleType
-T = typed_handles.the_row seats.the_row
-
-abbrev taken : Stays f.ended.signature.params f.ended.kept
-taken = (stay_dropped (mut_ref_to (0 ∷ []) tt (plain (λ _. R))) no, tt)
-
 pub typed_spec : {M : Type 1} → statement M
 unfolding part_of
 typed_spec 𝓤 𝓛 𝓜 𝓡 wired =
+    let taken : Stays f.ended.signature.params f.ended.kept = (stay_dropped (mut_ref_to (0 ∷ []) tt (plain (λ _. R))) no, tt) in
     let promised = f.clauses 𝓛 𝓜.mem 𝓡.returns in let walk = walk_of 𝓛 f.ended taken promised in let running = tables 𝓤 𝓛.H 𝓜 𝓡 𝓡.env in
-    proved 𝓛 f.ended taken promised 𝓜 𝓡 (Goes-spent_ref 𝓛 1 (0 ∷ []) tt (plain (λ _. R)), tt)
-    f.Key.name code.function (code.unfolded 𝓤 𝓛.H 𝓜 𝓡 wired)
+    proved 𝓛 f.ended taken promised 𝓜 𝓡 (Goes-spent_ref 𝓛 1 (0 ∷ []) tt (plain (λ _. R)), tt) f.Key.name code.function (code.unfolded 𝓤 𝓛.H 𝓜 𝓡 wired)
     (λ κs. (mut_vals, tt)) (λ κs. (mut_Tells (named 0) κs.0 R, tt)) (λ κs qs bounds args _ are.
     let κ = κs.0 in let q = qs.0 in let handle = args.0 in let b = handle.ref_ptr.0 in let o = handle.ref_ptr.1 in let γ = handle.ghost_name in
-    let given = typed_of handle.now in let begun : walk.Ghost = ((κs, qs, bounds, args, (mut_vals handle, tt)), tt) in
+    let T = typed.the_row seats.the_row in let given = typed_of handle.now in let begun : walk.Ghost = ((κs, qs, bounds, args, (mut_vals handle, tt)), tt) in
     qed 𝓛 (((‵ (flft κ q) ⊛ ‵ ftrue) ⊛ ‵ ((MutRef (named 0) κ R).own_val handle (mut_vals handle)) ⊛ ‵ ftrue) ∷ ‵ ftrue ∷ []) ∵
-    split ! $ split ! $ move ! (2 ∷ []) $ split ! $ keep ! (0 ∷ 2 ∷ []) $
-    enter ! _ _ _ _ _ $ alloc_all ! (λ locals. pass_all ! refl ((tt, tt), tt) $
-    first ! $ blocks ! $
-    sets ! (addr ! (through ! refl (stop !))) refl (tt, tt) $ sets ! (of_opd ! (get ! refl)) refl (tt, tt) $
+    split ! $ split ! $ move ! (2 ∷ []) $ split ! $ keep ! (0 ∷ 2 ∷ []) $ enter ! _ _ _ _ _ $ alloc_all ! (λ locals. pass_all ! refl ((tt, tt), tt) $
+    first ! $ blocks ! $ sets ! (addr ! (through ! refl (stop !))) refl (tt, tt) $ sets ! (of_opd ! (get ! refl)) refl (tt, tt) $
     sets_last ! (addr ! (through ! refl (stop !))) refl (tt, tt) $
     exec ! running.C running.Λ (env code.function.locals locals) (after 1 code.function.body) (at_ret _ (walk.post begun)) $
-    sets ! (of_opd ! (get ! refl)) refl (tt, tt) $
     -- [the handle; the token of its lifetime]
-    use2 𝓛 (later (some (λ (δ : GName). ‵ ((MutRef (named 0) κ T).own_val (record { ref_ptr = (b, o); ghost_name = δ; now = given }) (vptr b o ∷ []))
-    ⊛ ‵ (flft κ q) ⊛ ‵ (follows R T γ δ handle_of))))
+    sets ! (of_opd ! (get ! refl)) refl (tt, tt) $ use2 𝓛 (lent 𝓛 R T handle_of (named 0) κ q b o γ (λ w. id⊢ 𝓤 _) given)
     (lends_as 𝓛 R T handle_of (named 0) κ q b o γ (λ w. id⊢ 𝓤 _) handle.now given (id⊢ 𝓤 _) (mut_vals handle)) $ await ! tt $ pick ! (λ δ.
     returns ! (look_at ! 0 refl) $ free_all ! refl $ keep ! (0 ∷ []) $ split3 ! $
     suffices ! _ (ends_at 𝓛 f.ended taken promised begun (vptr b o) (record { ref_ptr = (b, o); ghost_name = δ; now = given }) (tt, tt) (tt, tt)) $

@@ -1,24 +1,19 @@
 use Rattle.std.proofs.Common.{subst}
 use Rattle.geometry.specs.Geometry.{blocks_of}
-use Rattle.broom.specs.Told.{DrainTold, SurveyLeft}
 use Rattle.broom.specs.Handing.{IsBelow}
+use Rattle.broom.specs.declared.turns.Choice.TheVariants as choice
 use Rattle.volume.specs.declared.volume.Volume.{Volume}
-use Rattle.exports.specs.Shared.{numbers_of, sweeper_volume}
+use Rattle.exports.specs.Shared.{Drains, numbers_of, sweeper_volume}
 use Rattle.exports.proofs.Told.{as_said, drain_has_room}
 use Rattle.exports.proofs.seat.Sweeper.drain.Goals as goal
 
 pub returns-clause-drained : goal.returns-clause-drained
 returns-clause-drained c =
     let told = c.drain-answer.ensures.drained in
-    as_said (λ a. DrainTold c.args.self.now.broom a c.drain-answer.new.broom) _ _ (drain_has_room _ _ _ told) c.hand_out.ensures.answer told
-
-pub returns-clause-left : goal.returns-clause-left
-returns-clause-left c =
-    as_said (λ a. SurveyLeft c.args.self.now.broom a c.drain-answer.new.broom) _ _
-    (drain_has_room _ _ _ c.drain-answer.ensures.drained) c.hand_out.ensures.answer c.drain-answer.ensures.left
-
-pub returns-clause-below : goal.returns-clause-below
-returns-clause-below c =
     let below = subst (λ (v : Volume). IsBelow (blocks_of (numbers_of v)) c.drain-answer.result) c.deref-2.ensures c.drain-answer.ensures.block in
-    as_said (IsBelow (blocks_of (numbers_of (sweeper_volume c.args.self.now)))) _ _
-    (drain_has_room _ _ _ c.drain-answer.ensures.drained) c.hand_out.ensures.answer below
+    as_said (λ a. Drains choice.Survey (sweeper_volume c.args.self.now) c.args.self.now.broom a c.drain-answer.new.broom) _ _
+    (drain_has_room _ _ _ told) c.hand_out.ensures.answer (record {
+      told = (told, c.drain-answer.ensures.left);
+      queue = c.drain-answer.ensures.queue;
+      below = below;
+    })
