@@ -46,9 +46,13 @@ def opened(log):
 def tried(room, name):
     """The goals of a crate that the check leaves open without any answer, and what it printed if it couldn't read the crate."""
     crate = room / "crates" / name
-    for path in files(crate).values():
+    answers = {path: path.read_text() for path in files(crate).values()}
+    for path in answers:
         path.unlink()
     said = tree.said_by(crate, "rt", "check", "--allow-holes", "--jobs", "2")[1]
+    # The crates above, which are tried in the same copy, need them.
+    for path, text in answers.items():
+        path.write_text(text)
     return opened(said), "" if "\nholes=" in said else said
 
 

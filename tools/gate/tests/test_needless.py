@@ -1,6 +1,6 @@
 """What `needless` removes, keeps and records: an answer goes if its goal is not open without it, and so do the lemmas that only it used."""
 
-from gate import needless
+from gate import needless, tree
 from gate.tests import Small
 
 VERSION = "if [ \"$1\" = version ]; then echo 'rattle-kit-1a logic 01'; exit; fi\n"
@@ -60,6 +60,11 @@ class Needless(Small):
         self.assertIn("never tried: none", self.run_main(needless, "--check"))
         self.write("crates/low/proofs/lib/third/Answers.antt", HEAD + HARD)
         self.assertIn("answers of low were not tried", self.run_main(needless, "--check", status=1))
+
+    def test_a_crate_above_finds_the_answers_again(self):
+        with tree.copied(["low"]) as room:
+            needless.tried(room, "low")
+            self.assertEqual((room / "crates/low/proofs/lib/first/Answers.antt").read_text(), HEAD + LEMMA + EASY + HARD)
 
     def test_a_check_that_ends_early_changes_nothing(self):
         self.stand_in(VERSION + "echo 'error: cannot read'; exit 1\n")
