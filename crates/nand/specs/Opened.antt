@@ -104,7 +104,7 @@ HasMarkedFailed {N} shape bad faults old new =
     let now = good_before (bad new.nand) (shape old.nand).blocks in
     faults new.nand fault.Failed % 2 ^ 64 ≡ (faults old.nand fault.Failed + (was - now)) % 2 ^ 64
 
--- the same of a layer that was open
+-- if the layer was open, so many blocks were marked as commands have failed, modulo 2^64
 abbrev pub MarksFailed : {N : Type 0} → (N → Flash) → (N → Shape) → (N → List Bool) → (N → Fault → ℕ) → Durable N → Durable N → Type 0
 MarksFailed flash shape bad faults old new =
     (updates : List Update) → IsOpenLayer flash shape bad old updates → HasMarkedFailed shape bad faults old new
