@@ -25,7 +25,9 @@ class Needed(record.Record):
     """The record of the answers that were left when those that the check doesn't need were removed."""
 
     def having(self):
-        return [name for name in self.used if files(tree.folder(name))]
+        """The crates with answers, but for those of tests, which the check of a crate doesn't prove."""
+        tests = {name for name in self.used if any("#[test]" in path.read_text() for path in tree.sources(name))}
+        return [name for name in self.used if files(tree.folder(name)) and name not in tests]
 
     def sum_of(self, name):
         its = [(function, goal) for function, path in files(tree.folder(name)).items() for goal in ANSWER.findall(path.read_text())]

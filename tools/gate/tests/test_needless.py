@@ -61,6 +61,10 @@ class Needless(Small):
         self.write("crates/low/proofs/lib/third/Answers.antt", HEAD + HARD)
         self.assertIn("answers of low were not tried", self.run_main(needless, "--check", status=1))
 
+    def test_answers_of_tests_are_left_out(self):
+        self.write("crates/low/src/lib.rt", "#[test]\nfn first() {\n}\n")
+        self.assertIn("never tried: none", self.run_main(needless, "--check"))
+
     def test_a_crate_above_finds_the_answers_again(self):
         with tree.copied(["low"]) as room:
             needless.tried(room, "low")

@@ -8,11 +8,3 @@ returns-clause-playable g c =
     let geo = c.args.geometry.now in
     let text = c.in_ok-text.text.items in
     IfOk-weaker c.parse_owned.result (AreCommands (checked geo text)) (All (IsPlayable geo)) (commands_are_playable geo text) c.parse_owned.ensures.each
-
-pub returns-clause-commands : goal.returns-clause-commands
-returns-clause-commands g c =
-    commands_held (g.R.Read.remaining (inner_of c.args.reader.now)) c.in_ok-text.text.items c.args.geometry.now c.parse_owned.result
-    c.in_ok-text.ensures.bytes c.parse_owned.ensures.commands
-
-pub returns-clause-why : goal.returns-clause-why
-returns-clause-why g c = search rules

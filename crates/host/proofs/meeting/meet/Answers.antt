@@ -42,9 +42,3 @@ returns-clause-met c =
     let t = told v v' w _ c.requires.first.rested.pass.role c.requires.second.rested.pass.role looked u _ c.requires.first.rested.alone
     c.requires.second.rested.whole (subst (λ (x : View). Looked x 0 (sector_word c.look-2.result) u) came c.look-2.ensures.looked) in
     subst (λ (x : View). MetTold v v' x u) (sym c.give_back-note.ensures.giver) t
-
-pub returns-clause-first : goal.returns-clause-first
-returns-clause-first c = grind (arith, common_steps)
-
-pub returns-clause-second : goal.returns-clause-second
-returns-clause-second c = grind (arith, common_steps)

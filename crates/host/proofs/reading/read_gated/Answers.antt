@@ -1,8 +1,5 @@
 use Rattle.std.proofs.{Common.arith, Common.rules, lemmas.Grind.common_steps}
 use Rattle.host.proofs.reading.read_gated.Goals as goal
 
-pub returns-clause-pass : goal.returns-clause-pass
-returns-clause-pass g c = grind (arith, common_steps)
-
 pub returns-in_default-clause-answer : goal.returns-in_default-clause-answer
 returns-in_default-clause-answer g c = search rules

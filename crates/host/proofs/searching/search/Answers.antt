@@ -7,9 +7,6 @@ use Rattle.host.proofs.searching.search.Goals as goal
 pub loop-page-init : goal.loop-page-init
 loop-page-init g c = record { search = search_begins c.args.flash.now c.args.pass.now c.requires.pass; pass = c.requires.pass.rested.pass; opened = refl }
 
-pub returns-in_default-clause-searched : goal.returns-in_default-clause-searched
-returns-in_default-clause-searched g c = grind (arith, common_steps)
-
 pub returns-in_default-clause-empty : goal.returns-in_default-clause-empty
 returns-in_default-clause-empty g c =
     let h = c.loop-page.invariant in
@@ -22,13 +19,6 @@ pin_in_time-requires-clause-candidate g c =
     let sight = sighted c.args.flash.now c.args.pass.now c.loop-page.pass
     (view_of c.look-found.new.pass) c.loop-page.tries c.args.sector c.in-Some.page h.search h.pass c.in-Some.ensures.fits c.in-Some.ensures.looked in
     (sight.named.value, sight.named.candidate)
-
-pub pin_in_time-requires-clause-block : goal.pin_in_time-requires-clause-block
-pin_in_time-requires-clause-block g c =
-    let h = c.loop-page.invariant in
-    let sight = sighted c.args.flash.now c.args.pass.now c.loop-page.pass
-    (view_of c.look-found.new.pass) c.loop-page.tries c.args.sector c.in-Some.page h.search h.pass c.in-Some.ensures.fits c.in-Some.ensures.looked in
-    sight.named.block
 
 pub returns-then-pin_in_time-clause-searched : goal.returns-then-pin_in_time-clause-searched
 returns-then-pin_in_time-clause-searched g c =

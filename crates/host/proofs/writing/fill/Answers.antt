@@ -20,12 +20,6 @@ room c =
     let P : OpenBlock → Type 0 = λ x. (x.block < blocks_of (geometry_of f)) × (x.written < pages_of (geometry_of f)) in
     subst P (same_block t.1 (opened c)) (t.2, t.3)
 
-pub page_start-start-requires-clause-block : goal.page_start-start-requires-clause-block
-page_start-start-requires-clause-block c = (room (goal.at.page_start-start-requires-clause-block c).In-Some).0
-
-pub page_start-start-requires-clause-page : goal.page_start-start-requires-clause-page
-page_start-start-requires-clause-page c = (room (goal.at.page_start-start-requires-clause-page c).In-Some).1
-
 pub loop-i-init : goal.loop-i-init
 loop-i-init c o is = filling_none c.args.flash.now c.args.pass.now o c.args.bytes.now c.requires.pass is c.requires.settled
 

@@ -21,11 +21,5 @@ of_victim b n x y (c, r, chose, none, (same, nothing, did, blocks), marks) = (
 pub returns-clause-drained : goal.returns-clause-drained
 returns-clause-drained c b n x y h = of_victim b n x y h
 
-pub returns-clause-none_marked : goal.returns-clause-none_marked
-returns-clause-none_marked c x y h = (h.0.left.0, h.0.left.1.made, h.0.left.1.marks)
-
-pub returns-clause-in_use : goal.returns-clause-in_use
-returns-clause-in_use c v w h = (h.stopped.block, h.stopped.same, h.stopped.low, h.closed)
-
 pub returns-clause-unmarked : goal.returns-clause-unmarked
 returns-clause-unmarked c x y h = (h.0, h.1, h.2.chosen, h.5)

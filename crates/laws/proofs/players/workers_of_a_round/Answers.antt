@@ -1,8 +1,6 @@
 use Rattle.std.proofs.Common.{◌≡◌, List, [], ◌∷◌, ap, arith}
 use Rattle.std.specs.Prelude.{map, slice_index_or}
 use Rattle.flash_rule.specs.declared.view.View.{View}
-use Rattle.flash_table.specs.Flash.{view_of}
-use Rattle.geometry.proofs.Histories.{Begins-trans}
 use Rattle.volume.specs.declared.volume.Volume.{Volume}
 use Rattle.workers.specs.{Meetings.rest_of, Tasks.HavePlayed, Workers.HasPlayed, declared.worker.Worker.Worker}
 use Rattle.laws.proofs.players.workers_of_a_round.Goals as goal
@@ -12,18 +10,6 @@ one_round : (v : Volume) (p q : Worker) (between : List Worker) → HavePlayed (
 one_round v p q [] played rest = absurd (played)
 one_round v p q (r ∷ []) played rest = (r, played.0, ap (λ l. slice_index_or l 0 (rest_of q)) rest)
 one_round v p q (r ∷ s ∷ between) played rest = absurd (played.1)
-
-pub returns-clause-played_none : goal.returns-clause-played_none
-returns-clause-played_none c p q number h = ((h 2 number).mine, ap (λ (v : View). v.erases) (h 2 number).changed)
-
-pub returns-clause-played_no_line : goal.returns-clause-played_no_line
-returns-clause-played_no_line c p q d number h = (h 2 number).plays
-
-pub returns-clause-met : goal.returns-clause-met
-returns-clause-met c v p q h = (
-  Begins-trans (view_of p).seen h.history (view_of q).seen (h.have_met.brought 0 (omega arith)) (h.have_met.given 0 (omega arith)),
-  h.have_met.same 0 (omega arith),
-)
 
 pub returns-clause-has_called : goal.returns-clause-has_called
 returns-clause-has_called c n p q role h = ap (λ (v : View). v.erases) (h.played 2 role).changed

@@ -53,6 +53,3 @@ loop-i-preserved c =
 
 pub returns-clause-ends : goal.returns-clause-ends
 returns-clause-ends c = grind (arith, common_steps)
-
-pub returns-clause-rows : goal.returns-clause-rows
-returns-clause-rows c = grind (arith, common_steps)

@@ -31,16 +31,3 @@ returns-then-index-avoided c i inside differs =
       q.in_order.same,
       in_key_order q.keys.items order q.sorted.places.items q.starts.items place i q.sorted.inverse q.in_order inside inside_order behind,
     )
-
-pub returns : goal.returns
-returns c i inside differs =
-    let q = c.args.self.now in
-    absurd (grind (
-      arith,
-      common_steps,
-      c.loop-place.invariant (get_or q.sorted.places.items i 0),
-      q.sorted.inverse.place_of i,
-      q.sorted.inverse.place_in i,
-      q.sorted.inverse.same,
-      q.in_order.same,
-    ))
