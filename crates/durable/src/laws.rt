@@ -241,7 +241,7 @@ pub fn next_commands()
         → IsNext core (command.Program at 5) → next_page_of core ≡ Some at }
     ensures last_number { (core : Layer) (at : Addr)
         → ¬ IsNext core (command.Program at (2 ^ 64 - 1)) }
-    ensures spare { (core : Layer) → core.blocks ≡ 1
+    ensures spare { (core : Layer) → core.blocks ≡ 2 → ¬ IsFree core.map.items 1
         → ¬ IsNext core (command.Program (record { block = 0; page = 1 }) 5) }
     ensures open { (core : Layer) (at : Addr)
         → next_page_of core ≡ Some at → ¬ IsNext core (command.Erase 0) }
@@ -545,6 +545,8 @@ pub fn promises()
     ensures number { (f : Flash) (core : Layer) (v : Sector) (acked begun : List Update)
         → IsConsistent f core acked begun → f 0 0 ≡ Version (sole 7) 5 v
         → 5 < next_number_of core }
+    ensures never_begun { (f : Flash) (core : Layer) (u : Update)
+        → ¬ IsConsistent f core (u ∷ []) [] }
     ensures open { (f : Flash) (core : Layer) (acked begun : List Update)
         → IsConsistent f core acked begun
         → next_page_of core ≡ Some (record { block = 1; page = 2 }) → f 1 3 ≡ Erased }

@@ -1,14 +1,16 @@
 //! Laws of what C sees of a handle. Each function has no code: its clauses say where a definition holds and where it doesn't, and what a code or a report
 //! is on small values.
-ghost use Rattle.std.specs.Prelude.{◌≡◌, ◌-◌, ◌^◌, ℕ, List, Some, None, true, false};
+ghost use Rattle.std.specs.Prelude.{◌≡◌, ◌≢◌, ◌-◌, ◌^◌, ℕ, List, Some, None, true, false};
 ghost use Rattle.geometry.specs.declared.page_addr.PageAddr.{PageAddr as Addr};
 ghost use Rattle.durable.specs.Flash.{Flash};
 ghost use Rattle.durable.specs.Updates.{Update};
-ghost use Rattle.durable.specs.Device.{Device, device_in};
-ghost use Rattle.durable.specs.Mounting.{next_in, after_in};
-ghost use Rattle.durable.specs.Promise.{IsRecoverable};
+ghost use Rattle.durable.specs.Device.{Device, device_in, next_number_of, next_page_of};
+ghost use Rattle.durable.specs.Mounting.{IsStampOf, next_in, after_in};
+ghost use Rattle.durable.specs.Promise.{IsReadable, IsRecoverable};
+ghost use Rattle.durable.specs.Choice.{IsNext, Spends, StaysOpen, left, number_after};
+ghost use Rattle.durable.specs.Calls.{Acknowledges, IsSafe, SurvivesCut, SurvivesIdleCut};
 ghost use Rattle.durable.specs.Calls.{CountsLosses, DropsTrims, HasNoted, Remounts, TellsLosses, TellsNoFalseLoss};
-ghost use Rattle.durable.specs.Whole.{CutsIdleUnharmed, CutsUnharmed, MountsWhole, StaysWhole};
+ghost use Rattle.durable.specs.Whole.{CutsIdleUnharmed, CutsUnharmed, IsUnharmed, MountsWhole, StaysWhole};
 ghost use Rattle.durable.specs.declared.command.Command.{Command as Next};
 ghost use Rattle.durable.specs.declared.command.Command.TheVariants as command;
 ghost use Rattle.durable.specs.declared.found.Stamp.{Stamp};
@@ -110,6 +112,9 @@ pub fn calls()
     ensures unread { (device : Device) (m : Mount) (f : Flash) → IsBegun device m → HasNoted f m }
     ensures next { (stamp : Stamp) (m n : Mount)
         → IsNoted (Some stamp) m n → next_in n ≡ after_in m }
+    ensures stamped { (f : Flash) (stamp : Stamp) (m n : Mount) → IsNoted (Some stamp) m n
+        → HasNoted f m → next_in m ≡ Some (record { block = 1; page = 2 })
+        → IsStampOf f 1 2 (Some stamp) → HasNoted f n }
     ensures same_device { (m n : Mount) → IsNoted None m n → device_in n ≡ device_in m }
     ensures taken { (stamp : Stamp) (m : Mount) → Accepts (Some stamp) 0 m }
     ensures free { (m : Mount) → FreesBlock 0 m }
@@ -123,14 +128,34 @@ pub fn calls()
     ensures tells { (m : Mount) (l : Layer) → IsMounted m l → TellsLosses m l.core }
     ensures quiet { (m : Mount) (l : Layer) → IsMounted m l → TellsNoFalseLoss m l.core }
     ensures whole { (m : Mount) (l : Layer) → IsMounted m l → MountsWhole m l.core }
+    ensures told_none { (f : Flash) (m : Mount) (l : Layer) (acked begun : List Update)
+        → IsMounted m l → HasNoted f m → IsReadable f (device_in m) acked begun
+        → IsUnharmed f (device_in m) → layer_losses l ≡ 0 }
     ensures unharmed { (out : CommandReport) (l : Layer) → IsCommandFor (sole 7) out l
         → (c : Next) × (out ≡ report_of 7 c) × CutsUnharmed l.core (sole 7) c }
     ensures idle_unharmed { (out : CommandReport) (l : Layer)
         → IsCommandFor (sole 7) out l → CutsIdleUnharmed l.core }
     ensures stays { (did : CommandReport) (l k : Layer) → IsDone (sole 7) did l k
         → (c : Next) × (did ≡ report_of 7 c) × StaysWhole l.core (sole 7) c k.core }
-    ensures keeps { (did : CommandReport) (l k : Layer)
-        → IsDone (sole 7) did l k → layer_losses k ≡ layer_losses l }
+    ensures safe { (out : CommandReport) (l : Layer) → IsCommandFor (sole 7) out l
+        → (c : Next) × (out ≡ report_of 7 c) × IsNext l.core c × IsSafe l.core c
+        × SurvivesCut l.core (sole 7) c }
+    ensures idle_cut { (out : CommandReport) (l : Layer)
+        → IsCommandFor (sole 7) out l → SurvivesIdleCut l.core }
+    ensures not_refused { (out : CommandReport) (l : Layer) → IsCommandFor (sole 7) out l
+        → (c : Next) × (out ≡ report_of 7 c) × (c ≢ command.Refused) }
+    ensures acknowledges { (did : CommandReport) (l k : Layer) → IsDone (sole 7) did l k
+        → (c : Next) × (did ≡ report_of 7 c) × IsNext l.core c
+        × Acknowledges l.core (sole 7) c k.core }
+    ensures goes_on { (did : CommandReport) (l k : Layer) → IsDone (sole 7) did l k
+        → (c : Next) × (did ≡ report_of 7 c)
+        × Spends c (layer_device l).pages (left l.core) (left k.core)
+        × StaysOpen c (layer_device l).pages (next_page_of k.core) }
+    ensures numbered { (did : CommandReport) (l k : Layer) → IsDone (sole 7) did l k
+        → (c : Next) × (did ≡ report_of 7 c)
+        × (next_number_of k.core ≡ number_after c (next_number_of l.core)) }
+    ensures keeps { (did : CommandReport) (l k : Layer) → IsDone (sole 7) did l k
+        → (layer_losses k ≡ layer_losses l) × (layer_device k ≡ layer_device l) }
     ensures beyond { (l : Layer) → (layer_device l).sectors ≡ 8 → IsNewestPageOf 8 None l }
     ensures reported { (out : CommandReport) (l : Layer)
         → IsCommandFor (sole 7) out l → (c : Next) × (out ≡ report_of 7 c) }

@@ -31,9 +31,9 @@ block_with r entries = record { role = r; erases = 0; entries = entries }
 abbrev pub stock_with : List stock.Block → Stock
 stock_with blocks = record { blocks = blocks; programs = 0; copies = 0; erases = 0 }
 
--- a device of two blocks, with these LUNs and this endurance
-pub record HasTwoBlocks (g : Geometry) (l e : ℕ) : Type 0 where
-  pub blocks : blocks_of g ≡ 2
+-- a device of three blocks, with these LUNs and this endurance
+pub record HasThreeBlocks (g : Geometry) (l e : ℕ) : Type 0 where
+  pub blocks : blocks_of g ≡ 3
   pub luns : luns_of g ≡ l
   pub endurance : endurance_of g ≡ e
 
@@ -41,13 +41,13 @@ pub record HasTwoBlocks (g : Geometry) (l e : ℕ) : Type 0 where
 abbrev pub erased_once : Role → stock.Block
 erased_once r = record { role = r; erases = 1; entries = [] }
 
--- a closed block with a live page of sector 0 and a dead one, and a spare
+-- a closed block with a live page of sector 0 and a dead one, a spare, and a retired block
 abbrev pub half_live : Stock
-half_live = stock_with (block_with role.Closed (live 0 ∷ dead 0 ∷ []) ∷ block_with role.Spare [] ∷ [])
+half_live = stock_with (block_with role.Closed (live 0 ∷ dead 0 ∷ []) ∷ block_with role.Spare [] ∷ block_with role.Retired [] ∷ [])
 
 -- the same stock after its collection: the live page is in the other block
 abbrev pub half_moved : Stock
-half_moved = stock_with (erased_once role.Spare ∷ block_with role.Open (live 0 ∷ []) ∷ [])
+half_moved = stock_with (erased_once role.Spare ∷ block_with role.Open (live 0 ∷ []) ∷ block_with role.Retired [] ∷ [])
 
 -- a closed block with a dead page and a live one, whose sectors are 7 and 8, and a spare
 abbrev pub before_write : Stock

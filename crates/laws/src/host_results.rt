@@ -37,6 +37,8 @@ pub fn records_of_hosts()
     ensures stood { (v w x y : View) (m : MapWord) → StoodTold v w m x y
         → (x.copy ≡ Some (carried w)) × (y.copy ≡ Some (carried v)) × GoesOnFrom v w
         × GoesOnFrom w v × Begins w.named y.named }
+    ensures stood_once { (v w x y : View) (m : MapWord) → StoodTold v w m x y
+        → Once v.programs × Once w.programs × Disjoint v.programs w.programs }
     ensures brooms { (v w x y : View) → BroomsMet v w x y → (x.copy ≡ Some (carried w))
         × (y.copy ≡ Some (carried x)) × GoesOnFrom v w × GoesOnFrom w v }
     ensures brooms_once { (v w x y : View) → BroomsMet v w x y → (¬ (v.role ≡ w.role))

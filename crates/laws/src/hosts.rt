@@ -40,9 +40,9 @@ pub fn meetings_of_players()
         → x.programs ≡ m ∷ [] → ¬ (y.programs ≡ m ∷ []) }
     ensures one_player { (v x y : View) → ¬ MetTold v v x y }
     ensures held { (v w x y : View) (m : MapWord) → MetHolding v w m x y
-        → HasNoErase w.erases m × Begins v.seen y.seen }
+        → HasNoErase w.erases m × Begins v.seen y.seen × Begins w.seen y.seen }
     ensures stood { (v w x y : View) (m : MapWord) → StoodTold v w m x y
-        → HasNoErase w.erases m × Begins v.seen y.seen }
+        → HasNoErase w.erases m × Begins v.seen y.seen × Begins w.seen y.seen }
     ensures erases { (v w x y : View) → BroomsMet v w x y
         → Disjoint x.erases y.erases × Disjoint x.programs y.programs }
     ensures heard { (v w : View) → (h : HasHeard v w)
@@ -51,5 +51,7 @@ pub fn meetings_of_players()
     ensures mapped { (v w : View) (m : MapWord) → (h : HasHeard v w) → h.found ≡ Some m
         → (x : List ℕ) × (held v.numbers.sectors w.seen 0 ≡ Some x) }
     ensures brooms_seen { (v w x y : View) → BroomsMet v w x y
-        → Begins w.seen x.seen × Begins x.seen y.seen }
+        → Begins v.seen x.seen × Begins w.seen x.seen × Begins x.seen y.seen }
+    ensures brooms_heard { (v w x y : View)
+        → BroomsMet v w x y → HasHeard v x × HasHeard w y }
 {}

@@ -7,7 +7,8 @@ ghost use Rattle.geometry.specs.{Geometry.hosts_of, Geometry.sectors_of, Geometr
 ghost use Rattle.geometry.specs.declared.answer.Was.TheVariants as was;
 ghost use Rattle.broom.specs.{Ends.folded_view, Ready.blocks_of_broom, Ready.view_of_broom, declared.broom.Broom.Broom};
 ghost use Rattle.host.specs.Ready.{IsReady};
-ghost use Rattle.rounds.specs.{Answers.IsCursorOf, Answers.first_place, Answers.place_of, Answers.said_in, Lines.Said, Lines.kind_of, Lines.said};
+ghost use Rattle.rounds.specs.Answers.{HasSpaceFor, IsCursorOf, first_place, place_of, said_in};
+ghost use Rattle.rounds.specs.Lines.{Said, kind_of, said};
 ghost use Rattle.rounds.specs.{Merging.HaveAnswers, Pages.bytes_in, Pages.bytes_of, Plans.ends_of, Plans.places_for, Rows.AreAtOneHistory, Rows.answers_by};
 ghost use Rattle.rounds.specs.declared.{answer.Answer.Answer, answer_list.Answers.Answers};
 ghost use Rattle.rounds.specs.declared.answer.Kind.TheVariants as kind;
@@ -64,6 +65,9 @@ pub fn workers_of_a_round()
     ensures within { (v : Volume) (ls : List Command) (p : Pass) (a : Answers) (b : List ℕ) (s : Said) → said_in a ≡ s ∷ [] → ¬ IsAble v ls p [] a b }
     ensures paged { (v : Volume) (ls : List Command) (p : Pass) (a : Answers)
         → words_of (geometry_of (flash_of v)) ≡ 1 → ¬ IsAble v ls p [] a (7 ∷ []) }
+    ensures space { (v : Volume) (ls : List Command) (p : Pass) (ps : List ℕ) (a : Answers)
+        (b : List ℕ) → IsAble v ls p ps a b → said_in a ≡ []
+        → HasSpaceFor a (lines_at ls ps) }
     ensures is_ready { (v : Volume) (ls : List Command) (p : Pass) (a : Answers) (b : List ℕ)
         → IsAble v ls p [] a b → IsReady (flash_of v) p }
     ensures played_none { (p q : Pass) → HasNumber 2 p
@@ -103,6 +107,8 @@ pub fn workers_of_a_round()
     ensures round { (v : Volume) (p q : Worker) → RoundPlayed v 9 5 (p ∷ []) (q ∷ [])
         → (r : Worker) × HasPlayed (record { end = 5; patience = 9 }) p r
         × (rest_of q ≡ rest_of r) }
+    ensures round_met { (v : Volume) (ps qs : List Worker) → (h : RoundPlayed v 9 5 ps qs)
+        → PassesMet v (passes_of h.between) (passes_of qs) }
     ensures no_round { (v : Volume) (p : Worker) → ¬ RoundPlayed v 9 5 (p ∷ []) [] }
     ensures ended { (v : Volume) (trace : List Command) (ps qs : List Worker)
         → HasBegun v trace (ends_of trace) ps → EndsRun v 9 (ends_of trace) ps qs

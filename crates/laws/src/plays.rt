@@ -1,17 +1,19 @@
 //! Laws of what each kind of step on the table records.
-ghost use Rattle.std.specs.Prelude.{◌≡◌, ◌+◌, ◌<◌, ◌≤◌, ℕ, List, [], ◌∷◌, ◌++◌, Some, None, length};
+ghost use Rattle.std.specs.Prelude.{◌≡◌, ◌+◌, ◌*◌, ◌<◌, ◌≤◌, ℕ, List, [], ◌∷◌, ◌++◌, Some, None, length};
 ghost use Rattle.atomic_table.specs.Table.{State, Step};
 ghost use Rattle.flash_rule.specs.BroomPlays.{CanInspect, Inspected, inspect_told, inspected_in, CanClaim, CanCondemn, CanDrain, CanGetStamp, CanMove};
 ghost use Rattle.flash_rule.specs.BroomPlays.{CanRenew, CanRetire, CanWipe, Loaded, Named, cycle_of, broom_look_told, claim_told, condemn_told, drain_told};
 ghost use Rattle.flash_rule.specs.BroomPlays.{freed_told, kept_told, move_told, owned_as, retired_told, source_told, stamp_told, state_told, wipe_told};
-ghost use Rattle.flash_rule.specs.Plays.{CanClose, CanCount, CanPlace, CanPut, Looked, Sitter, close_told, count_told, get_told, look_told, new_told};
+ghost use Rattle.flash_rule.specs.Plays.{CanClose, CanCount, CanPlace, CanPut, Looked, Met, Sitter, close_told, count_told, get_told, look_told, new_told};
 ghost use Rattle.flash_rule.specs.Plays.{next_page, Tested, pin_told, put_told, take_told, test_told, trim_told, unpin_told, words_in, write_told};
 ghost use Rattle.flash_rule.specs.{Seats.Ruled, Views.without, World.blank_word, World.data_word, declared.facts.Owned.Owned, declared.facts.Source.Source};
-ghost use Rattle.flash_rule.specs.declared.{facts.Work.Work, view.View.View};
+ghost use Rattle.flash_rule.specs.Views.{AreOfHosts, calls_of, sum_of};
+ghost use Rattle.flash_rule.specs.declared.{carried.Carried.Carried, facts.Work.Work, view.View.View};
 ghost use Rattle.flash_rule.specs.declared.facts.Name.TheVariants as name;
 ghost use Rattle.flash_rule.specs.declared.facts.Pin.TheVariants as pin;
 ghost use Rattle.flash_rule.specs.declared.facts.Role.TheVariants as seat;
-ghost use Rattle.geometry.specs.{History.Trim, History.Write, History.WriteNew, History.held, Limits.numbers, MapWords.FitsMap, MapWords.map_word};
+ghost use Rattle.geometry.specs.History.{Begins, Trim, Write, WriteNew, held};
+ghost use Rattle.geometry.specs.{Limits.numbers, MapWords.FitsMap, MapWords.map_word};
 ghost use Rattle.geometry.specs.{PinWords.FitsPin, PinWords.pin_word, TableOrder.page_index, TableOrder.pin_index, declared.map_word.MapWord.MapWord};
 ghost use Rattle.geometry.specs.declared.{map_word.TheConstants.UNMAPPED, pin_word.PinWord.PinWord};
 ghost use Rattle.geometry.specs.declared.pin_word.Phase.TheVariants as phase;
@@ -25,6 +27,17 @@ pub fn steps_of_passes()
         × (after.0.looks ≡ me.0.looks + 1) }
     ensures looked { (v w : View) → Looked v 3 0 w → (w.pin ≡ pin.Clear)
         × (w.mine ≡ v.mine) × (w.programs ≡ v.programs) }
+    ensures looked_page { (v w : View) (n : ℕ) → Looked v 3 n w → ¬ (n ≡ 0)
+        → (m : MapWord) × (x : List ℕ) × (n ≡ map_word m) × FitsMap m
+        × (held v.numbers.sectors w.seen 3 ≡ Some x) × (w.pin ≡ pin.Candidate m x) }
+    ensures looked_later { (v w : View) (n : ℕ) → Looked v 3 n w
+        → Begins v.seen w.seen × AreOfHosts v.numbers w.seen
+        × (sum_of v.known ≤ sum_of w.known)
+        × (sum_of w.known ≤ v.numbers.blocks * (2 * v.numbers.endurance)) }
+    ensures looked_met { (v w : View) (n : ℕ) (c : Carried)
+        → Looked v 3 n w → v.copy ≡ Some c → Met w c }
+    ensures looked_own { (v w : View) (n : ℕ) → Looked v 3 n w
+        → v.role ≡ seat.Player (name.Pass 2) → calls_of 2 w.seen ≡ w.mine }
     ensures write { (st : Step (Unit {0})) (me after : Sitter) (n : ℕ) (m : MapWord) (x : List ℕ)
         → write_told st me n after
         → me.0.role ≡ seat.Player (name.Pass 2) → st.first ≡ map_word m
@@ -86,6 +99,19 @@ pub fn moves_of_brooms()
     ensures named { (v w : View) (x : Source) → v.source ≡ Some x → x.stamp ≡ 3
         → Named v 3 0 w → ¬ (0 ≡ map_word x.page) → (w.source ≡ None)
         × (w.cleared ≡ v.cleared + 1) × (w.mine ≡ v.mine) }
+    ensures named_page { (v w : View) (n : ℕ) → Named v 3 n w → ¬ (n ≡ 0)
+        → (m : MapWord) × (x : List ℕ) × (n ≡ map_word m) × FitsMap m
+        × (held v.numbers.sectors w.seen 3 ≡ Some x) }
+    ensures named_later { (v w : View) (n : ℕ)
+        → Named v 3 n w → Begins v.seen w.seen × AreOfHosts v.numbers w.seen }
+    ensures named_live { (v w : View) (x : Source) (y : List ℕ)
+        → v.source ≡ Some x → x.stamp ≡ 3
+        → Named v 3 (map_word x.page) w → held v.numbers.sectors w.seen 3 ≡ Some y
+        → (w.source ≡ Some (record x { value = Some y })) × (w.cleared ≡ v.cleared) }
+    ensures named_other { (v w : View) (x : Source) (n : ℕ)
+        → v.source ≡ None → Named v 3 n w → (w.source ≡ None) × (w.cleared ≡ v.cleared) }
+    ensures named_met { (v w : View) (n : ℕ) (c : Carried)
+        → Named v 3 n w → v.copy ≡ Some c → Met w c }
     ensures stamp { (st : Step (Unit {0})) (me after : Sitter) (o : Owned)
         → me.0.numbers.sectors ≡ 6 → stamp_told st me 6 after → CanGetStamp me.0 o
         → st.word ≡ page_index me.0.numbers o.block me.0.cleared + me.0.numbers.words
@@ -129,6 +155,9 @@ pub fn steps_of_brooms()
     ensures state { (st : Step (Unit {0})) (me after : Sitter) (n : ℕ)
         → state_told st me n after → 3 < me.0.numbers.blocks
         → st.word ≡ pin_index me.0.numbers 3 → (after.1 ≡ me.1) × Loaded me.0 3 n after.0 }
+    ensures loaded_state { (v w : View) (n : ℕ) → (h : Loaded v 3 n w)
+        → FitsPin h.state × (h.state.generation < v.numbers.endurance)
+        × (h.state.written ≤ v.numbers.pages) × (n ≡ pin_word h.state) }
     ensures loaded { (v w : View) (n : ℕ) → (h : Loaded v 3 n w)
         → h.state.phase ≡ phase.Drained → h.state.readers ≡ 1 → (w.busy ≡ v.busy ++ 3 ∷ [])
         × (w.stale ≡ v.stale) × (w.loaded ≡ v.loaded ++ (3, n) ∷ []) }

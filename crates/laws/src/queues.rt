@@ -13,11 +13,17 @@ pub fn numbers_put_and_taken()
         → w.puts ≡ 5 ∷ 7 ∷ [] → w.own_puts ≡ 0 ∷ [] → ¬ DidPut v 7 w }
     ensures took { DidTake (sees 9 (5 ∷ []) 1) 6 (sees_own 9 (5 ∷ 6 ∷ []) 2 [] (1 ∷ [])) }
     ensures again { (v w : Sight) → v.takes ≡ 1 → w.puts ≡ 5 ∷ 6 ∷ [] → ¬ DidTake v 5 w }
+    ensures took_unseen { (v w : Sight) → v.puts ≡ 4 ∷ []
+        → w.puts ≡ 5 ∷ 6 ∷ [] → ¬ DidTake v 6 w }
     ensures uncounted { (v w : Sight) → v.takes ≡ 1
         → w.takes ≡ 1 → w.puts ≡ 5 ∷ 6 ∷ [] → ¬ DidTake v 6 w }
     ensures too_large { (v w : Sight) → v.limit ≡ 6 → ¬ DidTake v 6 w }
     ensures puts_counted { (p q : QueuePass) → WasPut p 7 q
         → length (sight_of q).own_puts ≡ length (sight_of p).own_puts + 1 }
+    ensures put_uncounted { (p q : QueuePass) → WasPut p 7 q
+        → (fulls_of q ≡ fulls_of p) × (empties_of q ≡ empties_of p) }
+    ensures take_uncounted { (p q : QueuePass) → WasTaken p 7 q
+        → (fulls_of q ≡ fulls_of p) × (empties_of q ≡ empties_of p) }
     ensures takes_counted { (p q : QueuePass) → WasTaken p 7 q
         → length (sight_of q).own_takes ≡ length (sight_of p).own_takes + 1 }
 {}
@@ -38,4 +44,8 @@ pub fn numbers_in_a_queue()
         → empties_of p ≡ 2 ^ 63 - 1 → empties_of q ≡ 2 ^ 63 }
     ensures did_nothing { (limit : ℕ) (p q : QueuePass)
         → WasFull limit p q → sight_of q ≡ sight_of p }
+    ensures took_nothing { (p q : QueuePass) → WasEmpty p q → sight_of q ≡ sight_of p }
+    ensures full_stood { (limit : ℕ) (p q : QueuePass)
+        → WasFull limit p q → StoodSome (sight_of p) limit }
+    ensures empty_stood { (p q : QueuePass) → WasEmpty p q → StoodSome (sight_of p) 0 }
 {}

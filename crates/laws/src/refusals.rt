@@ -1,5 +1,5 @@
 //! Laws of the writes that a run refuses.
-ghost use Rattle.std.specs.Prelude.{◌≡◌, ℕ, List, [], ◌∷◌, ◌++◌, None, Some, codes, decimal, false, true};
+ghost use Rattle.std.specs.Prelude.{◌≡◌, ℕ, List, [], ◌∷◌, ◌++◌, None, Some, Ok, Err, codes, decimal, false, true};
 ghost use Rattle.answers.specs.{Replies.is_worn_reply, Streams.Passage};
 ghost use Rattle.answers.specs.declared.reply.Reply.TheVariants as reply;
 ghost use Rattle.geometry.specs.declared.geometry.Geometry.{Geometry};
@@ -9,7 +9,7 @@ ghost use Rattle.player.specs.declared.refusal.Refusal.TheVariants as refusal;
 ghost use Rattle.player.specs.declared.stop.Stop.TheVariants as stop;
 ghost use Rattle.rounds.specs.declared.answer.Kind.TheVariants as kind;
 ghost use Rattle.runs.specs.{Playing.refused_at, Refusals.IsRefusedCount, Refusals.refused_before, Refusals.refused_by_workers};
-ghost use Rattle.trace.specs.declared.commands.Command.{Command};
+ghost use Rattle.trace.specs.{Trace.commands_of, declared.commands.Command.Command, declared.fault.TraceFault.TraceFault};
 ghost use Rattle.trace.specs.declared.commands.Op.TheVariants as op;
 ghost use Rattle.laws.specs.Rounds.{meeting, plain_line, rows_with, says};
 
@@ -38,6 +38,10 @@ pub fn refused_writes()
     ensures reasons { (refusal_by 0 ≡ refusal.Worn) × (refusal_by 1 ≡ refusal.Full) }
     ensures one_thread { (g : Geometry) (given : Options) (bytes : List ℕ) (o l : Passage) (n : ℕ)
         → IsOneRun 0 g given (record { failures = 0; bytes = Some bytes }) o l n → IsRefusedCount g bytes n }
+    ensures unread { (g : Geometry) (bytes : List ℕ) (t : TraceFault) (n : ℕ)
+        → commands_of bytes g ≡ Err t → ¬ IsRefusedCount g bytes n }
+    ensures none { (g : Geometry) (bytes : List ℕ) (n : ℕ)
+        → commands_of bytes g ≡ Ok [] → IsRefusedCount g bytes n → n ≡ 0 }
     ensures wanted { (given : Options) → given.all_written ≡ true → counted_refusals given 7 ≡ 7 }
     ensures unwanted { (given : Options)
         → given.all_written ≡ false → counted_refusals given 7 ≡ 0 }

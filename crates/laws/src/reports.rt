@@ -8,11 +8,15 @@ ghost use Rattle.erase_queue.specs.Queue as queue;
 ghost use Rattle.erase_queue.specs.declared.{pass.QueuePass.QueuePass, queue.EraseQueue.EraseQueue};
 ghost use Rattle.erase_queue.specs.declared.sight.Role.TheVariants as queue_role;
 ghost use Rattle.flash_rule.specs.declared.facts.Source.{Source};
+ghost use Rattle.flash_rule.specs.Views.{AreOfHosts};
+ghost use Rattle.flash_rule.specs.declared.facts.Name.TheVariants as name;
+ghost use Rattle.flash_table.specs.{Flash.IsBroomOf, Flash.geometry_of, declared.pass.OpenBlock.OpenBlock};
 ghost use Rattle.flash_table.specs.{Flash.broom_view, Flash.own_blocks, Owning.owned_of, declared.broom_seat.BroomSeat.BroomSeat, declared.flash.Flash.Flash};
 ghost use Rattle.flash_table.specs.declared.broom_seat.Reclaiming.TheVariants as reclaiming;
 ghost use Rattle.ftl_one.specs.{Blocks.blocks_in, Stock.Stock, Stock.next, Store.entries_of, Store.erases_of, declared.store.Store.Store};
 ghost use Rattle.ftl_one.specs.declared.role.Role.TheVariants as role;
-ghost use Rattle.geometry.specs.{Faults.fault_name, Geometry.blocks_of, Geometry.hosts_of, History.Trim, PinWords.phase_bits, Sectors.was_of};
+ghost use Rattle.geometry.specs.Geometry.{blocks_of, hosts_of, pages_of};
+ghost use Rattle.geometry.specs.{Faults.fault_name, History.Trim, PinWords.phase_bits, Sectors.was_of};
 ghost use Rattle.geometry.specs.declared.geometry.Geometry.{Geometry};
 ghost use Rattle.geometry.specs.declared.answer.Was.TheVariants as was;
 ghost use Rattle.geometry.specs.declared.fault.GeometryFault.TheVariants as geometry_fault;
@@ -71,9 +75,10 @@ pub fn texts_of_a_stock()
         ≡ codes "end,1,2,3\n" }
     ensures block { block_line (stock_with (block_with role.Retired (live 0 ∷ []) ∷ [])) 0
         ≡ codes "0,0,1,1\n" }
-    ensures wear { (g : Geometry) → blocks_of g ≡ 1
-        → wear_text g (stock_with (block_with role.Open [] ∷ []))
-        ≡ wear_names ++ codes "0,0,0,0\n" }
+    ensures wear { (g : Geometry) → blocks_of g ≡ 3
+        → wear_text g (stock_with
+        (block_with role.Open [] ∷ block_with role.Free [] ∷ block_with role.Spare [] ∷ []))
+        ≡ wear_names ++ codes "0,0,0,0\n1,0,0,0\n2,0,0,0\n" }
     ensures step { (g : Geometry) (s t : Stock) → next g s (Trim 0 5) ≡ Some t
         → (stock_after g s (plain_line 1 op.Trim 5) ≡ t)
         × (is_refused g s (plain_line 1 op.Trim 5) ≡ false) }
@@ -116,6 +121,8 @@ pub fn stops_of_a_run()
     ensures failed { (g : Geometry)
         → ¬ ExplainsTrace (record { line = 1; kind = fault.Hex }) g (fails [] []) }
     ensures appends { AppendsBeginning (Some (1 ∷ [])) (Some (1 ∷ 2 ∷ [])) (2 ∷ 3 ∷ []) }
+    ensures appends_other { ¬ AppendsBeginning (Some (1 ∷ [])) (Some (1 ∷ 3 ∷ [])) (2 ∷ 3 ∷ []) }
+    ensures overwrites { ¬ AppendsBeginning (Some (1 ∷ [])) (Some (2 ∷ [])) (2 ∷ 3 ∷ []) }
     ensures streams { (known : ℕ → Option (List ℕ)) (v w : Watched ℕ)
         → ((over known v w).before.failures ≡ failures_of v)
         × ((over known v w).after.bytes ≡ known (inner_of w)) }
@@ -125,6 +132,16 @@ pub fn stops_of_a_run()
         → ¬ ready.IsRested f s) }
     ensures lent { (f : Flash) (s : BroomSeat)
         → (broom_view s).whole ≡ false → ¬ ready.IsRested f s }
+    ensures visited { (f : Flash) (s : BroomSeat)
+        → (broom_view s).guest ≡ Some (name.Pass 1) → ¬ ready.IsRested f s }
+    ensures full { (f : Flash) (s : BroomSeat) (o : OpenBlock)
+        → o.written ≡ pages_of (geometry_of f) → (own_blocks s).destination ≡ Some o
+        → ¬ ready.IsRested f s }
+    ensures used { (f : Flash) (s : BroomSeat) (o : OpenBlock)
+        → o.written ≡ 1 → (own_blocks s).spare ≡ Some o → ¬ ready.IsRested f s }
+    ensures of_device { (f : Flash) (s : BroomSeat) → ready.IsRested f s → IsBroomOf f s
+        × ready.IsFiled (broom_view s) (own_blocks s)
+        × AreOfHosts (broom_view s).numbers (broom_view s).seen }
     ensures ready { (f : Flash) (b : Broom) → ready.IsReady f b
         → ready.IsRested f (ready.seat_of b) }
     ensures place { (q : EraseQueue) (p : QueuePass) → queue.IsPassOf q p

@@ -1,6 +1,7 @@
 //! Laws of the views that a queue and a table begin with.
 ghost use Rattle.std.specs.Prelude.{◌≡◌, ◌+◌, ℕ, List, [], ◌∷◌, ◌++◌, Some, None, true, false};
-ghost use Rattle.erase_queue.specs.{Queue.IsNewPass, Queue.empties_of, Queue.fulls_of, Queue.limit_of, Queue.sight_of, declared.pass.QueuePass.QueuePass};
+ghost use Rattle.erase_queue.specs.Queue.{IsNewPass, IsPassOf, empties_of, fulls_of, limit_of, sight_of};
+ghost use Rattle.erase_queue.specs.declared.pass.QueuePass.{QueuePass};
 ghost use Rattle.erase_queue.specs.declared.queue.EraseQueue.{EraseQueue};
 ghost use Rattle.erase_queue.specs.Rule as queue;
 ghost use Rattle.erase_queue.specs.declared.sight.Role.TheVariants as queue_role;
@@ -25,6 +26,7 @@ pub fn sights_of_a_queue()
         × (queue.gone.limit ≡ 0) × (queue.gone.puts ≡ []) }
     ensures new { (q : EraseQueue) (p : QueuePass) → IsNewPass q p
         → (sight_of p ≡ sees (limit_of q) [] 0) × (fulls_of p ≡ 0) × (empties_of p ≡ 0) }
+    ensures new_here { (q : EraseQueue) (p : QueuePass) → IsNewPass q p → IsPassOf q p }
     ensures used { (q : EraseQueue) (p : QueuePass) → empties_of p ≡ 1 → ¬ IsNewPass q p }
     ensures nothing { queue.Ruled [] [] }
     ensures nobody_put { ¬ queue.Ruled (5 ∷ []) [] }

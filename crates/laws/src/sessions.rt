@@ -120,6 +120,12 @@ pub fn options_of_a_session()
         → (one_of (codes "quiet") (rows_given w) ≡ None → given.quiet ≡ false)
         × (one_of (codes "quiet") (rows_given w) ≡ Some (codes "true") → given.quiet ≡ true)
         × (one_of (codes "quiet") (rows_given w) ≡ Some (codes "false") → given.quiet ≡ false) }
+    ensures all_written { (w : List Text) (given : Options) → AreOptionsOf w given
+        → (one_of (codes "all-written") (rows_given w) ≡ None → given.all_written ≡ false)
+        × (one_of (codes "all-written") (rows_given w) ≡ Some (codes "true")
+        → given.all_written ≡ true)
+        × (one_of (codes "all-written") (rows_given w) ≡ Some (codes "false")
+        → given.all_written ≡ false) }
     ensures one_thread { (given : Options) (g : Geometry) (b t : List ℕ)
         → hosts_of g ≡ 0 → IsTextFor given g b t → IsOutputOf (not given.quiet) g b t }
     ensures by_workers { (given : Options) (g : Geometry) (b t : List ℕ)

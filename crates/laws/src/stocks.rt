@@ -8,10 +8,10 @@ ghost use Rattle.ftl_one.specs.declared.one_ftl.NewOneFault.TheVariants as one_f
 ghost use Rattle.ftl_one.specs.declared.role.Role.TheVariants as role;
 ghost use Rattle.geometry.specs.declared.answer.Was.TheVariants as was;
 ghost use Rattle.geometry.specs.{declared.geometry.Geometry.Geometry, History.Trim, History.Write, History.WriteNew};
-ghost use Rattle.laws.specs.Blocks.{HasTwoBlocks, at, before_write, block_with, dead, half_live, half_moved, live, stock_with, written_after};
+ghost use Rattle.laws.specs.Blocks.{HasThreeBlocks, at, before_write, block_with, dead, half_live, half_moved, live, stock_with, written_after};
 
 /// When a stock needs a collection, and which one.
-#[tactic(auto, unfolding(ftl_one::specs::Collections::collection_due, ftl_one::specs::Collections::collection_between))]
+#[tactic(auto, unfolding(ftl_one::specs::Collections::collection_due, ftl_one::specs::Collections::collection_between, geometry::specs::Greedy::greedy_of))]
 pub fn collections_of_a_stock()
     ensures open { (g : Geometry)
         → collection_due g
@@ -23,15 +23,15 @@ pub fn collections_of_a_stock()
         → collection_due g
         (stock_with (block_with role.Closed (live 0 ∷ []) ∷ block_with role.Retired [] ∷ []))
         ≡ None }
-    ensures due { (g : Geometry) → HasTwoBlocks g 1 5
+    ensures due { (g : Geometry) → HasThreeBlocks g 1 5
         → collection_due g half_live ≡ Some (record { victim = 0; copied = 1; copybacks = 1; erases = 1; retired = false }) }
-    ensures other_lun { (g : Geometry) → HasTwoBlocks g 2 5
+    ensures other_lun { (g : Geometry) → HasThreeBlocks g 3 5
         → collection_due g half_live ≡ Some (record { victim = 0; copied = 1; copybacks = 0; erases = 1; retired = false }) }
-    ensures last_erase { (g : Geometry) → HasTwoBlocks g 1 1
+    ensures last_erase { (g : Geometry) → HasThreeBlocks g 1 1
         → collection_due g half_live ≡ Some (record { victim = 0; copied = 1; copybacks = 1; erases = 1; retired = true }) }
     ensures none_made { (g : Geometry)
         → collection_between g (stock_with []) (stock_with []) ≡ None }
-    ensures made { (g : Geometry) → HasTwoBlocks g 1 5
+    ensures made { (g : Geometry) → HasThreeBlocks g 1 5
         → collection_between g half_live half_moved ≡ Some (record { victim = 0; copied = 1; copybacks = 1; erases = 1; retired = false }) }
 {}
 

@@ -24,9 +24,13 @@ pub fn rooms_of_a_store()
         → erases_of t 2 ≡ erases_of s 2 + 1 → ¬ KeepsBlocks s t }
     ensures now_retired { (s t : Store) → blocks_of (store.geometry_of s) ≡ 3
         → retired_of s 2 ≡ false → retired_of t 2 ≡ true → ¬ KeepsBlocks s t }
+    ensures other_device { (s t : Store) → blocks_of (store.geometry_of s) ≡ 3
+        → blocks_of (store.geometry_of t) ≡ 4 → (¬ KeepsBlocks s t) × (¬ Erases s t 0) }
     ensures new { (s : Store) (g : Geometry) → blocks_of g ≡ 3 → store.IsNew s g
         → (entries_of s 2 ≡ []) × (erases_of s 2 ≡ 0) × (retired_of s 2 ≡ false)
         × (array_of s ≡ replicate (sectors_of g) None) }
+    ensures new_elsewhere { (s : Store) (g : Geometry)
+        → blocks_of g ≡ 3 → blocks_of (store.geometry_of s) ≡ 4 → ¬ store.IsNew s g }
     ensures used { (s : Store) (g : Geometry) (e : Entry)
         → blocks_of g ≡ 3 → entries_of s 2 ≡ e ∷ [] → ¬ store.IsNew s g }
 {}
@@ -46,6 +50,8 @@ pub fn commands_on_a_store()
     ensures clears_no_other { (s t : Store) → blocks_of (store.geometry_of s) ≡ 3
         → Clears s t 0 1 → (entries_of t 2 ≡ entries_of s 2)
         × (array_of t ≡ array_of s) }
+    ensures clears_and_erases { (s t : Store) → blocks_of (store.geometry_of s) ≡ 3
+        → erases_of t 2 ≡ erases_of s 2 + 1 → ¬ Clears s t 0 1 }
     ensures erases { (s t : Store) → erases_of s 0 ≡ 4
         → endurance_of (store.geometry_of s) ≡ 5 → Erases s t 0 → (entries_of t 0 ≡ [])
         × (erases_of t 0 ≡ 5) × (retired_of t 0 ≡ true) }

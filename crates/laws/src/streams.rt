@@ -117,7 +117,8 @@ pub fn lines_of_reports()
         × (calls_of false (plain_line 3 op.Read 5) ≡ []) }
     ensures placed { Placed (1 ∷ 2 ∷ 3 ∷ []) (1 ∷ 7 ∷ 9 ∷ []) 1 (7 ∷ []) 2 }
     ensures misplaced { (¬ Placed (1 ∷ 2 ∷ []) (7 ∷ 2 ∷ []) 1 (7 ∷ []) 2)
-        × (¬ Placed (1 ∷ []) (1 ∷ 7 ∷ []) 1 (7 ∷ []) 2) }
+        × (¬ Placed (1 ∷ []) (1 ∷ 7 ∷ []) 1 (7 ∷ []) 2)
+        × (¬ Placed (1 ∷ 2 ∷ []) (1 ∷ 7 ∷ []) 1 (7 ∷ []) 3) }
 {}
 
 /// What the records of a trace are, why a trace is not played, and which commands a device can play.

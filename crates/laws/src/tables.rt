@@ -117,6 +117,12 @@ pub fn seats_of_a_device()
     ensures new_pass { (f : Flash) (p : Pass) → IsNewPass f 2 p
         → ((view_of p).role ≡ seat.Player (name.Pass 2)) × ((view_of p).seen ≡ [])
         × ((view_of p).programs ≡ []) }
+    ensures one_table { (f : Flash) (p : Pass) (s : BroomSeat) (n : Note)
+        → (IsPassOf f p → p.seat.table_id ≡ f.table.shared.table_id)
+        × (IsBroomOf f s → s.seat.table_id ≡ f.table.shared.table_id)
+        × (IsNoteOf f n → n.seat.table_id ≡ f.table.shared.table_id) }
+    ensures new_here { (f : Flash) (p : Pass) (s : BroomSeat)
+        → (IsNewPass f 2 p → IsPassOf f p) × (IsNewBroom f 2 s → IsBroomOf f s) }
     ensures opened_pass { (f : Flash) (p : Pass) (o : OpenBlock)
         → opened_of p ≡ Some o → ¬ IsNewPass f 2 p }
     ensures new_broom { (f : Flash) (s : BroomSeat) → IsNewBroom f 2 s

@@ -1,8 +1,8 @@
-ghost use Rattle.std.specs.Prelude.{◌≡◌, ℕ, List, [], Ok};
+ghost use Rattle.std.specs.Prelude.{◌≡◌, ℕ, List, [], Ok, Err};
 ghost use Rattle.answers.specs.Answers.{broom_names, collection_names, end_text, totals_text};
 ghost use Rattle.geometry.specs.{Geometry.brooms_of, declared.geometry.Geometry.Geometry};
 ghost use Rattle.runs.specs.{Brooms.IsBroomLogOf, Brooms.brooms_text, Collections.IsLogOf, Playing.IsTextOf, Texts.IsTextOf as IsSharedTextOf, Wear.IsWearOf};
-ghost use Rattle.trace.specs.Trace.{commands_of};
+ghost use Rattle.trace.specs.{Trace.commands_of, declared.fault.TraceFault.TraceFault};
 ghost use Rattle.workers.specs.Served.{AllHaveServed};
 
 /// A trace has one text by one thread, and that of a trace without commands is known.
@@ -27,6 +27,8 @@ pub fn logs_of_a_trace()
     ensures no_broom { (geo : Geometry) (drains : ℕ) (bytes text : List ℕ)
         → brooms_of geo ≡ 0 → IsBroomLogOf drains geo bytes text
         → text ≡ broom_names }
+    ensures unread_log { (geo : Geometry) (drains : ℕ) (bytes text : List ℕ) (t : TraceFault)
+        → commands_of bytes geo ≡ Err t → ¬ IsBroomLogOf drains geo bytes text }
     ensures limit { (geo : Geometry) (drains : ℕ) (bytes text : List ℕ) (log : IsBroomLogOf drains geo bytes text) → AllHaveServed geo drains log.ends
         × (text ≡ brooms_text log.ends) }
 {}

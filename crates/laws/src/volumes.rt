@@ -1,15 +1,17 @@
 //! Laws of what the calls of passes and brooms record at a volume.
-ghost use Rattle.std.specs.Prelude.{◌≡◌, ◌<◌, ℕ, Bool, is_some, List, [], ◌∷◌, ◌++◌, Some, None, Ok, Err, true, length, slice_index_or};
+ghost use Rattle.std.specs.Prelude.{◌≡◌, ◌<◌, ℕ, Bool, is_some, List, [], ◌∷◌, ◌++◌, Some, None, Ok, Err, false, true, length, slice_index_or};
 ghost use Rattle.broom.specs.{Handing.HandsNothing, Handing.IsBelow, Handing.IsQueued, Handing.aside_of, Handing.place_of, declared.broom.Broom.Broom};
-ghost use Rattle.broom.specs.Ready.{HasNoMarks, IsReady, IsSameSeat, blocks_of_broom, marks_of, view_of_broom};
+ghost use Rattle.broom.specs.Ready.{AreMarked, HasNoMarks, IsReady, IsRested, IsSameSeat, blocks_of_broom, marks_of, view_of_broom};
 ghost use Rattle.broom.specs.Meeting as broom;
+ghost use Rattle.broom.specs.Ranking.{Ranks};
 ghost use Rattle.broom.specs.declared.answer.Drain.TheVariants as drain;
+ghost use Rattle.erase_queue.specs.Queue as queue;
 ghost use Rattle.erase_queue.specs.{Queue.IsNewPass, Queue.limit_of, declared.queue.EraseQueue.EraseQueue};
 ghost use Rattle.flash_rule.specs.{Views.AreOfHosts, Views.calls_of, declared.carried.Carried.Carried, declared.view.View.View};
 ghost use Rattle.flash_rule.specs.declared.facts.Name.TheVariants as name;
 ghost use Rattle.flash_rule.specs.declared.facts.Pin.TheVariants as pin;
 ghost use Rattle.flash_rule.specs.declared.facts.Role.TheVariants as seat;
-ghost use Rattle.flash_table.specs.Flash.{broom_view, device, first_blocks, first_broom, own_blocks, view_of, geometry_of};
+ghost use Rattle.flash_table.specs.Flash.{IsPassOf, broom_view, device, first_blocks, first_broom, own_blocks, view_of, geometry_of};
 ghost use Rattle.flash_table.specs.{Steps.HasNumber, declared.broom_seat.BroomSeat.BroomSeat, declared.flash.Flash.Flash, declared.pass.Pass.Pass};
 ghost use Rattle.geometry.specs.{Geometry.blocks_of, Geometry.pages_of, Geometry.sectors_of, Limits.Numbers, Sectors.Sector, declared.answer.Was.Was};
 ghost use Rattle.geometry.specs.{History.Call, History.Begins, History.WriteNew, History.after, History.held, declared.map_word.MapWord.MapWord};
@@ -51,6 +53,12 @@ pub fn holds_of_pages()
     ensures pinned { (f : Flash) (p : Pass) (m : MapWord) (x : List ℕ)
         → broom.IsPinned f p m x → ((view_of p).pin ≡ pin.Accepted m x)
         × (m.block < blocks_of (geometry_of f)) × (m.page < pages_of (geometry_of f)) }
+    ensures pinned_here { (f : Flash) (p : Pass) (m : MapWord) (x : List ℕ)
+        → broom.IsPinned f p m x → IsPassOf f p }
+    ensures lent { (f : Flash) (p : Pass) (m : MapWord) (x : List ℕ)
+        → (view_of p).whole ≡ false → ¬ broom.IsPinned f p m x }
+    ensures visited { (f : Flash) (p : Pass) (m : MapWord) (x : List ℕ)
+        → (view_of p).guest ≡ Some (name.Pass 1) → ¬ broom.IsPinned f p m x }
     ensures unpinned { (f : Flash) (p : Pass) (m : MapWord) (x : List ℕ)
         → (view_of p).pin ≡ pin.Clear → ¬ broom.IsPinned f p m x }
 {}
@@ -62,10 +70,21 @@ pub fn brooms_between_calls()
     ensures same_seat { (s t : BroomSeat) → IsSameSeat s t
         → (broom_view t ≡ broom_view s) × (own_blocks t ≡ own_blocks s) }
     ensures seat_itself { (s : BroomSeat) → IsSameSeat s s }
+    ensures seat_rests { (f : Flash) (s t : BroomSeat)
+        → IsSameSeat s t → IsRested f s → IsRested f t }
     ensures below { IsBelow 3 (drain.Drained 2 9)
         × IsBelow 3 drain.Lost × (¬ IsBelow 3 (drain.Drained 3 0)) }
+    ensures surveys { (f : Flash) (b : Broom) → IsReady f b
+        → (length b.states.items ≡ blocks_of (geometry_of f))
+        × (length b.counts.items ≡ blocks_of (geometry_of f))
+        × (length b.closed.items ≡ blocks_of (geometry_of f)) }
+    ensures marked { (f : Flash) (b : Broom) → IsReady f b
+        → AreMarked (device f) (view_of_broom b) b.states.items b.closed.items
+        × Ranks b.counts.items b.closed.items b.ranking }
     ensures queued { (q : EraseQueue) (b : Broom)
         → aside_of b ≡ Some (limit_of q) → ¬ IsQueued q b }
+    ensures queued_here { (q : EraseQueue) (b : Broom)
+        → IsQueued q b → queue.IsPassOf q (place_of b) }
     ensures hands_nothing { (b d : Broom) → HandsNothing b d
         → (place_of d ≡ place_of b) × (aside_of d ≡ aside_of b) }
     ensures new_broom { (f : Flash) (q : EraseQueue) (b : Broom) → volume_brooms.IsFresh f q b

@@ -10,3 +10,6 @@ returns-clause-marks c b = (
   λ none k closed. let e : false ≡ true = ap (λ l. slice_index_or l k false) (sym none) ∙ closed in absurd (no_mark k e),
   λ one h. h 0 (ap (λ l. slice_index_or l 0 false) one),
 )
+
+pub returns-clause-seat_rests : goal.returns-clause-seat_rests
+returns-clause-seat_rests c f s t same rested = same.2 f rested
