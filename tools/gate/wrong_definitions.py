@@ -118,9 +118,7 @@ def put_copy(room, edit, tag, new, texts):
         (crate / it[1] / f"{tag}_{it[0]}_{it[2]}.antt").write_text(redirected(text))
         with (crate / it[1] / "Lib.antt").open("a") as lib:
             lib.write(f"pub mod {tag}_{it[0]}_{it[2]}\n")
-    (crate / f"src/wrong/{tag}.rt").write_text(f"//! A law that names a copy.\n{redirected(imports)}\n{redirected(law)}")
-    with (crate / "src/wrong.rt").open("a") as parent:
-        parent.write(f"mod {tag};\n")
+    put_law(crate, tag, f"{redirected(imports)}\n{redirected(law)}")
     if answers:
         folder = crate / "proofs/wrong" / tag / edit.function
         folder.mkdir(parents=True)
@@ -128,18 +126,14 @@ def put_copy(room, edit, tag, new, texts):
         (folder / "Answers.antt").write_text(redirected(own))
 
 
-def said_by(all_edits, used):
-    """What the prover prints of copies of the laws of these edits, which are in one crate. The module behind the rt command knows how it is called
-    with the crates below as sources."""
-    home = all_edits[0].home
+def said_of(home, put):
+    """What the prover prints of the laws that `put` adds to a copy of a crate in a room, below src/wrong. The module behind the rt command knows how it
+    is called with the crates below as sources."""
     with tree.copied([home]) as room:
-        texts = sources(used)
         (room / "crates" / home / "src/wrong").mkdir()
         with (room / "crates" / home / "src/lib.rt").open("a") as lib:
             lib.write("mod wrong;\n")
-        for it in all_edits:
-            for tag, new in it.copies.items():
-                put_copy(room, it, tag, new, texts)
+        put(room)
         spec = importlib.util.spec_from_file_location("rtlib", Path(shutil.which("rt") or "rt").resolve().with_name("rtlib.py"))
         try:
             rtlib = importlib.util.module_from_spec(spec)
@@ -149,6 +143,19 @@ def said_by(all_edits, used):
         except (OSError, AttributeError, TypeError) as error:
             raise SystemExit(f"wrong-definitions needs the toolchain's rt on the path, and a rtlib that gives crates as sources: {error}") from error
         return tree.said_by(crate.folder, rtlib.RATTLE, "check", *words)[1]
+
+
+def put_law(crate, tag, text):
+    """Adds a law to those that are checked of a copy of a crate."""
+    (crate / f"src/wrong/{tag}.rt").write_text(f"//! A law.\n{text}")
+    with (crate / "src/wrong.rt").open("a") as parent:
+        parent.write(f"mod {tag};\n")
+
+
+def said_by(all_edits, used):
+    """What the prover prints of copies of the laws of these edits, which are in one crate."""
+    texts = sources(used)
+    return said_of(all_edits[0].home, lambda room: [put_copy(room, it, tag, new, texts) for it in all_edits for tag, new in it.copies.items()])
 
 
 def fault_of(edit, said):
