@@ -1,11 +1,12 @@
 /* core BLOCKS PAGES PERCENT: the time of a command in the core of the durable layer, without any flash: each sector is written once, and then as many
- * pages as the device has at random sectors. A command is said by `mintlintel_core_next` and taken by `mintlintel_core_done`. */
+ * pages as the device has at random sectors, in seven turns of which the shortest counts. A command is said by `mintlintel_core_next` and taken by
+ * `mintlintel_core_done`. */
 #include "mintlintel_durable.h"
 #include <stdio.h>
 #include <stdlib.h>
 #include <time.h>
 
-enum { PROGRAM = 1 };
+enum { PROGRAM = 1, TURNS = 7 };
 
 static double now(void)
 {
@@ -14,12 +15,13 @@ static double now(void)
     return (double)t.tv_sec + 1e-9 * (double)t.tv_nsec;
 }
 
-static uint32_t drawn(uint64_t *state)
+/* A number below another one. It is drawn without a division, which takes a tenth of a command's time. */
+static uint32_t drawn(uint64_t *state, uint32_t below)
 {
     *state ^= *state << 13;
     *state ^= *state >> 7;
     *state ^= *state << 17;
-    return (uint32_t)(*state >> 32);
+    return (uint32_t)((*state >> 32) * below >> 32);
 }
 
 static void need(uint32_t code)
@@ -57,12 +59,16 @@ int main(int argc, char **argv)
     need(mintlintel_core_finish(&core));
     for (uint32_t sector = 0; sector < sectors; sector++)
         write_sector(&core, sector);
-    double start = now();
-    for (uint32_t i = 0; i < all; i++)
-        commands += write_sector(&core, drawn(&state) % sectors);
-    double taken = now() - start;
-    printf("%u blocks of %u pages, %u sectors: %.0f ns a command, %.2f commands a write\n", blocks, pages, sectors, 1e9 * taken / (double)commands,
-           (double)commands / all);
+    double least = 0;
+    for (int turn = 0; turn < TURNS; turn++) {
+        double start = now();
+        commands = 0;
+        for (uint32_t i = 0; i < all; i++)
+            commands += write_sector(&core, drawn(&state, sectors));
+        double taken = (now() - start) / (double)commands;
+        least = turn > 0 && least < taken ? least : taken;
+    }
+    printf("%u blocks of %u pages, %u sectors: %.0f ns a command, %.2f commands a write\n", blocks, pages, sectors, 1e9 * least, (double)commands / all);
     mintlintel_core_close(&core);
     return 0;
 }
