@@ -19,8 +19,9 @@
  * The calls of all hosts of a shared device are in one order, which has the calls of each handle in their order: they are sequentially
  * consistent, and not claimed to be linearizable.
  *
- * A call with any code except 0, 1, 23, 26 and 27 has changed no sector, no page and no block. 23 is an erase that is done. 20 to 22, 24 and 25
- * may have changed which blocks a broom has marked: see mintlintel_broom_drain_next and mintlintel_broom_drain_dead.
+ * A call with any code except 0, 1, 23 and 26 has changed no sector, no page and no block, but mintlintel_collect, whose `did` says what it has
+ * done with each code. 23 is an erase that is done. 20 to 22, 24 and 25 may have changed which blocks a broom has marked: see
+ * mintlintel_broom_drain_next and mintlintel_broom_drain_dead.
  *
  * The calls at this header's end are plain C over the others, and not proved. */
 #ifndef MINTLINTEL_H

@@ -39,6 +39,7 @@ fn discount(counts: &mut Counts, entry: Option<PageAddr>)
 }
 
 /// Maps a sector to a page, from what it is mapped to, and counts the live pages anew.
+#[inline(always)]
 pub fn remap(
     map: &mut PackedMap,
     counts: &mut Counts,

@@ -92,6 +92,7 @@ impl Core {
                 self.chosen = self.decide();
             }
             Command::Erase(block) => {
+                self.counts.erased(block);
                 self.owners.look_through(&self.map, &self.counts, block);
                 self.hand = 0;
                 self.turn = self.turn.wrapping_add(1);

@@ -130,19 +130,19 @@ impl Owners {
     }
 }
 
-// What a page still has of the sectors that it had.
+// What a page still has of the sectors that it had. Whether a page's only sector has left can't be foreseen, so no branch depends on it.
 fn kept(map: &PackedMap, at: PageAddr, had: u32) -> u32 {
     let sector = had & !SHARED;
     if (sector as usize) >= map.len() {
         return NO_SECTOR;
     }
-    if map.get(sector as usize) == Some(at) {
-        had
-    } else if had == sector {
-        NO_SECTOR
-    } else {
-        beside(map, at, sector)
+    let stays = map.get(sector as usize).map_or(0, |found| {
+        u32::from(found.block == at.block) & u32::from(found.page == at.page)
+    });
+    if had != sector && stays == 0 {
+        return beside(map, at, sector);
     }
+    had | stays.wrapping_sub(1)
 }
 
 // A sector near to one that has the same page, marked as such, or none.

@@ -5,10 +5,15 @@ use std::alloc::{AllocError, Global};
 use std::marker::Model;
 use victims::BucketQueue;
 
+// How many blocks are compared for the least erased one.
+const COMPARED: usize = 8;
+
 /// How many live pages each block has, and the blocks in the order of that.
 #[derive(Drop)]
 pub struct Counts {
     counts: Vec<u32>,
+    // How often each block was erased since the mount.
+    erases: Vec<u16>,
     // The key of a block is its count, or the greatest key if that is less.
     queue: BucketQueue,
 }
@@ -22,6 +27,7 @@ impl Model for Counts {
 
     ghost invariant = { λ s. record {
       same : length s.queue.keys.items ≡ length s.counts.items;
+      erases : length s.erases.items ≡ length s.counts.items;
       few : length s.counts.items < 2 ^ 32;
       some : 1 < length s.queue.starts.items;
       at_most : (b : ℕ) → b < length s.counts.items → slice_index s.queue.keys.items b ≤ slice_index s.counts.items b;
@@ -37,6 +43,7 @@ impl Counts {
     {
         Ok(Counts {
             counts: vec![in alloc; 0; blocks as usize]?,
+            erases: vec![in alloc; 0; blocks as usize]?,
             queue: BucketQueue::new(alloc, blocks, (pages as usize).min(65534) + 2)?,
         })
     }
@@ -80,17 +87,26 @@ impl Counts {
         self.counts[block as usize] -= 1;
     }
 
-    /// A block without live pages, if there is one. In each turn it is another of them, so that blocks wear evenly.
+    /// A block was erased.
+    pub fn erased(&mut self, block: u32)
+        requires { block < length self.old }
+        ensures { self.new ≡ self.old }
+    {
+        self.erases[block as usize] = self.erases[block as usize].saturating_add(1);
+    }
+
+    /// A block without live pages, if there is one: of a few the least erased. In each turn these are others, so that blocks wear evenly.
     pub fn empty(&self, turn: u32) -> Option<u32>
         ensures some { IfSome result (λ b. (b < length self.now)
             × (slice_index_or self.now b 0 ≡ 0)) }
         ensures none { IfNone result ((b : ℕ) → b < length self.now
             → 0 < slice_index_or self.now b 0) }
     {
-        self.queue.in_turn(0, turn)
+        let block = self.queue.in_turn(0, turn)?;
+        Some(least_erased(&self.queue, &self.erases, block, block))
     }
 
-    /// The block with the fewest live pages, beside one.
+    /// The block with the fewest live pages, beside one: of a few the least erased.
     pub fn fewest(&self, avoided: u32) -> u32
         ensures { (b : ℕ) → b < length self.now → b ≢ avoided
             → (result < length self.now) × (result ≢ avoided)
@@ -99,9 +115,37 @@ impl Counts {
         let best = self.queue.least_beside(avoided);
         if (best as usize) < self.counts.len() {
             if (self.queue.keys[best as usize] as usize) + 1 < self.queue.starts.len() {
-                return best;
+                return if self.counts[best as usize] == 0 {
+                    best
+                } else {
+                    least_erased(&self.queue, &self.erases, best, avoided)
+                };
             }
         }
         fewest(&self.counts, avoided)
     }
+}
+
+// The least erased of a block and of a few behind it that have its key, beside one.
+fn least_erased(queue: &BucketQueue, erases: &[u16], block: u32, avoided: u32) -> u32
+    requires block { block < length queue.now.keys.items }
+    requires erases { length erases.now ≡ length queue.now.keys.items }
+    ensures within { result < length queue.now.keys.items }
+    ensures key { slice_index queue.now.keys.items result
+        ≡ slice_index queue.now.keys.items block }
+    ensures beside { block ≢ avoided → result ≢ avoided }
+{
+    let order = &queue.sorted.order;
+    let first = queue.sorted.places[block as usize] as usize + 1;
+    let mut best = block;
+    for place in first..order.len().min(first + COMPARED) {
+        let other = order[place];
+        if queue.keys[other as usize] != queue.keys[block as usize] {
+            break;
+        }
+        if other != avoided && erases[other as usize] < erases[best as usize] {
+            best = other;
+        }
+    }
+    best
 }

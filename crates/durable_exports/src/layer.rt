@@ -81,7 +81,7 @@ impl Layer {
             return OUT_OF_ORDER;
         }
         self.core.done(extent, command);
-        self.totals = self.totals.with(command);
+        self.totals.count(command);
         DONE
     }
 }

@@ -86,17 +86,15 @@ pub(crate) fn report(sector: u32, command: Command) -> CommandReport
 }
 
 impl Totals {
-    // The totals once a command has succeeded.
-    pub(crate) fn with(self, command: Command) -> Totals
-        ensures { result ≡ totals_with command self }
+    // Counts a command that has succeeded.
+    pub(crate) fn count(&mut self, command: Command)
+        ensures { self.new ≡ totals_with command self.old }
     {
-        let mut totals = self;
         match command {
-            Command::Program(..) => totals.programs = totals.programs.saturating_add(1),
-            Command::Copy(..) => totals.copies = totals.copies.saturating_add(1),
-            Command::Erase(_) => totals.erases = totals.erases.saturating_add(1),
+            Command::Program(..) => self.programs = self.programs.saturating_add(1),
+            Command::Copy(..) => self.copies = self.copies.saturating_add(1),
+            Command::Erase(_) => self.erases = self.erases.saturating_add(1),
             Command::Refused => {}
         }
-        totals
     }
 }

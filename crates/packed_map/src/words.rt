@@ -87,7 +87,8 @@ impl SparseWords {
     }
 }
 
-// Gives a group a place of its own, if it has none.
+// Gives a group a place of its own, if it has none. In its callers it would take up registers for what is seldom done.
+#[inline(never)]
 fn own_place(places: &mut Vec<u32>, kept: &mut Vec<u32>, used: &mut u32, group: usize)
     requires kept { AreGrouped places.old.items kept.old.items used.old }
     requires group { group < length places.old.items }

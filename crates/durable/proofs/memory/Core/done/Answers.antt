@@ -1,7 +1,7 @@
-use Rattle.std.proofs.Common.{◌<◌, ◌^◌, ◌+◌, ℕ, length, Option, Some, refl, sym, ◌∙◌, ap, subst}
+use Rattle.std.proofs.Common.{◌<◌, ◌^◌, ◌+◌, ℕ, List, length, Option, Some, refl, sym, ◌∙◌, ap, subst}
 use Rattle.std.proofs.lemmas.List.{length-set}
 use Rattle.geometry.specs.declared.page_addr.PageAddr.{PageAddr}
-use Rattle.durable.specs.Collecting.{HasCapacity}
+use Rattle.durable.specs.Collecting.{AreLiveCounts, HasCapacity}
 use Rattle.durable.specs.Choice.{IsNext}
 use Rattle.durable.specs.declared.command.Command.{Command}
 use Rattle.durable.proofs.Done.{Becomes}
@@ -65,6 +65,10 @@ invariant_of-self-in-Copy-clause-can_collect c =
 pub invariant_of-self-in-Erase-clause-on_device : goal.invariant_of-self-in-Erase-clause-on_device
 invariant_of-self-in-Erase-clause-on_device c = let next = subst (IsNext c.args.self.now) c.in-Erase.is c.requires.next in
     first_page_on c.args.self.now c.in-Erase.block next.1
+
+pub invariant_of-self-in-Erase-clause-counted : goal.invariant_of-self-in-Erase-clause-counted
+invariant_of-self-in-Erase-clause-counted c =
+    let core = c.args.self.now in subst (λ (counts : List ℕ). AreLiveCounts counts core.map.items) (sym c.erased.ensures) core.counted
 
 pub invariant_of-self-in-Erase-clause-can_collect : goal.invariant_of-self-in-Erase-clause-can_collect
 invariant_of-self-in-Erase-clause-can_collect c =
