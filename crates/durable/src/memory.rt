@@ -21,7 +21,7 @@ pub struct Core {
     // Which sector each page has, and the page at which the next search of the victim starts.
     pub(crate) owners: Owners,
     pub(crate) hand: u32,
-    // How many blocks were erased, modulo 2^32: free blocks are erased in turn.
+    // How many blocks were erased, modulo 2^32: the choice of a free block begins with another one each time.
     pub(crate) turn: u32,
     // None: no block is open.
     pub(crate) next_page: Option<PageAddr>,
