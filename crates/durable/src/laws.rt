@@ -15,7 +15,7 @@ ghost use Rattle.durable.specs.Failures.{Changes, HasVersionlessBlock, HoldsNoVe
 ghost use Rattle.durable.specs.Faults.{mount_fault_text};
 ghost use Rattle.durable.specs.Flash.{Erased, Flash, HasValue, HasVersion, HoldsNeeded, HoldsNewest, HoldsNoValue, IsErased, RecoversSector};
 ghost use Rattle.durable.specs.Flash.{SetsPage, Torn, Version, is_trim};
-ghost use Rattle.durable.specs.Losses.{HasNoLoss, IsGapless, gaps_before, gaps_noted, losses_in, versions_before, versions_noted};
+ghost use Rattle.durable.specs.Losses.{HasNoLoss, IsGapless, IsWholeOrHere, gaps_before, gaps_noted, losses_in, versions_before, versions_noted};
 ghost use Rattle.durable.specs.Marks.{IsMarkedWith, is_valued};
 ghost use Rattle.durable.specs.Memory.{IsMappedTo, map_entry};
 ghost use Rattle.durable.specs.Mounting.{IsStampOf, TellsValue, TellsValues, next_in, after_in};
@@ -355,6 +355,13 @@ pub fn values()
     ensures noted { (f : Flash) (mount : Reading) → HasNoted f mount
         → TellsValues f mount.pages mount.block mount.page
         (length mount.found.items) mount.valued.items }
+    ensures versions { (f : Flash) (mount : Reading) → HasNoted f mount
+        → mount.versions ≡ versions_before f mount.block mount.page }
+    ensures here { (f : Flash) (mount : Reading) (x : Seen) (q : ℕ) (v : Sector)
+        → HasNoted f mount → 3 < length mount.found.items
+        → slice_index_or mount.found.items 3 None ≡ Some x
+        → q < mount.page → HasVersion f mount.block q 3 x.number v
+        → IsWholeOrHere mount.gaps.items mount.block x.at.block }
     ensures drops { (f : Flash) (mount : Reading) (core : Layer)
         → DropsTrims mount core → HasNoted f mount → 7 < (device_in mount).sectors
         → HoldsNoValue f 7 → map_entry core 7 ≡ None }

@@ -25,7 +25,7 @@ ghost use Rattle.flash_table.specs.declared.pass.Pass.{Pass};
 ghost use Rattle.host.specs.Holding.{Found, page_of, pass_of};
 ghost use Rattle.host.specs.declared.holding.Held.{Held};
 ghost use Rattle.host.specs.declared.holding.Holding.TheVariants as holding;
-ghost use Rattle.broom.specs.Ready.{blocks_of_broom, marks_of, view_of_broom};
+ghost use Rattle.broom.specs.Ready.{IsInRange, blocks_of_broom, marks_of, view_of_broom};
 ghost use Rattle.broom.specs.declared.broom.Broom.{Broom};
 ghost use Rattle.broom.specs.Loading.{AllLoaded, HasState, StateLoaded, counts_in};
 ghost use Rattle.broom.specs.Survey.{loads_of};
@@ -480,6 +480,10 @@ pub fn loads_of_blocks()
     ensures each { (z : Numbers) (b c : Broom) (states : List PinWord) → AllLoaded z b states c
         → (length states ≡ z.blocks)
         × ((view_of_broom c).loaded ≡ (view_of_broom b).loaded ++ loads_of states) }
+    ensures ranges { (z : Numbers) (b c : Broom) (p : PinWord)
+        → AllLoaded z b (p ∷ []) c → IsInRange z p }
+    ensures others { (z : Numbers) (b c : Broom) (states : List PinWord) → AllLoaded z b states c
+        → (view_of_broom c).seen ≡ (view_of_broom b).seen }
     ensures survey { (z : Numbers) (b c : Broom) (states : List PinWord) → AllLoaded z b states c
         → (states_kept c ≡ states_kept b) × (counts_kept c ≡ counts_kept b)
         × (blocks_of_broom c ≡ blocks_of_broom b) }

@@ -1,6 +1,8 @@
-use Rattle.std.proofs.Common.{inr, false, refl, arith}
+use Rattle.std.proofs.Common.{Option, inr, false, refl, subst, arith}
 use Rattle.std.proofs.lemmas.Grind.{common_steps}
+use Rattle.durable.specs.declared.found.Candidate.{Candidate}
 use Rattle.durable.specs.Updates.{sole}
+use Rattle.durable.specs.Losses.{IsPreferred}
 use Rattle.durable.specs.Marks.{is_valued}
 use Rattle.durable.specs.Mounting.{TellsValue}
 use Rattle.durable.proofs.laws.values.Goals as goal
@@ -28,3 +30,7 @@ returns-clause-bit c = (refl, refl, refl)
 pub returns-clause-kept : goal.returns-clause-kept
 unfolding is_valued
 returns-clause-kept c x y kept needed = grind (arith, common_steps, needed.0, needed.1 0, needed.1 1)
+
+pub returns-clause-here : goal.returns-clause-here
+returns-clause-here c = λ f mount x q v noted below found before there.
+    (subst (λ (y : Option Candidate). IsPreferred f mount.pages mount.block mount.page mount.gaps.items 3 y) found (noted.prefers 3 below)).1 q v before there
