@@ -4,14 +4,9 @@ import importlib
 import sys
 from pathlib import Path
 
-
-def main():
-    command, *words = sys.argv[1:] or [""]
-    name = "check" if command == "run" else command.replace("-", "_")
-    module = importlib.import_module(f"gate.{name}") if (Path(__file__).parent / f"{name}.py").exists() else None
-    if not hasattr(module, "main"):
-        sys.exit(f"{__doc__}\nThere is no command `{command}`.")
-    return module.main(words)
-
-
-sys.exit(main())
+command, *words = sys.argv[1:] or [""]
+name = "check" if command == "run" else command.replace("-", "_")
+module = importlib.import_module(f"gate.{name}") if (Path(__file__).parent / f"{name}.py").exists() else None
+if not hasattr(module, "main"):
+    sys.exit(f"{__doc__}\nThere is no command `{command}`.")
+sys.exit(module.main(words))

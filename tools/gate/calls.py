@@ -49,7 +49,7 @@ def rows(function, path, text, known, told):
     comment = "".join(line for line in COMMENT.search(text[: function.start])[1].splitlines(True) if "/// |" not in line)
     yield f"[`{function.called}`](../{tree.relative(path)})", "", shown(tree.sentence(comment))
     for it in tree.head_clauses(text, function):
-        named = [other for other in tree.cited(it.text, *tree.imports(text)) if other in known and other[2][0].isupper()]
+        named = [other for other in tree.cited(it.text, tree.imports(text)) if other in known and other[2][0].isupper()]
         says, clause = shown(" ".join(line.strip().lstrip("/ ") for line in it.comment.splitlines())), " ".join(it.text.split())
         if not says and named:
             says = " ".join(meaning(it, known, told) for it in named)
@@ -68,7 +68,7 @@ def part(crate, known):
 def law(function, path, text, known):
     """The row of a law."""
     name, _, says = next(rows(function, path, text, known, set()))
-    cited = tree.cited(" ".join(it.text for it in tree.head_clauses(text, function)), *tree.imports(text))
+    cited = tree.cited(" ".join(it.text for it in tree.head_clauses(text, function)), tree.imports(text))
     return f"| {name} | {says} | {', '.join(dict.fromkeys(f'`{it[2]}`' for it in cited if it in known))} |\n"
 
 

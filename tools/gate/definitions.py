@@ -1,7 +1,6 @@
-"""definitions [--write]: docs/DEFINITIONS.md, made from the comment above each public definition of the crates' specs/
-and above each type that a crate exports, with what cites each; and docs/CALLS.md, made by calls.py. Without --write it changes
-nothing, and fails if a page differs; if a definition or a public call has no comment, or is needed only by functions that nobody calls; or if a
-definition that a public clause names has neither a law nor a caller, and is not one of the few that laws.py lists with a reason."""
+"""definitions [--write]: docs/DEFINITIONS.md, made from the comments above the public definitions of the crates' specs/ and above the types that
+a crate exports; and docs/CALLS.md, made by calls.py. Without --write it changes nothing, and fails if a page differs; if a definition or a public call
+has no comment, or is needed only by functions that nobody calls; or if a definition of a public clause has no law, no caller, and no reason in laws.py."""
 
 import re
 

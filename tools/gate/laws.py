@@ -32,14 +32,13 @@ def named_by_clauses():
     for crate in tree.crates():
         for path in tree.sources(crate):
             text = path.read_text()
-            local, alias = tree.imports(text)
+            names = tree.imports(text)
             for it in tree.clauses(text):
-                yield Named(crate, path.name, it.kind, tree.function_at(text, it.start), tree.cited(text[it.start : it.end], local, alias))
+                yield Named(crate, path.name, it.kind, tree.function_at(text, it.start), tree.cited(text[it.start : it.end], names))
 
 
 def is_fact(text):
-    """Whether this is the proof of a fact, a type of data, or the way in which such a type is stored: neither can be true of
-    one value and false of another."""
+    """Whether this is the proof of a fact, a type of data, or the way it is stored: none can be true of one value and false of another."""
     if text.startswith("pub record "):
         params = re.findall(r"[({][^:(){}]+:\s*([^(){}]+)[)}]", text.split(" where")[0])
         return all(it.strip().startswith("Type") for it in params)
@@ -83,7 +82,7 @@ def without(shown):
 def is_called(name, home, used):
     """Whether a crate that can call a function of a crate has a call of this name."""
     call = re.compile(rf"^(?! *(?://|ghost )).*(?<!fn )\b{name}(?:::<[^>]*>)?\(", re.M)
-    return any(call.search(path.read_text()) for it in used if it == home or home in tree.below(it, used) for path in tree.sources(it))
+    return any(call.search(path.read_text()) for it in used if home in tree.reached([it], used) for path in tree.sources(it))
 
 
 def idle(premises, names, clauses):

@@ -26,22 +26,15 @@ def sources():
             yield name, path.read_text()
 
 
-def depth(line):
-    return len(line) - len(line.lstrip())
-
-
 def terms(lines):
     """Each term of a file of proofs: its name, the number of its first line, and its length."""
     named = {(len(found[1]), found[2]) for found in map(SIGNATURE.match, lines) if found}
-    for start, line in enumerate(lines):
-        name = line.split(None, 1)[0] if line.strip() else ""
-        if (depth(line), name) in named and "=" in line and not SIGNATURE.match(line):
-            later = range(start + 1, len(lines))
-            ends = (n for n in later if lines[n].strip() and (depth(lines[n]) <= depth(line) or lines[n].split()[0] == "where"))
-            end = next(ends, len(lines))
-            while not lines[end - 1].strip():
-                end -= 1
-            yield name, start + 1, end - start
+    # Of each line that isn't empty its number, its depth and its first word.
+    heads = [(n, len(line) - len(line.lstrip()), line.split()[0]) for n, line in enumerate(lines, 1) if line.strip()]
+    for at, (start, depth, name) in enumerate(heads):
+        if (depth, name) in named and "=" in lines[start - 1] and not SIGNATURE.match(lines[start - 1]):
+            end = next((n for n in range(at + 1, len(heads)) if heads[n][1] <= depth or heads[n][2] == "where"), len(heads))
+            yield name, start, heads[end - 1][0] - start + 1
 
 
 def measured():

@@ -13,7 +13,7 @@ from gate.wrong_definitions import part_of
 ANSWER = re.compile(r"^pub (\S+) : goal\.\S+$", re.M)
 # How the check names the goals that it leaves open: a file of answers to write, and each goal of it, whose type may stand on the next line.
 FILE = re.compile(r"help: write \./proofs/(\S+)/Answers\.antt with these lines")
-OPEN = re.compile(r"^\s+pub (\S+) :(?: goal\.|$)")
+OPEN = re.compile(r"^[ \t]+pub (\S+) :(?: goal\.|$)", re.M)
 
 
 def files(folder):
@@ -34,19 +34,9 @@ class Needed(record.Record):
         return hashlib.sha256(repr(its).encode()).hexdigest()
 
 
-def opened(log):
-    """The goals that a check left open, each as its function and its name."""
-    found, function = set(), ""
-    for line in log.splitlines():
-        if it := FILE.search(line):
-            function = it[1]
-        elif it := OPEN.match(line):
-            found.add((function, it[1]))
-    return found
-
-
 def tried(room, name):
-    """The goals of a crate that the check leaves open without any answer, and what it printed if it couldn't read the crate."""
+    """The goals of a crate that the check leaves open without any answer, each as its function and its name, and what the check printed if
+    it couldn't read the crate."""
     crate = room / "crates" / name
     answers = {path: path.read_text() for path in files(crate).values()}
     for path in answers:
@@ -55,7 +45,9 @@ def tried(room, name):
     # The crates above, which are tried in the same copy, need them.
     for path, text in answers.items():
         path.write_text(text)
-    return opened(said), "" if "\nholes=" in said else said
+    _, *parts = FILE.split(said)
+    opened = {(function, goal) for function, text in zip(parts[::2], parts[1::2]) for goal in OPEN.findall(text)}
+    return opened, "" if "\nholes=" in said else said
 
 
 def of_edits(name):

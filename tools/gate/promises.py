@@ -1,12 +1,7 @@
-"""promises: checks that what the pages name exists in the sources.
-
-- In a table with the columns Call and Clause, the calls exist, and one of them has each clause. In one with the columns Play and Lemma, the
-  play, what it tells, the lemma and the call belong to one step, and no step is missing.
-- Each word in code quotes is a word of the sources. Each link leads somewhere, and each named file exists. A file that a page shows
-  whole is the same as on the page, and so are the lines of crates.txt.
-- A page names its reader in the first line, links the glossary where it first uses a word of it, and has no two headings with the same text.
-- No two files of the crates' specs/ define the same name, but those that the glossary's table lists.
-- The pages name the versions of the toolchain for which the record says that the wrong bodies were refused on the present text."""
+"""promises: checks that what the pages name exists in the sources: calls with their clauses, the steps of the rule, words of code, items, files,
+links, versions of the toolchain, and the files that a page shows whole. A page also names its reader in the first line, links the glossary where it
+first uses a word of it, and has no two headings with the same text. And no two files of the crates' specs/ define the same name, but those
+that the glossary's table lists."""
 
 import re
 from functools import cache
@@ -23,7 +18,6 @@ VERSION = re.compile(r"rattle-kit-\w+|logic [0-9a-f]{16}")
 CODE = re.compile(r"`([^`]+)`")
 # Words of the glossary that a reader meets first; `pass`, `hold` and `stand` as nouns, or of a thread.
 OF_GLOSSARY = re.compile(r"\b(?:brooms?|a pass|passes|pins?|pinned|a hold|holds a page|drain(?:s|ed)?|fold(?:s|ed)?|meets?|stand)\b")
-PLACES_OF_PAGES = ("*.md", "docs/*.md", "bench/*.md")
 
 
 def text_of(*places):
@@ -74,28 +68,25 @@ def wrong_steps(page, lines):
     """What is wrong with the tables of steps of a page."""
     laws = text_of("crates/flash_rule/proofs/*.antt")
     tells = dict(re.findall(r"impl Play<[^>]*> for (\w+) \{\s*ghost then = \{ (\w+) \}", text_of("crates/flash_rule/src/*.rt")))
-    makers = {}
-    for body in re.split(r"\n    (?:pub(?:\(crate\))? )?fn ", text_of("crates/flash_table/src/*.rt"))[1:]:
-        for play in re.findall(r"::<(\w+)>\(", body):
-            makers.setdefault(play, set()).add(body.split("(")[0])
-    seen = set()
+    bodies = re.split(r"\n    (?:pub(?:\(crate\))? )?fn ", text_of("crates/flash_table/src/*.rt"))[1:]
+    makers = {(play, body.split("(")[0]) for body in bodies for play in re.findall(r"::<(\w+)>\(", body)}
+    made, seen = {play for play, _ in makers}, set()
     for number, (plays, lemmas, calls) in rows(lines, "Play", "Lemma", "Call"):
         seen |= set(plays)
         yield from (f"{page}:{number}: no lemma {lemma}" for lemma in lemmas if not re.search(rf"^ *pub {lemma} :", laws, re.M))
-        yield from (f"{page}:{number}: no call makes {play}" for play in plays if play not in makers)
-        made_here = set().union(*(makers.get(play, set()) for play in plays))
-        yield from (f"{page}:{number}: {call} doesn't make it" for call in calls if call.split("::")[-1] not in made_here)
+        yield from (f"{page}:{number}: no call makes {play}" for play in plays if play not in made)
+        makes = {call for call in calls for play in plays if (play, call.split("::")[-1]) in makers}
+        yield from (f"{page}:{number}: {call} doesn't make it" for call in calls if call not in makes)
     for number, (plays, said) in rows(lines, "Play", "Tells"):
         yield from (f"{page}:{number}: {play} doesn't tell {said}" for play in plays if [tells.get(play)] != said)
     if seen:
-        yield from (f"{page}: no row for the step {play}" for play in sorted(set(tells) | set(makers)) if play not in seen)
+        yield from (f"{page}: no row for the step {play}" for play in sorted(made.union(tells) - seen))
 
 
 def words_of_sources():
     """Each word of the sources, of the names of their files, and of the record of refusals with its versions."""
     places = ("crates/*/*/**/*", "crates/*", "*", ".ci/*", "examples/**/*", "bench/*", "bindings/**/*", "packaging/*")
-    files = [path for place in places for path in tree.TOP.glob(place)]
-    files = [path for path in files if "out" not in path.relative_to(tree.TOP).parts]
+    files = [path for place in places for path in tree.TOP.glob(place) if "out" not in path.relative_to(tree.TOP).parts]
     text = "".join(path.read_text() for path in files if path.is_file() and path.suffix in SOURCES)
     return set(re.findall(r"\w+", text + " ".join(str(path) for path in files)))
 
@@ -110,12 +101,6 @@ def twice_defined(lines):
     listed = {name for _, [names] in rows(lines, "Defined twice") for name in names}
     yield from (f"{twice[name][1]}: {name} is also defined in {twice[name][0]}" for name in sorted(set(twice) - listed))
     yield from (f"docs/GLOSSARY.md: {name} isn't defined twice" for name in sorted(listed - set(twice)))
-
-
-def wrong_versions(page, text, recorded):
-    """The versions of the toolchain that a page should name and doesn't, or names and shouldn't."""
-    for it in sorted(recorded ^ set(VERSION.findall(text))):
-        yield f"{page}: {it} is {'in the record, and not on the page' if it in recorded else 'on the page, and not in the record'}"
 
 
 def leads(page, link):
@@ -158,48 +143,40 @@ def without_glossary(page, prose):
             return
 
 
-def missing_files(page, number, line):
-    """The files that a line names by their path in the repository, and that aren't there."""
-    for code in CODE.findall(line):
-        places = [tree.TOP / code, tree.TOP / "crates" / code, tree.TOP / f"crates/{code}.antt"]
-        is_path = re.fullmatch(r"[\w.]+(/[\w.-]+)+", code) and "NAME" not in code and "out" not in code.split("/")
-        if is_path and not any(place.exists() for place in places):
-            yield f"{page}:{number}: no file {code}"
-
-
 @cache
 def words_in(place):
     """The words of the crate of this name, or of the modules of this name."""
     return set(re.findall(r"\w+", text_of(f"crates/{place}/src/**/*.rt" if tree.folder(place).is_dir() else f"crates/*/src/**/{place}.rt")))
 
 
-def wrong_paths(page, number, line):
-    """The items that a line names by a crate or a module which has no such word."""
-    for code in CODE.findall(line):
-        for place, item in re.findall(r"(?<![\w:])([a-z]\w*)::(\w+)", code):
-            if words_in(place) and item not in words_in(place):
-                yield f"{page}:{number}: {place} has no {item}"
+def wrong_code(page, code, known):
+    """What a page names in code quotes and isn't there: a file, an item of a crate or of a module, or on some pages any word."""
+    places = [tree.TOP / code, tree.TOP / "crates" / code, tree.TOP / f"crates/{code}.antt"]
+    is_path = re.fullmatch(r"[\w.]+(/[\w.-]+)+", code) and "NAME" not in code and "out" not in code.split("/")
+    if is_path and not any(place.exists() for place in places):
+        yield f"no file {code}"
+    for place, item in re.findall(r"(?<![\w:])([a-z]\w*)::(\w+)", code):
+        if words_in(place) and item not in words_in(place):
+            yield f"{place} has no {item}"
+    if page in PAGES:
+        yield from (f"{word} doesn't occur in the sources" for word in re.findall(r"_*[A-Za-z]\w+", code) if word not in known)
 
 
 def main(_):
     recorded = set(VERSION.findall(str(record.Record("refused", "must-fail").versions().values())))
     glossary = (tree.TOP / "docs/GLOSSARY.md").read_text().splitlines()
     known, known_words, wrong = clauses(), words_of_sources(), [*twice_defined(glossary)]
-    for path in (path for place in PLACES_OF_PAGES for path in tree.TOP.glob(place)):
-        page = tree.relative(path)
-        prose = re.sub(r"```.*?```", lambda block: "\n" * block[0].count("\n"), path.read_text(), flags=re.S).splitlines()
-        wrong += [*differing_copies(path), *wrong_shape(page, path.read_text(), prose)]
+    for path in (path for place in ("*.md", "docs/*.md", "bench/*.md") for path in tree.TOP.glob(place)):
+        page, text = tree.relative(path), path.read_text()
+        prose = re.sub(r"```.*?```", lambda block: "\n" * block[0].count("\n"), text, flags=re.S).splitlines()
+        wrong += [*differing_copies(path), *wrong_shape(page, text, prose)]
         if path.name not in ("GLOSSARY.md", "CHANGELOG.md"):
             wrong += without_glossary(page, prose)
         for number, line in enumerate(prose, 1):
-            wrong += [*missing_files(page, number, line), *wrong_paths(page, number, line)]
+            wrong += [f"{page}:{number}: {it}" for code in CODE.findall(line) for it in wrong_code(page, code, known_words)]
             wrong += [f"{page}:{number}: nothing at {link}" for link in re.findall(r"\]\(([^):]+)\)", line) if not leads(path, link)]
-            if page in PAGES:
-                missing = [word for code in CODE.findall(line) for word in re.findall(r"_*[A-Za-z]\w+", code) if word not in known_words]
-                wrong += [f"{page}:{number}: {word} doesn't occur in the sources" for word in missing]
         if page in PAGES:
             wrong += [*wrong_rows(page, prose, known), *wrong_steps(page, prose)]
-        if page in NAMING:
-            wrong += wrong_versions(page, path.read_text(), recorded)
-    well = "each link leads somewhere, and each call, clause, step and word of code on the pages exists in the sources"
-    return tree.verdict(wrong, well)
+        for it in sorted(recorded ^ set(VERSION.findall(text))) if page in NAMING else ():
+            wrong += [f"{page}: {it} is {'in the record, and not on the page' if it in recorded else 'on the page, and not in the record'}"]
+    return tree.verdict(wrong, "each link leads somewhere, and each call, clause, step and word of code on the pages exists in the sources")

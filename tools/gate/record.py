@@ -1,9 +1,7 @@
-"""The records of what was tried on a crate's present text: .ci/refused, .ci/proved-twins and .ci/refused-definitions. Each has lines of a crate,
-a sum of the text that the result depends on, and the version of the toolchain that gave it."""
+"""The records in .ci/: what was tried on each crate's present text, as lines of the crate, a sum of that text and the toolchain's version."""
 
 import hashlib
 import os
-import re
 import subprocess
 import sys
 import threading
@@ -67,7 +65,7 @@ class Record:
 
     def sum_of(self, name):
         """A sum of the text that a result depends on: the crate with its edits, and the definitions of the crates below."""
-        below = [path for it in sorted(tree.below(name, self.used)) for path in files_of(it, "specs")]
+        below = [path for it in sorted(tree.reached(self.used[name], self.used)) for path in files_of(it, "specs")]
         return sum_of([*files_of(name, "src", "specs", "proofs"), *tree.edits(name, self.kind), *below])
 
     def entries(self):
@@ -84,12 +82,11 @@ class Record:
         """The crates that have edits and no entry for their present text."""
         return [name for name, its in self.versions().items() if not its]
 
-    def tell(self, said, still):
-        """Prints how many edits have an entry, and the crates that lack one. Returns 0."""
+    def verdict(self, wrong, said, still):
+        """Prints what is wrong, or how many edits have an entry, and the crates that lack one. Returns the status."""
         lacking = self.lacking()
-        print(f"{sum(len(tree.edits(name, self.kind)) for name in self.having() if name not in lacking)} {said} on the present text")
-        print(f"still to {still} {', '.join(lacking)}\n" if lacking else "", end="")
-        return 0
+        well = f"{sum(len(tree.edits(name, self.kind)) for name in self.having() if name not in lacking)} {said} on the present text"
+        return tree.verdict(wrong, well + (f"\nstill to {still} {', '.join(lacking)}" if lacking else ""))
 
     def asked(self, words):
         """The crates that words ask for: those named, all that have edits of this kind, or those without an entry."""
@@ -107,13 +104,11 @@ class Record:
         return max((self.note([its], fault) for its in zip(names, sums, work(names))), default=0)
 
     def note(self, tried, fault):
-        """Records this version's results: for each crate that it tried, the sum of the text and whether all was well. Returns 1 if it wasn't
-        of some, and names these in the text of the fault."""
-        here = version()
+        """Records this version's results: of each crate that it tried the text's sum, if all was well. Otherwise it names the crate, and returns 1."""
+        here, having = version(), self.having()
         sums = {name: mine for name, mine, _ in tried}
         kept = [it for it in self.entries() if it[0] not in sums or (it[1] == sums[it[0]] and it[2] != here)]
-        having = self.having()
-        found = {*kept, *((name, mine, here) for name, mine, well in tried if well)}
-        self.file.write_text("".join(f"{' '.join(it)}\n" for it in sorted((it for it in found if it[0] in having), key=lambda it: (having.index(it[0]), it))))
+        found = {it for it in (*kept, *((name, mine, here) for name, mine, well in tried if well)) if it[0] in having}
+        self.file.write_text("".join(f"{' '.join(it)}\n" for it in sorted(found, key=lambda it: (having.index(it[0]), it))))
         lost = [name for name, _, well in tried if not well]
         return tree.verdict([fault.format(", ".join(lost))], "") if lost else 0

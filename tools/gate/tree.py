@@ -6,7 +6,6 @@ import subprocess
 import sys
 from collections import namedtuple
 from contextlib import contextmanager
-from dataclasses import dataclass
 from functools import cache
 from pathlib import Path
 from tempfile import TemporaryDirectory
@@ -34,33 +33,15 @@ TYPE = re.compile(r"(?P<comment>(?:^///.*\n)*)(?:^#\[.*\n)*^pub (?:struct|enum|t
 CLAUSE = re.compile(r"(?P<comment>(?:^ *//(?!/).*\n)*)^\s*(?:pub )?(?P<kind>requires|ensures|ghost)\b(?! use )(?P<label>[^{;]*)\{|\bby \{", re.M)
 # An edit in a file of several: its name, and its lines.
 EDIT = re.compile(r"edit: (\w+)\n((?:(?:file|old|new|law|definition|twin):.*\n)+)\n*")
+# A function of a file: the type that it is a method of, or "", its name after that of the type, and the places of its head, its body and its end.
+Function = namedtuple("Function", "name type called of_trait public start body end")
+# A clause of a file, or a proof in its code, which has no kind: its places, its label, the comment above it, and its text.
+Clause = namedtuple("Clause", "start end kind label comment text")
+Definition = namedtuple("Definition", "sentence text names")
 
 
-@dataclass(frozen=True)
-class Function:
-    """A function of a file: the type that it is a method of, or "", and the places of its head, of its body and of its end."""
-
-    name: str
-    type: str
-    of_trait: bool
-    public: bool
-    start: int
-    body: int
-    end: int
-
-    @property
-    def called(self):
-        return f"{self.type}::{self.name}" if self.type else self.name
-
-
-@dataclass(frozen=True)
-class Edit:
+class Edit(namedtuple("Edit", "crate kind name text")):
     """A wrong body of a crate, the twin of one, or a wrong definition."""
-
-    crate: str
-    kind: str
-    name: str
-    text: str
 
     @property
     def place(self):
@@ -68,17 +49,11 @@ class Edit:
 
     def changes(self):
         """Each change: the file, the old text and the new one."""
-        file, old = "", ""
-        for line in self.text.splitlines():
-            if line.startswith("file: "):
-                file = line[6:].strip()
-            elif line.startswith("old: "):
-                old = line[5:]
-            elif line.startswith("new:"):
-                yield file, old, line[4:].removeprefix(" ")
-
-
-Definition = namedtuple("Definition", "sentence text names")
+        its = {}
+        for word, text in re.findall(r"^(file|old|new): ?(.*)", self.text, re.M):
+            its[word] = text
+            if word == "new":
+                yield its["file"].strip(), its["old"], text
 
 
 def relative(path):
@@ -95,11 +70,6 @@ def crates():
     """The crates in the order of crates.txt, each with those that it uses."""
     lines = crate_lines()
     return {name: [it for it in line.split(":")[1].split() if it in lines] for name, line in lines.items()}
-
-
-def below(name, used):
-    """The crates below a crate."""
-    return set(used[name]).union(*(below(it, used) for it in used[name]))
 
 
 def folder(name):
@@ -127,25 +97,14 @@ def functions(text):
             opened = re.compile(rf"^{part['indent']}(?! ).*(?:\{{\}}|[{{;])$", re.M).search(text, part.start(), after)
             body = opened.end() if opened else after
             close = text.find(f"\n{part['indent']}}}", body - 1) if opened and opened[0][-1] == "{" else body
-            found.append(Function(part["name"], of, kind == "trait", bool(part["public"]), part.start(), body, close if close >= 0 else len(text)))
+            name, end = part["name"], close if close >= 0 else len(text)
+            found.append(Function(name, of, f"{of}::{name}" if of else name, kind == "trait", bool(part["public"]), part.start(), body, end))
     return found
 
 
 def function_at(text, place):
     """The function that contains a place of a file, or None."""
     return next((it for it in functions(text) if it.start <= place <= it.end), None)
-
-
-@dataclass(frozen=True)
-class Clause:
-    """A clause of a file, or a proof in its code, which has no kind: its places, its label, the comment above it, and its text."""
-
-    start: int
-    end: int
-    kind: str
-    label: str
-    comment: str
-    text: str
 
 
 @cache
@@ -178,28 +137,26 @@ def by_module(text):
 
 
 def imports(text):
-    """The definitions that a file imports, each as its crate, module and name by the name that it has in the file; and the
-    modules that it names by another name."""
-    local, alias = {}, {}
+    """What a file imports, by the name that it has there: each definition as its crate, module and name, and each whole module without a name."""
+    names = {}
     for crate, module, group, one, other in USE.findall(by_module(text)):
-        if group or one:
-            for it in filter(None, (word.strip() for word in (group or one).split(","))):
-                name, _, here = it.partition(" as ")
-                local[(here or other or name).strip()] = crate, module, name.strip()
-        elif other:
-            alias[other] = crate, module
-    return local, alias
+        if not group and not one:
+            names[other] = crate, module
+        for it in filter(None, (word.strip() for word in (group or one).split(","))):
+            name, _, here = it.partition(" as ")
+            names[(here or other or name).strip()] = crate, module, name.strip()
+    return names
 
 
-def cited(text, local, alias):
-    """The definitions that a text names, in the order of their places."""
+def cited(text, names):
+    """The definitions that a text names, given what its file imports, in the order of their places."""
     found = {}
     for word in WORD.findall(text):
         head, _, rest = word.partition(".")
-        if head in local:
-            found[local[head]] = None
-        if head in alias and rest:
-            found[(*alias[head], rest.split(".")[0])] = None
+        if len(its := names.get(head, ())) == 3:
+            found[its] = None
+        elif its and rest:
+            found[(*its, rest.split(".")[0])] = None
     return found
 
 
@@ -214,12 +171,11 @@ def definitions(crate):
     found = {}
     for path in sorted(folder(crate).glob("specs/*.antt")):
         text = path.read_text()
-        local, alias = imports(text)
         its = [*DEFINITION.finditer(text)]
-        local |= {it["name"]: (crate, path.stem, it["name"]) for it in its}
+        names = imports(text) | {it["name"]: (crate, path.stem, it["name"]) for it in its}
         for it, end in zip(its, [*(it.start("head") for it in its[1:]), len(text)]):
             its_text = text[it.start("head") : end]
-            found[local[it["name"]]] = Definition(sentence(it["comment"]), its_text, cited(its_text, local, alias))
+            found[names[it["name"]]] = Definition(sentence(it["comment"]), its_text, cited(its_text, names))
     return found
 
 
@@ -261,9 +217,8 @@ def edited(texts, edit):
 @contextmanager
 def copied(names):
     """A folder with a copy of these crates and those below them, with the edits of these crates alone, and with what earlier checks have proved."""
-    used = crates()
     with TemporaryDirectory(prefix="gate-") as room:
-        needed = set(names).union(*(below(it, used) for it in names))
+        needed = reached(names, crates())
         shutil.copy(TOP / "HANDLES", room)
         Path(room, "crates.txt").write_text("".join(f"{line}\n" for name, line in crate_lines().items() if name in needed))
         for name in needed:

@@ -33,26 +33,23 @@ def are_proved(room, name):
         status, said = tree.said_by(crate, "rt", "check", "--jobs", "1")
         for file, text in before.items():
             (crate / file).write_text(text)
-        if status:
-            print("\n".join(it for it in said.splitlines() if UNPROVED.search(it)))
         print(f"twins {name}: {'NOT PROVED' if status else 'proved'}: {', '.join(it.name for it in left if it not in behind)}", flush=True)
         if status:
+            print("\n".join(it for it in said.splitlines() if UNPROVED.search(it)))
             return False
         left = behind
     return True
 
 
-def check(book):
-    """Names the wrong bodies without a twin, the twins of none, and the crates without an entry, which the gate proves later."""
-    wrong = []
-    for name in book.used:
-        bodies, twins = ({it.name: it.place for it in tree.edits(name, kind)} for kind in ("must-fail", "twins"))
-        wrong += [f"{bodies[it]} has no twin" if it in bodies else f"{twins[it]} is the twin of no edit" for it in sorted(bodies.keys() ^ twins.keys())]
-    return tree.verdict(wrong, "") if wrong else book.tell("wrong bodies have a twin that was proved", "prove: the twins of")
+def unpaired(name):
+    """The wrong bodies of a crate without a twin, and its twins of none."""
+    bodies, twins = ({it.name: it.place for it in tree.edits(name, kind)} for kind in ("must-fail", "twins"))
+    for it in sorted(bodies.keys() ^ twins.keys()):
+        yield f"{bodies[it]} has no twin" if it in bodies else f"{twins[it]} is the twin of no edit"
 
 
 def main(words):
     book = record.Record("proved-twins", "twins")
     if words == ["--check"]:
-        return check(book)
+        return book.verdict([it for name in book.used for it in unpaired(name)], "wrong bodies have a twin that was proved", "prove: the twins of")
     return book.main(words, lambda names: record.in_copies(names, are_proved), "twins of {} were not proved")

@@ -1,14 +1,11 @@
 """waits-nowhere: checks the text of the crates that a call of the shared device runs through: each loop is one of LOOPS, each call is of a
-function of these crates or one of CALLS, and no function calls itself, directly or through others of its crate. So a host's call has
-nothing by which it could wait for another thread that isn't listed here with a reason. A proof doesn't show this: a body that loads a
-word a few thousand million times, until another thread has changed it, meets every clause. This check takes each listed loop to run as its
-reason says, and doesn't see code that runs without a call, as the destructor of a value, or a function that calls itself through a trait
-of another crate. Two things it leaves to the toolchain: functions that call each other have `#[cycle]`, which is no listed call here; and a
+function of these crates or one of CALLS, and no function calls itself, directly or through others of its crate. docs/PROVED.md says what this is
+for, and what it doesn't see. Two things it leaves to the toolchain: functions that call each other have `#[cycle]`, which is no listed call here; and a
 function that calls itself has a measure in a folder `+NAME`, unless it goes down a value of a type that contains itself, which none may here."""
 
 import re
 from collections import Counter
-from functools import cache, partial
+from functools import cache
 
 from gate import tree
 
@@ -47,7 +44,7 @@ exports/opening.rt | retire_brooms | while let Some(broom) = brooms.pop() | the 
 exports/opening.rt | seat_hosts | while let Some(pass) = passes.pop() | the hosts
 exports/opening.rt | seat_brooms | while let Some(broom) = brooms.pop() | the brooms
 exports/opening.rt | are_closed | for handle in handles.iter() | the handles
-"""
+""".strip().splitlines()
 # The calls of other crates and of closures, each line with why they end. None of them takes a function or an iterator, or looks at a word without a step.
 CALLS = """
 atomic_table: one step on a word | load store swap compare_exchange fetch_add fetch_sub fetch_or
@@ -61,12 +58,13 @@ std: memory and values of the calling thread | with_capacity push_reserved resiz
 std: bytes and numbers of the calling thread | copy_from_slice fill len sort_unstable split_first_mut to_le_bytes from_le_bytes from wrapping_add saturating_sub
 std: the next of a finite list | iter iter_mut into_iter next pop
 std: reports | is_none is_some is_ok write_str
-"""
+""".strip().splitlines()
 MACROS = {"unreachable", "vec", "write"}
 # Methods of std's iterators that take a function. No method of these crates is called by such a name.
 ITERATORS = set("all any filter find fold for_each map position reduce scan skip_while take_while try_fold try_for_each".split())
 # No code that runs: comments, strings, characters and the imports of definitions.
 NO_CODE = re.compile(r"""//[^\n]*|b?"(?:[^"\\]|\\.)*"|b?'(?:[^'\\\n]|\\[^\n]+?)'|^[ \t]*(?:pub )?ghost use [^\n]*""", re.M | re.S)
+SIGN = re.compile(r"[^\n]")
 LOOP = re.compile(r"\b(?:for(?!<)|while|loop)\b[^\n{]*")
 # Texts in which a quote may begin or end something else than code_of takes it for.
 UNREADABLE = re.compile(r'/\*|\br#*"')
@@ -81,13 +79,9 @@ NO_CALLS |= set("tactic using unfolding derive repr unsafe error allow".split())
 @cache
 def code_of(text):
     """The code of a file, with blanks in place of what doesn't run."""
-
-    def blank(found):
-        return re.sub(r"[^\n]", " ", found[0])
-
-    text = NO_CODE.sub(blank, text)
+    text = NO_CODE.sub(lambda found: SIGN.sub(" ", found[0]), text)
     for it in (it for it in tree.clauses(text) if not re.search(r"\bfn\b", it.label)):
-        text = text[: it.start] + re.sub(r"[^\n]", " ", text[it.start : it.end]) + text[it.end :]
+        text = text[: it.start] + SIGN.sub(" ", text[it.start : it.end]) + text[it.end :]
     return text
 
 
@@ -103,11 +97,14 @@ class Source:
     """A file, with its code and its functions."""
 
     def __init__(self, path):
-        self.path, text = path, path.read_text()
-        self.unreadable = UNREADABLE.search(text)
-        self.name, self.crate = re.sub(r"^crates/|src/", "", tree.relative(path)), path.relative_to(tree.TOP).parts[1]
-        self.code, self.functions = code_of(text), tree.functions(text)
-        self.owner = partial(tree.function_at, text)
+        self.path, self.text = path, path.read_text()
+        self.name, self.code, self.functions = re.sub(r"^crates/|src/", "", tree.relative(path)), code_of(self.text), tree.functions(self.text)
+
+    def owner(self, place):
+        return tree.function_at(self.text, place)
+
+    def at(self, place):
+        return f"{tree.relative(self.path)}:{self.code.count(chr(10), 0, place) + 1}"
 
     def loops(self):
         """Each loop, as a line of the list without its reason, and its place."""
@@ -118,18 +115,10 @@ class Source:
             head += "".join(f" where {bound[1]} = {' '.join(value.split())}" for value in values)
             yield f"{self.name} | {owner.called if owner else 'outside'} | {head}", found.start()
 
-    def at(self, place):
-        return f"{tree.relative(self.path)}:{self.code.count(chr(10), 0, place) + 1}"
-
-
-def listed(text):
-    """The lines of a list, each without its last column, and the words of those columns."""
-    return [tuple(part.strip() for part in line.rsplit("|", 1)) for line in text.strip().splitlines()]
-
 
 def wrong_loops(files):
     """The loops that aren't listed, and those that are and aren't there."""
-    wanted = Counter(line for line, _ in listed(LOOPS))
+    wanted = Counter(line.rpartition(" | ")[0] for line in LOOPS)
     for file in files:
         for line, place in file.loops():
             if not wanted[line]:
@@ -140,7 +129,7 @@ def wrong_loops(files):
 
 def wrong_calls(files):
     """The calls of functions that are neither of these crates nor listed."""
-    others = {word for _, words in listed(CALLS) for word in words.split()}
+    others = {word for line in CALLS for word in line.partition(" | ")[2].split()}
     known = {it.name for file in files for it in file.functions} | others
     for file in files:
         for path, name, macro, place in calls(file.code):
@@ -166,6 +155,6 @@ def wrong_cycles(files):
 
 def main(_):
     files = [Source(path) for crate in CRATES for path in tree.sources(crate)]
-    unreadable = (f"{tree.relative(it.path)}: this check can't read `{it.unreadable[0]}`" for it in files if it.unreadable)
+    unreadable = (f"{tree.relative(it.path)}: this check can't read `{found[0]}`" for it in files if (found := UNREADABLE.search(it.text)))
     wrong = [*unreadable, *wrong_loops(files), *wrong_calls(files), *wrong_cycles(files)]
-    return tree.verdict(wrong, f"no call of the shared device has a loop but the {len(listed(LOOPS))} listed ones, an unlisted call, or one of itself")
+    return tree.verdict(wrong, f"no call of the shared device has a loop but the {len(LOOPS)} listed ones, an unlisted call, or one of itself")

@@ -5,8 +5,6 @@ version, out of must-fail/ while it runs. `wrong-bodies --back` puts them back i
 
 import re
 import shutil
-import subprocess
-import sys
 
 from gate import gallery, record, tree, twins
 
@@ -48,8 +46,7 @@ def put_back():
 
 
 def put_aside():
-    """Takes the edits of the crates that have an entry for their text out of their must-fail/, and prints the versions
-    that refused them."""
+    """Takes the edits of the crates that have an entry for their text out of must-fail/, and prints the versions that refused them."""
     put_back()
     book = refused()
     if misfits := [it.place for name in book.used for it in tree.edits(name) if tree.edited({}, it) is None]:

@@ -1,14 +1,12 @@
 """wrong-definitions CRATE.. | --all | --missing | --check: shows that laws refuse the wrong definitions of these crates, of all, or
 of those without an entry. The prover reads the law that an edit names again with a copy of the definition made wrong, and with one that is only
-written otherwise (its twin), all in one run for each crate of laws, in which the crates below are sources of which no body is proved. What
-stands between a law and a definition is copied too. The clause has to stay open with the wrong definition, and the whole law has to be
-proved with the twin. For each crate whose wrong definitions are all refused .ci/refused-definitions gets an entry. --check names the crates
-without one, and fails if an edit doesn't fit its definition or names no law."""
+written otherwise (its twin), all in one run for each crate of laws; what stands between a law and a definition is copied too. The clause has to stay
+open with the wrong definition, and the whole law has to be proved with the twin. Then .ci/refused-definitions gets an entry for the crate. --check
+names the crates without one, and fails if an edit doesn't fit its definition or names no law."""
 
-import importlib.util
 import re
+import runpy
 import shutil
-from itertools import starmap
 from pathlib import Path
 
 from gate import record, tree
@@ -39,7 +37,7 @@ class Wrong:
 
 def edits(*names):
     """The wrong definitions of crates."""
-    return list(starmap(Wrong, enumerate(it for name in names for it in tree.edits(name, "wrong-definitions"))))
+    return [Wrong(*it) for it in enumerate(it for name in names for it in tree.edits(name, "wrong-definitions"))]
 
 
 def sources(used):
@@ -52,8 +50,7 @@ def place_of(edit, texts):
     """The file of an edit's definition, and where its text begins and ends, or None if the old text isn't in it exactly once."""
     head = re.compile(rf"^(?:abbrev |unfoldable )?pub (?:record |data )?{re.escape(edit.definition)} .*?(?=^\n|\Z)", re.M | re.S)
     for it in (it for it in texts if it[:2] == (edit.crate, "specs")):
-        found = head.search(texts[it])
-        if found:
+        if found := head.search(texts[it]):
             return (it, *found.span()) if found[0].count(edit.old) == 1 else None
     return None
 
@@ -78,16 +75,6 @@ def misfits(all_edits, texts):
             yield f"{it.place} names {it.law} {it.clause}, which is no clause of a law"
 
 
-def between(text, target, texts):
-    """The files through which a text names a file, and that file."""
-    names = {it: set(NAMED.findall(other)) & texts.keys() for it, other in texts.items()}
-    users = {}
-    for it, others in names.items():
-        for other in others:
-            users.setdefault(other, set()).add(it)
-    return tree.reached(set(NAMED.findall(text)) & texts.keys(), names) & tree.reached([target], users)
-
-
 def part_of(text, wanted):
     """The definitions of a file that these words name, directly or through others of the file, with the imports that they need."""
     head, *rest = text.rstrip("\n").split("\n\n")
@@ -100,62 +87,55 @@ def part_of(text, wanted):
     return "\n\n".join(["\n".join(lines), *(kept[it] for it in sorted(kept))]) + "\n"
 
 
-def put_copy(room, edit, tag, new, texts):
-    """Adds a copy of an edit's law to the copy of its crate in a room, under a tag, as it reads with this text in place of the old one."""
-    crate = room / "crates" / edit.home
+def copy_of(edit, tag, new, texts, below):
+    """A copy of an edit's law under a tag, as it reads with this text in place of the old one: texts to add to files of the law's crate."""
     imports, law, answers = law_of(edit)
     target, begin, end = place_of(edit, texts)
-    copied = between(imports + law + answers, target, texts)
+    copied = {it for named in NAMED.findall(imports + law + answers) for it in below.get(named, ()) if target in below[it]}
     wanted = set(WORD.findall("\n".join([imports, law, answers, *(texts[it] for it in copied if it != target)])))
+    changed = texts[target][:begin] + texts[target][begin:end].replace(edit.old, new) + texts[target][end:]
 
     def redirected(text):
         return NAMED.sub(lambda it: f"Rattle.{edit.home}.{it[2]}.{tag}_{it[1]}_{it[3]}" if it.groups() in copied else it[0], text)
 
     for it in copied:
-        text = texts[it]
-        if it == target:
-            text = part_of(text[:begin] + text[begin:end].replace(edit.old, new) + text[end:], wanted)
-        (crate / it[1] / f"{tag}_{it[0]}_{it[2]}.antt").write_text(redirected(text))
-        with (crate / it[1] / "Lib.antt").open("a") as lib:
-            lib.write(f"pub mod {tag}_{it[0]}_{it[2]}\n")
-    put_law(crate, tag, f"{redirected(imports)}\n{redirected(law)}")
+        yield f"{it[1]}/{tag}_{it[0]}_{it[2]}.antt", redirected(part_of(changed, wanted) if it == target else texts[it])
+        yield f"{it[1]}/Lib.antt", f"pub mod {tag}_{it[0]}_{it[2]}\n"
+    yield from law_to_add(tag, redirected(f"{imports}\n{law}"))
     if answers:
-        folder = crate / "proofs/wrong" / tag / edit.function
-        folder.mkdir(parents=True)
         own = answers.replace(".".join(["proofs", *edit.modules, edit.function, ""]), f"proofs.wrong.{tag}.{edit.function}.")
-        (folder / "Answers.antt").write_text(redirected(own))
+        yield f"proofs/wrong/{tag}/{edit.function}/Answers.antt", redirected(own)
 
 
-def said_of(home, put):
-    """What the prover prints of the laws that `put` adds to a copy of a crate in a room, below src/wrong. The module behind the rt command knows how it
-    is called with the crates below as sources."""
-    with tree.copied([home]) as room:
-        (room / "crates" / home / "src/wrong").mkdir()
-        with (room / "crates" / home / "src/lib.rt").open("a") as lib:
-            lib.write("mod wrong;\n")
-        put(room)
-        spec = importlib.util.spec_from_file_location("rtlib", Path(shutil.which("rt") or "rt").resolve().with_name("rtlib.py"))
-        try:
-            rtlib = importlib.util.module_from_spec(spec)
-            spec.loader.exec_module(rtlib)
-            crate = next(it for it in rtlib.crates_below(str(room)) if it.name == home)
-            words = [*crate.words(["--jobs", "1"], keeps=False, as_source=True), "--only", f"{home}::wrong"]
-        except (OSError, AttributeError, TypeError) as error:
-            raise SystemExit(f"wrong-definitions needs the toolchain's rt on the path, and a rtlib that gives crates as sources: {error}") from error
-        return tree.said_by(crate.folder, rtlib.RATTLE, "check", *words)[1]
-
-
-def put_law(crate, tag, text):
-    """Adds a law to those that are checked of a copy of a crate."""
-    (crate / f"src/wrong/{tag}.rt").write_text(f"//! A law.\n{text}")
-    with (crate / "src/wrong.rt").open("a") as parent:
-        parent.write(f"mod {tag};\n")
+def law_to_add(tag, text):
+    """What adds a law to those that are checked of a copy of a crate."""
+    return (f"src/wrong/{tag}.rt", f"//! A law.\n{text}"), ("src/wrong.rt", f"mod {tag};\n")
 
 
 def said_by(all_edits, used):
     """What the prover prints of copies of the laws of these edits, which are in one crate."""
     texts = sources(used)
-    return said_of(all_edits[0].home, lambda room: [put_copy(room, it, tag, new, texts) for it in all_edits for tag, new in it.copies.items()])
+    names = {it: NAMED.findall(text) for it, text in texts.items()}
+    below = {it: tree.reached([it], names) & texts.keys() for it in texts}
+    return said_of(all_edits[0].home, [it for edit in all_edits for copy in edit.copies.items() for it in copy_of(edit, *copy, texts, below)])
+
+
+def said_of(home, additions):
+    """What the prover prints of the laws in src/wrong/ of a copy of a crate with these texts added to its files. The module behind the rt command
+    knows how it is called with the crates below as sources."""
+    with tree.copied([home]) as room:
+        for name, text in [("src/lib.rt", "mod wrong;\n"), *additions]:
+            path = room / "crates" / home / name
+            path.parent.mkdir(parents=True, exist_ok=True)
+            with path.open("a") as file:
+                file.write(text)
+        try:
+            rtlib = runpy.run_path(str(Path(shutil.which("rt") or "rt").resolve().with_name("rtlib.py")))
+            crate = next(it for it in rtlib["crates_below"](str(room)) if it.name == home)
+            words = [*crate.words(["--jobs", "1"], keeps=False, as_source=True), "--only", f"{home}::wrong"]
+        except (OSError, KeyError, AttributeError, TypeError) as error:
+            raise SystemExit(f"wrong-definitions needs the toolchain's rt on the path, and a rtlib that gives crates as sources: {error}") from error
+        return tree.said_by(crate.folder, rtlib["RATTLE"], "check", *words)[1]
 
 
 def fault_of(edit, said):
@@ -196,7 +176,7 @@ class Refused(record.Record):
     def sum_of(self, name):
         """A sum of the text that the refusals of a crate depend on: its edits, the definitions that a law reads, and the laws."""
         named = {it.law: it for it in edits(name)}
-        specs = sorted({name, *tree.below(name, self.used), *(it.home for it in named.values())})
+        specs = sorted(tree.reached([name], self.used) | {it.home for it in named.values()})
         files = [path for it in specs for path in record.files_of(it, "specs")]
         for it in named.values():
             files += [it.of_law("src").with_suffix(".rt"), *sorted(tree.folder(it.home).glob("proofs/*.antt"))]
@@ -206,8 +186,7 @@ class Refused(record.Record):
 
 def main(words):
     book = Refused("refused-definitions", "wrong-definitions")
-    if wrong := list(misfits(edits(*book.having()), sources(book.used))):
-        return tree.verdict(wrong, "")
-    if words == ["--check"]:
-        return book.tell("wrong definitions were refused", "try: those of")
+    wrong = list(misfits(edits(*book.having()), sources(book.used)))
+    if wrong or words == ["--check"]:
+        return book.verdict(wrong, "wrong definitions were refused", "try: those of")
     return book.main(words, lambda names: refused(names, book.used), "wrong definitions of {} were not refused")

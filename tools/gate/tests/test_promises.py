@@ -25,7 +25,7 @@ class Promises(Small):
 
     def test_a_path_leads_to_an_item_of_its_crate_or_module(self):
         for path, wrong in (("low::Room", ""), ("room::Room", ""), ("std::Hall", ""), ("room::Hall", "room has no Hall"), ("low::Hall", "low has no Hall")):
-            self.assertEqual(list(promises.wrong_paths("PAGE", 7, f"- It is `{path}`.")), [f"PAGE:7: {wrong}"] if wrong else [], path)
+            self.assertEqual(list(promises.wrong_code("PAGE", path, set())), [wrong] if wrong else [], path)
 
     def test_a_page_names_its_reader_first_and_is_no_longer_than_it_may_be(self):
         def wrong(page, text):
