@@ -3,7 +3,6 @@
 import re
 
 from gate import laws, tree
-from gate.pages import beginning, shown
 
 LAWS = """## Laws of the definitions
 
@@ -41,20 +40,20 @@ def meaning(it, known, told, within=True):
     told.add(it)
     parts = [other for other in known[it].names if within and other[0] == it[0] and other[2][0].isupper() and other in known and other not in told]
     inner = " ".join(meaning(other, known, told, False) for other in parts)
-    return f"`{it[2]}`: {shown(known[it].sentence)}" + (f" ({inner})" if inner else "")
+    return f"`{it[2]}`: {tree.shown(known[it].sentence)}" + (f" ({inner})" if inner else "")
 
 
 def rows(function, path, text, known, told):
     """The rows of a call: the call, and each clause with what it says. The definitions that were told are added to `told`."""
     comment = "".join(line for line in COMMENT.search(text[: function.start])[1].splitlines(True) if "/// |" not in line)
-    yield f"[`{function.called}`](../{tree.relative(path)})", "", shown(tree.sentence(comment))
+    yield f"[`{function.called}`](../{tree.relative(path)})", "", tree.shown(tree.sentence(comment))
     for it in tree.head_clauses(text, function):
         named = [other for other in tree.cited(it.text, tree.imports(text)) if other in known and other[2][0].isupper()]
-        says, clause = shown(" ".join(line.strip().lstrip("/ ") for line in it.comment.splitlines())), " ".join(it.text.split())
+        says, clause = tree.shown(" ".join(line.strip().lstrip("/ ") for line in it.comment.splitlines())), " ".join(it.text.split())
         if not says and named:
             says = " ".join(meaning(it, known, told) for it in named)
         elif not says:
-            says = shown(f"`{clause}`") if len(clause) <= LONGEST else "In the source."
+            says = tree.shown(f"`{clause}`") if len(clause) <= LONGEST else "In the source."
         yield "", ("requires " if it.kind == "requires" else "") + (f"`{it.label}`" if it.label else "unnamed"), says
 
 
@@ -76,7 +75,7 @@ def page(known):
     """The page, and what is wrong with the sources."""
     used = [name for name in tree.crates() if name not in laws.CALLERS]
     known = {it: its for it, its in known.items() if its.sentence and it[0] in used}
-    text = beginning("docs/CALLS.md") + "".join(part(name, known) for name in used if name != "laws") + LAWS
+    text = tree.beginning("docs/CALLS.md") + "".join(part(name, known) for name in used if name != "laws") + LAWS
     files = [path for name in used if (path := tree.folder(name) / "src/laws.rt").exists()]
     its = [*public("laws"), *((it, path, path.read_text()) for path in files for it in tree.functions(path.read_text()))]
     text += "".join(law(*it, known) for it in its)

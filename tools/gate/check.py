@@ -1,9 +1,9 @@
 """check: proves, tests and tries everything that has to hold before a merge. The last line is `rt ci`'s count of what passed and failed.
 
-It begins with the checks of the sources and pages (BEFORE). Then `rt ci` proves everything, tries the wrong bodies of each crate that has no
-entry in .ci/refused for its present text, and runs the tests. AFTER and ROWS follow; if CI=true, also the package on a system without the toolchain.
-
-What the checks need of Debian is installed if CI=true. Otherwise what is missing is named, and nothing is begun."""
+It begins with the checks of the sources and pages (BEFORE). Then `rt ci` proves everything, tries the wrong bodies of each crate that has no entry
+in .ci/refused for its present text, and runs the tests. The twins and wrong definitions of changed crates follow, the program and the library
+(AFTER), and what is built from them (ROWS). If CI=true it installs what the checks need of Debian, and ends with the package on a system without
+the toolchain. Otherwise what is missing is named, and nothing is begun."""
 
 import os
 import re

@@ -1,11 +1,11 @@
-"""definitions [--write]: docs/DEFINITIONS.md, made from the comments above the public definitions of the crates' specs/ and above the types that
-a crate exports; and docs/CALLS.md, made by calls.py. Without --write it changes nothing, and fails if a page differs; if a definition or a public call
-has no comment, or is needed only by functions that nobody calls; or if a definition of a public clause has no law, no caller, and no reason in laws.py."""
+"""definitions [--write]: docs/DEFINITIONS.md, made from the comments above the public definitions of the crates' specs/ and above the types that a
+crate exports; and docs/CALLS.md, made by calls.py. Without --write it changes nothing, and fails if a page differs; if a definition or a public
+call has no comment; if only functions need a definition that nobody calls; or if one of a public clause has no law, no caller and no reason in
+laws.py."""
 
 import re
 
 from gate import calls, laws, tree
-from gate.pages import beginning, differing, shown
 
 SHOWN = """- Only premises name these, directly or through other definitions, so no promise shows what they say; each caller has to prove them:
 {}.
@@ -16,8 +16,7 @@ SHOWN = """- Only premises name these, directly or through other definitions, so
 
 
 def table(rows, kind="Definition"):
-    cells = "".join(f"| `{name}` | {shown(sentence)} |\n" for name, sentence in rows)
-    return f"| {kind} | In one sentence |\n|---|---|\n{cells}\n"
+    return f"| {kind} | In one sentence |\n|---|---|\n" + "".join(f"| `{name}` | {tree.shown(says)} |\n" for name, says in rows) + "\n"
 
 
 def modules(crate):
@@ -44,7 +43,7 @@ def part(crate, known):
         rows = [(name, its.sentence) for (home, module, name), its in known.items() if (home, module) == (crate, path.stem)]
         title = tree.sentence(re.match(r"(?:--.*\n)*", path.read_text())[0])
         if internal:
-            text += f"<details><summary>Internal: {path.name}. {shown(title)}</summary>\n\n{table(rows)}</details>\n\n"
+            text += f"<details><summary>Internal: {path.name}. {tree.shown(title)}</summary>\n\n{table(rows)}</details>\n\n"
         else:
             text += f"**[`{path.name}`](../{tree.relative(path)})** {title}\n\n{table(rows)}"
     types = handed_out(crate)
@@ -64,7 +63,7 @@ def made(known):
     premises = [it for it in names if it in everywhere - promised]
     crates = [name for name in tree.crates() if (tree.folder(name) / "specs/Lib.antt").exists()]
     about = SHOWN.format(listed(premises), listed(it for it in names if it not in everywhere), laws.counted(shown_as))
-    page = beginning("docs/DEFINITIONS.md") + about + "".join(part(name, known) for name in crates).rstrip("\n") + "\n"
+    page = tree.beginning("docs/DEFINITIONS.md") + about + "".join(part(name, known) for name in crates).rstrip("\n") + "\n"
     bare = [f"crates/{crate}/specs/{module}.antt: {name}" for (crate, module, name), its in known.items() if not its.sentence]
     bare += [f"crates/{crate}: {name}" for crate in crates for name, sentence in handed_out(crate) if not sentence]
     return page, [*(f"{it} has no sentence above it" for it in bare), *laws.idle(premises, names, clauses), *laws.without(shown_as)]
@@ -73,5 +72,5 @@ def made(known):
 def main(words):
     known = {it: its for crate in tree.crates() for it, its in tree.definitions(crate).items()}
     (page, wrong), (calls_page, bare) = made(known), calls.page(known)
-    wrong = [*wrong, *bare] or [*differing(words, "definitions", DEFINITIONS=page, CALLS=calls_page)]
+    wrong = [*wrong, *bare] or [*tree.differing(words, "definitions", DEFINITIONS=page, CALLS=calls_page)]
     return tree.verdict(wrong, f"docs/DEFINITIONS.md has the {page[page.index(chr(10) + '## '):].count(chr(10) + '| `')} definitions of the sources")

@@ -5,17 +5,15 @@ import re
 from pathlib import Path
 
 from gate import tree
-from gate.pages import beginning, differing
 
 
-def page_file():
-    return tree.TOP / "docs/GALLERY.md"
+PAGE = "docs/GALLERY.md"
 
 
 def goals_on_page():
     """The goals that refused each edit, as the page has them: by the edit's crate and words."""
-    goals, crate = {}, ""
-    for line in page_file().read_text().splitlines() if page_file().exists() else []:
+    goals, crate, file = {}, "", tree.TOP / PAGE
+    for line in file.read_text().splitlines() if file.exists() else []:
         if line.startswith("## "):
             crate = line[3:].strip("`")
         elif line.startswith("| "):
@@ -25,8 +23,7 @@ def goals_on_page():
 
 
 def in_words(name):
-    words = name.replace("_", " ")
-    return words[0].upper() + words[1:]
+    return name.replace("_", " ").capitalize()
 
 
 def places_of(edit):
@@ -50,7 +47,7 @@ def row(edit, twin, goals):
 
 
 def page(goals):
-    text = beginning("docs/GALLERY.md")
+    text = tree.beginning(PAGE)
     for name in tree.crates():
         if edits := tree.edits(name):
             text += f"## `{name}`\n\n| Misdeed | In | Change | Refused by the goals | Twin that is proved |\n|---|---|---|---|---|\n"
@@ -61,13 +58,12 @@ def page(goals):
 
 def put(refused):
     """Puts on the page what refused these edits, each as its crate, its name and its goal."""
-    goals = {(name, in_words(edit)): f"**`{goal}`**" for name, edit, goal in refused if goal}
-    if goals:
-        page_file().write_text(page({**goals_on_page(), **goals}))
+    if goals := {(name, in_words(edit)): f"**`{goal}`**" for name, edit, goal in refused if goal}:
+        (tree.TOP / PAGE).write_text(page(goals_on_page() | goals))
 
 
 def main(words):
     made = page(goals_on_page())
     rows = re.findall(r"^\| (?!Misdeed).*", made, re.M)
     twins = sum(not line.endswith(" | none |") for line in rows)
-    return tree.verdict(differing(words, "gallery", GALLERY=made), f"docs/GALLERY.md has the {len(rows)} wrong bodies, {twins} of them with a twin")
+    return tree.verdict(tree.differing(words, "gallery", GALLERY=made), f"{PAGE} has the {len(rows)} wrong bodies, {twins} of them with a twin")

@@ -22,8 +22,6 @@ WITHOUT = {
     "state_of of exports": "another name",
     "kept of handles": "a formula of what a value owns: what makes such a value refuses a stronger one, and what ends it a weaker one",
 }
-
-
 Named = namedtuple("Named", "crate file kind function names")
 
 
@@ -48,13 +46,11 @@ def is_fact(text):
 
 
 def shown_by_laws(known, clauses):
-    """How each definition that a public clause names is shown: its group, or "" if it has neither a law nor a caller. Public are the clauses of
-    a public function, of a method of a trait or of its implementation, and those outside of all functions."""
+    """How each definition that a public clause names is shown: its group, or "" if it has neither a law nor a caller."""
     names = {it: its.names for it, its in known.items()}
-    of_laws = [it for it in clauses if it.crate in LAWS or it.file == "laws.rt"]
     others = [it for it in clauses if it.crate not in (*LAWS, *CALLERS) and it.file != "laws.rt"]
     public = set().union(*(it.names for it in others if not it.function or it.function.public or it.function.of_trait))
-    laws = set().union(*(it.names for it in of_laws))
+    laws = set().union(*(it.names for it in clauses if it.crate in LAWS or it.file == "laws.rt"))
     laws |= tree.reached((it for it in laws if it[0] in LAWS), {it: its for it, its in names.items() if it[0] in LAWS})
     through = tree.reached(laws, names)
     return {
@@ -65,8 +61,7 @@ def shown_by_laws(known, clauses):
 
 def counted(shown):
     """The page's text about laws."""
-    groups = list(shown.values())
-    kinds = [f"- {groups.count(group)} {words}." for group, words in GROUPS.items()]
+    kinds = [f"- {list(shown.values()).count(group)} {words}." for group, words in GROUPS.items()]
     told = "; ".join(f"`{name.replace(' of ', '` of `')}` ({why})" for name, why in WITHOUT.items())
     return "\n".join([f"Public clauses name {len(shown)} definitions:", "", *kinds, f"- The others are {told}."]) + "\n"
 
@@ -74,8 +69,8 @@ def counted(shown):
 def without(shown):
     """The definitions that should have a law and have none, and those that are listed in vain."""
     lacking = [f"{name} of {crate}" for (crate, _, name), group in shown.items() if not group]
-    told = "is named in a public clause, and has neither a law nor a caller: write a law in crates/laws"
-    yield from (f"{it} {told}" for it in lacking if it not in WITHOUT)
+    for it in (it for it in lacking if it not in WITHOUT):
+        yield f"{it} is named in a public clause, and has neither a law nor a caller: write a law in crates/laws"
     yield from (f"tools/gate/laws.py lists {it} in vain" for it in WITHOUT if it not in lacking)
 
 
@@ -87,10 +82,8 @@ def is_called(name, home, used):
 
 def idle(premises, names, clauses):
     """The definitions of these that only functions need that nobody calls."""
-    needed, used = {}, tree.crates()
-    for clause in (it for it in clauses if it.kind == "requires"):
-        for it in tree.reached(clause.names, names) & set(premises):
-            needed.setdefault(it, set()).add((clause.function.name, clause.crate))
+    used = tree.crates()
+    needs = [(tree.reached(it.names, names), it) for it in clauses if it.kind == "requires"]
     for it in premises:
-        if not any(is_called(name, crate, used) for name, crate in needed.get(it, ())):
+        if not any(it in needed and is_called(clause.function.name, clause.crate, used) for needed, clause in needs):
             yield f"only premises name {it[2]} of {it[0]}, and no function that needs it is called"

@@ -1,6 +1,5 @@
-"""layout: checks the sources and scripts that git tracks or could track. A line has at most 160 columns, counted in characters. A term of a proof
-has at most 60 lines: a clause of a definition, from its head to its end or to its `where`, whose own definitions are terms too. The body of a
-function of Rattle has at most 40 lines, but for the tests in TABLES, and a file has at most 800. Pages and edits aren't measured."""
+"""layout: checks the sources and scripts that git tracks or could track: the columns of a line, in characters, and the lines of a function's body, a
+file, and a term of a proof: a clause of a definition, to its end or its `where`, behind which are more terms. Pages and edits aren't measured."""
 
 import re
 import subprocess

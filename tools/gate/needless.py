@@ -1,7 +1,6 @@
-"""needless CRATE.. | --all | --missing: removes the answers in proofs/ that the check of these crates doesn't need, with the lemmas and
-imports that nothing uses then: those of which no goal stays open in a copy without any answer. But the answer stays at a goal that
-docs/GALLERY.md names first for a wrong body of the function. In .ci/needed it records the answers that each crate has after that.
-`needless --check` fails if a recorded crate has others, and names the crates that were never tried."""
+"""needless CRATE.. | --all | --missing: removes the answers in proofs/ of these crates without which no goal stays open, and the lemmas and imports
+that nothing uses then. But the answer stays at a goal that docs/GALLERY.md names first for a wrong body of the function. In .ci/needed it records the
+answers that are left. `needless --check` fails if a recorded crate has others, and names the crates that were never tried."""
 
 import hashlib
 import re
@@ -26,8 +25,7 @@ class Needed(record.Record):
 
     def having(self):
         """The crates with answers, but for those of tests, which the check of a crate doesn't prove."""
-        tests = {name for name in self.used if any("#[test]" in path.read_text() for path in tree.sources(name))}
-        return [name for name in self.used if files(tree.folder(name)) and name not in tests]
+        return [name for name in self.used if files(tree.folder(name)) and not any("#[test]" in path.read_text() for path in tree.sources(name))]
 
     def sum_of(self, name):
         its = [(function, goal) for function, path in files(tree.folder(name)).items() for goal in ANSWER.findall(path.read_text())]
@@ -35,8 +33,7 @@ class Needed(record.Record):
 
 
 def tried(room, name):
-    """The goals of a crate that the check leaves open without any answer, each as its function and its name, and what the check printed if
-    it couldn't read the crate."""
+    """The goals that the check of a crate leaves open without any answer, each after its function, and what it printed if it failed."""
     crate = room / "crates" / name
     answers = {path: path.read_text() for path in files(crate).values()}
     for path in answers:

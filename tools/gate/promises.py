@@ -1,7 +1,6 @@
 """promises: checks that what the pages name exists in the sources: calls with their clauses, the steps of the rule, words of code, items, files,
-links, versions of the toolchain, and the files that a page shows whole. A page also names its reader in the first line, links the glossary where it
-first uses a word of it, and has no two headings with the same text. And no two files of the crates' specs/ define the same name, but those
-that the glossary's table lists."""
+links, versions of the toolchain, and files shown whole. A page names its reader in the first line, links the glossary where it first uses a word
+of it, and has no two headings with the same text. No two files of specs/ define the same name, but those that the glossary lists."""
 
 import re
 from functools import cache
@@ -10,19 +9,15 @@ from gate import record, tree
 
 MOST_WORDS = {"README.md": 800}
 PAGES = ["README.md", "docs/PROVED.md", "docs/RULE.md", "docs/LIBRARY.md", "docs/LINKING.md", "docs/GLOSSARY.md", "docs/EXTENDING.md"]
-# The suffixes of sources.
-SOURCES = {".rt", ".antt", ".txt", ".h", ".c", ".cpp", ".rs", ".py", ""}
-# These name the toolchain with which all was proved.
-NAMING = ["README.md", "docs/PROVED.md"]
 VERSION = re.compile(r"rattle-kit-\w+|logic [0-9a-f]{16}")
 CODE = re.compile(r"`([^`]+)`")
 # Words of the glossary that a reader meets first; `pass`, `hold` and `stand` as nouns, or of a thread.
 OF_GLOSSARY = re.compile(r"\b(?:brooms?|a pass|passes|pins?|pinned|a hold|holds a page|drain(?:s|ed)?|fold(?:s|ed)?|meets?|stand)\b")
 
 
-def text_of(*places):
-    """The texts of all files in these places."""
-    return "".join(path.read_text() for place in places for path in tree.TOP.glob(place))
+def text_of(place):
+    """The texts of all files in a place."""
+    return "".join(path.read_text() for path in tree.TOP.glob(place))
 
 
 def clauses():
@@ -85,20 +80,21 @@ def wrong_steps(page, lines):
 
 def words_of_sources():
     """Each word of the sources, of the names of their files, and of the record of refusals with its versions."""
+    suffixes = {".rt", ".antt", ".txt", ".h", ".c", ".cpp", ".rs", ".py", ""}
     places = ("crates/*/*/**/*", "crates/*", "*", ".ci/*", "examples/**/*", "bench/*", "bindings/**/*", "packaging/*")
     files = [path for place in places for path in tree.TOP.glob(place) if "out" not in path.relative_to(tree.TOP).parts]
-    text = "".join(path.read_text() for path in files if path.is_file() and path.suffix in SOURCES)
+    text = "".join(path.read_text() for path in files if path.is_file() and path.suffix in suffixes)
     return set(re.findall(r"\w+", text + " ".join(str(path) for path in files)))
 
 
-def twice_defined(lines):
+def twice_defined():
     """The names that two files of specs/ define and the glossary doesn't list, and those that it lists in vain."""
     files = {}
     for path in tree.TOP.glob("crates/*/specs/*.antt"):
         for name in {it["name"] for it in tree.DEFINITION.finditer(path.read_text())}:
             files.setdefault(name, []).append(tree.relative(path))
     twice = {name: sorted(its) for name, its in files.items() if len(its) > 1}
-    listed = {name for _, [names] in rows(lines, "Defined twice") for name in names}
+    listed = {name for _, [names] in rows(text_of("docs/GLOSSARY.md").splitlines(), "Defined twice") for name in names}
     yield from (f"{twice[name][1]}: {name} is also defined in {twice[name][0]}" for name in sorted(set(twice) - listed))
     yield from (f"docs/GLOSSARY.md: {name} isn't defined twice" for name in sorted(listed - set(twice)))
 
@@ -164,8 +160,7 @@ def wrong_code(page, code, known):
 
 def main(_):
     recorded = set(VERSION.findall(str(record.Record("refused", "must-fail").versions().values())))
-    glossary = (tree.TOP / "docs/GLOSSARY.md").read_text().splitlines()
-    known, known_words, wrong = clauses(), words_of_sources(), [*twice_defined(glossary)]
+    known, known_words, wrong = clauses(), words_of_sources(), [*twice_defined()]
     for path in (path for place in ("*.md", "docs/*.md", "bench/*.md") for path in tree.TOP.glob(place)):
         page, text = tree.relative(path), path.read_text()
         prose = re.sub(r"```.*?```", lambda block: "\n" * block[0].count("\n"), text, flags=re.S).splitlines()
@@ -177,6 +172,6 @@ def main(_):
             wrong += [f"{page}:{number}: nothing at {link}" for link in re.findall(r"\]\(([^):]+)\)", line) if not leads(path, link)]
         if page in PAGES:
             wrong += [*wrong_rows(page, prose, known), *wrong_steps(page, prose)]
-        for it in sorted(recorded ^ set(VERSION.findall(text))) if page in NAMING else ():
+        for it in sorted(recorded ^ set(VERSION.findall(text))) if page in ("README.md", "docs/PROVED.md") else ():
             wrong += [f"{page}: {it} is {'in the record, and not on the page' if it in recorded else 'on the page, and not in the record'}"]
     return tree.verdict(wrong, "each link leads somewhere, and each call, clause, step and word of code on the pages exists in the sources")

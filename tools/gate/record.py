@@ -3,7 +3,6 @@
 import hashlib
 import os
 import subprocess
-import sys
 import threading
 from concurrent.futures import ThreadPoolExecutor
 from contextlib import ExitStack
@@ -42,8 +41,7 @@ def sum_of(parts):
 
 
 def in_copies(names, work):
-    """What `work` returns for each of these crates, given a folder with a copy of it: with as many crates at a time as there are pairs
-    of processors, each in a copy of its own, since a check locks the crates below."""
+    """What `work` returns for each of these crates, given a folder with a copy. Each thread has its own, since a check locks the crates below."""
     here, at_once = threading.local(), max(1, len(os.sched_getaffinity(0)) // 2)
 
     def enter():
@@ -84,7 +82,7 @@ class Record:
 
     def verdict(self, wrong, said, still):
         """Prints what is wrong, or how many edits have an entry, and the crates that lack one. Returns the status."""
-        lacking = self.lacking()
+        lacking = [] if wrong else self.lacking()
         well = f"{sum(len(tree.edits(name, self.kind)) for name in self.having() if name not in lacking)} {said} on the present text"
         return tree.verdict(wrong, well + (f"\nstill to {still} {', '.join(lacking)}" if lacking else ""))
 
@@ -93,7 +91,7 @@ class Record:
         having = self.having()
         names = {("--all",): having, ("--missing",): self.lacking()}.get(tuple(words), words)
         if not words or set(names) - set(having):
-            print(f"name crates that have {self.kind}, or --all: {', '.join(having)}", file=sys.stderr)
+            tree.verdict([f"name crates that have {self.kind}, or --all: {', '.join(having)}"], "")
             raise SystemExit(2)
         return names
 
@@ -104,7 +102,7 @@ class Record:
         return max((self.note([its], fault) for its in zip(names, sums, work(names))), default=0)
 
     def note(self, tried, fault):
-        """Records this version's results: of each crate that it tried the text's sum, if all was well. Otherwise it names the crate, and returns 1."""
+        """Records this version's results: of each crate that it tried the text's sum, if all was well. Names the others, and returns 1."""
         here, having = version(), self.having()
         sums = {name: mine for name, mine, _ in tried}
         kept = [it for it in self.entries() if it[0] not in sums or (it[1] == sums[it[0]] and it[2] != here)]

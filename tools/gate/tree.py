@@ -1,5 +1,7 @@
-"""The repository as the checks read it: its crates, the functions, clauses and imports of a file, and the definitions and edits of a crate."""
+"""The repository as the checks read it: its crates, the functions, clauses and imports of a file, a crate's definitions and edits, and the pages."""
 
+import difflib
+import html
 import re
 import shutil
 import subprocess
@@ -84,13 +86,13 @@ def sources(name):
 @cache
 def functions(text):
     """The functions of a file, in their order."""
-    found, kind, of = [], "", ""
+    found, of, of_trait = [], "", False
     parts = list(PARTS.finditer(text))
     for part, after in zip(parts, [*(it.start() for it in parts[1:]), len(text)]):
         if part["end"]:
-            kind, of = "", ""
+            of, of_trait = "", False
         elif part["kind"]:
-            kind = "trait" if "trait" in part["kind"] or " for " in part["type"] else "impl"
+            of_trait = "trait" in part["kind"] or " for " in part["type"]
             of = re.sub(r"<.*", "", part["type"].split(" for ")[-1]).split("::")[-1].strip()
         else:
             # The body begins in the head's line, or in a line that is indented as that is: clauses are further to the right.
@@ -98,7 +100,7 @@ def functions(text):
             body = opened.end() if opened else after
             close = text.find(f"\n{part['indent']}}}", body - 1) if opened and opened[0][-1] == "{" else body
             name, end = part["name"], close if close >= 0 else len(text)
-            found.append(Function(name, of, f"{of}::{name}" if of else name, kind == "trait", bool(part["public"]), part.start(), body, end))
+            found.append(Function(name, of, f"{of}::{name}" if of else name, of_trait, bool(part["public"]), part.start(), body, end))
     return found
 
 
@@ -214,6 +216,29 @@ def edited(texts, edit):
     return texts
 
 
+def beginning(page):
+    """What a page that is made has before its first list or part: this is written by hand, and stays."""
+    path = TOP / page
+    return re.split(r"^(?:- |## )", path.read_text() if path.exists() else "", maxsplit=1, flags=re.M)[0]
+
+
+def shown(text):
+    """Text as a cell of a table shows it."""
+    parts = re.split(r"(`[^`]*`)", text.replace("|", "\\|"))
+    return "".join(part if part[:1] == "`" else html.escape(part, quote=False) for part in parts)
+
+
+def differing(words, command, **pages):
+    """Writes these pages of docs/ if the word is --write. Returns what is wrong with those that differ from the sources, with the first lines."""
+    for name, text in pages.items():
+        path = TOP / f"docs/{name}.md"
+        if words == ["--write"]:
+            path.write_text(text)
+        if (before := path.read_text() if path.exists() else "") != text:
+            yield from (line.rstrip("\n") for line in list(difflib.unified_diff(before.splitlines(), text.splitlines(), path.name, "the sources"))[:40])
+            yield f"docs/{path.name} differs from the sources: run .ci/{command} --write"
+
+
 @contextmanager
 def copied(names):
     """A folder with a copy of these crates and those below them, with the edits of these crates alone, and with what earlier checks have proved."""
@@ -222,15 +247,13 @@ def copied(names):
         shutil.copy(TOP / "HANDLES", room)
         Path(room, "crates.txt").write_text("".join(f"{line}\n" for name, line in crate_lines().items() if name in needed))
         for name in needed:
-            left_out = shutil.ignore_patterns(*([] if name in names else ["must-fail"]))
-            shutil.copytree(folder(name), Path(room, "crates", name), ignore=left_out)
+            shutil.copytree(folder(name), Path(room, "crates", name), ignore=None if name in names else shutil.ignore_patterns("must-fail"))
         yield Path(room)
 
 
 def said_by(folder, *command, shown=False):
     """The status of a command that runs in a folder, and what it prints. It is also printed here if it is to be shown."""
-    said = ""
-    errors = None if shown else subprocess.STDOUT
+    said, errors = "", None if shown else subprocess.STDOUT
     with subprocess.Popen(command, cwd=folder, stdin=subprocess.DEVNULL, stdout=subprocess.PIPE, stderr=errors, text=True, errors="replace") as run:
         try:
             for line in run.stdout:

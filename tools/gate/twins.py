@@ -1,7 +1,6 @@
-"""twins CRATE.. | --all | --missing: shows that this machine's toolchain proves the twins of the wrong bodies of these crates, of
-all crates, or of those without an entry. The twins of a crate that change different places are put into one copy of it, which has to be proved
-as it is; those that change the same place are put into further copies. For each crate whose copies are all proved .ci/proved-twins gets an
-entry. `twins --check` fails if a wrong body has no twin or a twin has no wrong body, and names the crates without an entry."""
+"""twins CRATE.. | --all | --missing: shows that this machine's toolchain proves the twins of the wrong bodies of these crates, of all, or of those
+without an entry in .ci/proved-twins: those of different places of a crate in one copy of it, and those of the same place in further copies. `twins
+--check` fails if a wrong body has no twin or a twin has no wrong body, and names the crates without an entry."""
 
 import re
 

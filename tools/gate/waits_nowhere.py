@@ -1,7 +1,7 @@
 """waits-nowhere: checks the text of the crates that a call of the shared device runs through: each loop is one of LOOPS, each call is of a
-function of these crates or one of CALLS, and no function calls itself, directly or through others of its crate. docs/PROVED.md says what this is
-for, and what it doesn't see. Two things it leaves to the toolchain: functions that call each other have `#[cycle]`, which is no listed call here; and a
-function that calls itself has a measure in a folder `+NAME`, unless it goes down a value of a type that contains itself, which none may here."""
+function of these crates or one of CALLS, and no function calls itself, directly or through others of its crate. docs/PROVED.md says what this
+is for, and what it doesn't see. Two things it leaves to the toolchain: functions that call each other have `#[cycle]`, which is no listed call
+here; and one that calls itself has a measure in a folder `+NAME`, unless it goes down a value of a type that contains itself, which none may here."""
 
 import re
 from collections import Counter
@@ -72,8 +72,7 @@ TYPE = re.compile(r"\b(?:struct|enum) (\w+)\b([^;{(]*(?:\([^;]*;|\{.*?^\s*\}))",
 IMPL = re.compile(r"^(?:unsafe )?impl\b[^{\n]* for\b", re.M)
 CALL = re.compile(r"(?<!fn )(?<![\w.:#])((?:\w+::)+|)(\w+)(!?)(?:::<[^>()]*>)?(?:\(|(?<=!)[\[{ ])|\.(\w+)(?:::<[^>()]*>)?\(")
 # Words before a parenthesis that call nothing: of the language, and of attributes.
-NO_CALLS = set("if while match for in return fn pub let else move".split())
-NO_CALLS |= set("tactic using unfolding derive repr unsafe error allow".split())
+NO_CALLS = set("if while match for in return fn pub let else move tactic using unfolding derive repr unsafe error allow".split())
 
 
 @cache
@@ -100,16 +99,13 @@ class Source:
         self.path, self.text = path, path.read_text()
         self.name, self.code, self.functions = re.sub(r"^crates/|src/", "", tree.relative(path)), code_of(self.text), tree.functions(self.text)
 
-    def owner(self, place):
-        return tree.function_at(self.text, place)
-
     def at(self, place):
         return f"{tree.relative(self.path)}:{self.code.count(chr(10), 0, place) + 1}"
 
     def loops(self):
         """Each loop, as a line of the list without its reason, and its place."""
         for found in LOOP.finditer(IMPL.sub(lambda its: " " * len(its[0]), self.code)):
-            owner, head = self.owner(found.start()), found[0].rstrip()
+            owner, head = tree.function_at(self.text, found.start()), found[0].rstrip()
             bound = re.search(r"0\.\.(\w+)$", head)
             values = re.findall(rf"(?<![\w.]){bound[1]}(?:: \w+)? [-+*/]?= ([^;=]+);", self.code[owner.start : owner.end]) if owner and bound else ()
             head += "".join(f" where {bound[1]} = {' '.join(value.split())}" for value in values)
@@ -143,14 +139,13 @@ def wrong_cycles(files):
         recursive = (name for name, text in TYPE.findall(file.code) if re.search(rf"\b(?:Self|{name})\b", text))
         yield from (f"crates/{file.name}: {name} contains itself" for name in recursive)
         for path, name, macro, place in calls(file.code):
-            owner = file.owner(place)
+            owner = tree.function_at(file.text, place)
             if owner and owner.name == name and not macro:
                 own = {"Self", owner.type} if owner.type else {"self", "crate", "super", file.path.stem}
                 on_itself = {"": not owner.type, ".": re.search(r"\bself\s*\Z", file.code[max(0, place - 80) : place])}
                 if on_itself.get(path, path.rstrip(":").split("::")[-1] in own):
                     yield f"crates/{file.name}: {owner.called} calls itself"
-    measured = (path for crate in CRATES for path in tree.folder(crate).glob("proofs/**/+*"))
-    yield from (f"{tree.relative(path)}: {path.name[1:]} calls itself" for path in measured)
+    yield from (f"{tree.relative(path)}: {path.name[1:]} calls itself" for crate in CRATES for path in tree.folder(crate).glob("proofs/**/+*"))
 
 
 def main(_):

@@ -1,7 +1,6 @@
-"""wrong-bodies CRATE.. | --all: tries the wrong bodies of these crates, or of all, with this machine's toolchain: `rt ci` in a copy that
-has these crates and those below them. Each crate whose wrong bodies are all refused gets an entry in .ci/refused, and docs/GALLERY.md gets
-the goals that the refusals name. With --all it then proves all twins. The gate moves the wrong bodies of the crates with an entry, of any
-version, out of must-fail/ while it runs. `wrong-bodies --back` puts them back if it was killed."""
+"""wrong-bodies CRATE.. | --all: tries the wrong bodies of these crates, or of all, with this machine's toolchain: `rt ci` in a copy that has these
+crates and those below them. Each crate whose wrong bodies are all refused gets an entry in .ci/refused, and docs/GALLERY.md gets the goals that the
+refusals name. With --all it then proves all twins. `wrong-bodies --back` puts back what a killed run of the gate has moved out of must-fail/."""
 
 import re
 import shutil
@@ -11,37 +10,36 @@ from gate import gallery, record, tree, twins
 # Each run tries the edits of these crates, to show that it can still refuse.
 ALWAYS = ("uses",)
 # An edit that is refused, and the goal that is left open: at an answer, or at code without an answer.
-REFUSED = re.compile(
-    r"rt: must-fail (\w+)/(\w+)\.edit: refused, as it must be(?!.*says little of the contract)(?:.*?(?:\d: error: `|\(`)([\w-]+)`)?"
-)
+REFUSED = re.compile(r"rt: must-fail (\w+)/(\w+)\.edit: refused, as it must be(?!.*says little of the contract)(?:.*?(?:\d: error: `|\(`)([\w-]+)`)?")
+# The folder in which the gate keeps what it doesn't try, until its end.
+ASIDE = ".git/wrong-bodies"
 
 
 def refused():
     return record.Record("refused", "must-fail")
 
 
-def aside():
-    """The folder in which the gate keeps what it doesn't try, until its end."""
-    return tree.TOP / ".git/wrong-bodies"
-
-
-def note(names, found):
-    """Records the crates of these all of whose edits this version refused, and the goals that it found. Returns 1 if there are others."""
-    book, those = refused(), {its[:2] for its in found}
+def note(names, said, again=True):
+    """Records the crates of these all of whose edits `rt` refused, by what it printed, and the goals that it named. Returns 1 if there are others.
+    Unless `again`, a crate that has an entry gets none: it only shows that the run can refuse."""
+    book, found = refused(), set(REFUSED.findall(said))
+    those = {its[:2] for its in found}
     gallery.put(found)
     tried = [(name, book.sum_of(name), all((name, it.name) in those for it in tree.edits(name))) for name in names]
-    return book.note(tried, "wrong bodies of {} were not refused")
+    known = () if again else set(book.having()) - set(book.lacking())
+    return book.note([its for its in tried if its[0] not in known or not its[2]], "wrong bodies of {} were not refused")
 
 
 def put_back():
     """Puts back what was moved aside, and returns the crates of which it was."""
-    names = sorted(it.name for it in aside().iterdir()) if aside().is_dir() else []
+    aside = tree.TOP / ASIDE
+    names = sorted(it.name for it in aside.iterdir()) if aside.is_dir() else []
     for name in names:
         folder = tree.folder(name) / "must-fail"
         folder.mkdir(parents=True, exist_ok=True)
-        for edit in (it for it in (aside() / name).iterdir() if not (folder / it.name).exists()):
+        for edit in (it for it in (aside / name).iterdir() if not (folder / it.name).exists()):
             shutil.move(edit, folder)
-    shutil.rmtree(aside(), ignore_errors=True)
+    shutil.rmtree(aside, ignore_errors=True)
     return names
 
 
@@ -56,18 +54,15 @@ def put_aside():
         others = sorted({it for its in known.values() for it in its} - {here := record.version()})
         by = f" with {' and '.join(others)}; this machine has {here}" if others else f" with {here}"
         print(f"not tried again: {sum(len(tree.edits(it)) for it in known)} wrong bodies that were refused on the present text{by}")
-        aside().mkdir()
+        (tree.TOP / ASIDE).mkdir()
     for name in known:
-        shutil.move(tree.folder(name) / "must-fail", aside() / name)
+        shutil.move(tree.folder(name) / "must-fail", tree.TOP / ASIDE / name)
 
 
 def note_from(said):
-    """Records what a run of the gate tried, by what `rt ci` printed. A crate that each run tries may have an entry already: then it only
-    checks that the run refused."""
-    untried, found = put_back(), set(REFUSED.findall(said))
-    those = {its[:2] for its in found}
-    tried = {name: its for name, its in refused().versions().items() if name not in untried}
-    return note([name for name, its in tried.items() if not its or any((name, it.name) not in those for it in tree.edits(name))], found)
+    """Records what a run of the gate tried, by what `rt ci` printed."""
+    untried = put_back()
+    return note([name for name in refused().having() if name not in untried], said, again=False)
 
 
 def main(words):
@@ -77,4 +72,4 @@ def main(words):
     names = refused().asked(words)
     with tree.copied(names) as room:
         _, said = tree.said_by(room, "rt", "ci", shown=True)
-    return note(names, set(REFUSED.findall(said))) | (twins.main(["--all"]) if words == ["--all"] else 0)
+    return note(names, said) | (twins.main(["--all"]) if words == ["--all"] else 0)

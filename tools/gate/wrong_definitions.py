@@ -1,8 +1,7 @@
-"""wrong-definitions CRATE.. | --all | --missing | --check: shows that laws refuse the wrong definitions of these crates, of all, or
-of those without an entry. The prover reads the law that an edit names again with a copy of the definition made wrong, and with one that is only
-written otherwise (its twin), all in one run for each crate of laws; what stands between a law and a definition is copied too. The clause has to stay
-open with the wrong definition, and the whole law has to be proved with the twin. Then .ci/refused-definitions gets an entry for the crate. --check
-names the crates without one, and fails if an edit doesn't fit its definition or names no law."""
+"""wrong-definitions CRATE.. | --all | --missing | --check: shows that laws refuse the wrong definitions of these crates, of all, or of those without
+an entry in .ci/refused-definitions. The prover reads the law that an edit names with a copy of the definition made wrong, and with one only
+written otherwise (its twin); what stands between the law and the definition is copied too. The clause has to stay open with the wrong one, and the
+whole law has to be proved with the twin. --check names the crates without an entry, and fails if an edit fits no definition or names no law."""
 
 import re
 import runpy
@@ -19,8 +18,7 @@ DEFINED = re.compile(r"^(?:(?:abbrev |unfoldable )?(?:pub )?(?:record |data )?| 
 
 
 class Wrong:
-    """A wrong definition: the law and the clause that refuse it, the law's crate, modules and function, the definition with its text, and
-    the tags of two copies of the law, with a wrong text and with a right one."""
+    """A wrong definition: the law and the clause that refuse it, and the tags of two copies of the law, with a wrong text and with a right one."""
 
     def __init__(self, number, edit):
         its = dict(line.split(": ", 1) for line in edit.text.splitlines())
@@ -40,9 +38,9 @@ def edits(*names):
     return [Wrong(*it) for it in enumerate(it for name in names for it in tree.edits(name, "wrong-definitions"))]
 
 
-def sources(used):
+def sources():
     """The files of specs/ and proofs/ that a text may name, each by its crate, its folder and its name, with its text."""
-    folders = [(name, folder) for name in used for folder in ("specs", "proofs")]
+    folders = [(name, folder) for name in tree.crates() for folder in ("specs", "proofs")]
     return {(*it, path.stem): tree.by_module(path.read_text()) for it in folders for path in tree.TOP.joinpath("crates", *it).glob("*.antt")}
 
 
@@ -101,20 +99,15 @@ def copy_of(edit, tag, new, texts, below):
     for it in copied:
         yield f"{it[1]}/{tag}_{it[0]}_{it[2]}.antt", redirected(part_of(changed, wanted) if it == target else texts[it])
         yield f"{it[1]}/Lib.antt", f"pub mod {tag}_{it[0]}_{it[2]}\n"
-    yield from law_to_add(tag, redirected(f"{imports}\n{law}"))
+    yield f"src/wrong/{tag}.rt", redirected(f"//! A law.\n{imports}\n{law}")
     if answers:
         own = answers.replace(".".join(["proofs", *edit.modules, edit.function, ""]), f"proofs.wrong.{tag}.{edit.function}.")
         yield f"proofs/wrong/{tag}/{edit.function}/Answers.antt", redirected(own)
 
 
-def law_to_add(tag, text):
-    """What adds a law to those that are checked of a copy of a crate."""
-    return (f"src/wrong/{tag}.rt", f"//! A law.\n{text}"), ("src/wrong.rt", f"mod {tag};\n")
-
-
-def said_by(all_edits, used):
+def said_by(all_edits):
     """What the prover prints of copies of the laws of these edits, which are in one crate."""
-    texts = sources(used)
+    texts = sources()
     names = {it: NAMED.findall(text) for it, text in texts.items()}
     below = {it: tree.reached([it], names) & texts.keys() for it in texts}
     return said_of(all_edits[0].home, [it for edit in all_edits for copy in edit.copies.items() for it in copy_of(edit, *copy, texts, below)])
@@ -123,8 +116,9 @@ def said_by(all_edits, used):
 def said_of(home, additions):
     """What the prover prints of the laws in src/wrong/ of a copy of a crate with these texts added to its files. The module behind the rt command
     knows how it is called with the crates below as sources."""
+    tags = [Path(name).stem for name, _ in additions if name.startswith("src/wrong/")]
     with tree.copied([home]) as room:
-        for name, text in [("src/lib.rt", "mod wrong;\n"), *additions]:
+        for name, text in [*additions, ("src/lib.rt", "mod wrong;\n"), *(("src/wrong.rt", f"mod {tag};\n") for tag in tags)]:
             path = room / "crates" / home / name
             path.parent.mkdir(parents=True, exist_ok=True)
             with path.open("a") as file:
@@ -140,11 +134,9 @@ def said_of(home, additions):
 
 def fault_of(edit, said):
     """What is wrong with an edit by what the prover printed, or nothing."""
-    lines = said.splitlines()
-    well = set(re.findall(r"^fn \w+::wrong::(\w+)::\w+: proved$", said, re.M))
-    unread = [it for it in lines if re.search(rf"(?:specs/|src/wrong/)(?:{edit.wrong}|{edit.twin})[_.].*: error", it)]
+    lines, well = said.splitlines(), set(re.findall(r"^fn \w+::wrong::(\w+)::\w+: proved$", said, re.M))
     refusals = [it for it in lines if f"proofs/wrong/{edit.wrong}/" in it or f"::wrong::{edit.wrong}::" in it]
-    if unread:
+    if unread := [it for it in lines if re.search(rf"(?:specs/|src/wrong/)(?:{edit.wrong}|{edit.twin})[_.].*: error", it)]:
         return f"can't be read: {unread[0]}"
     if edit.wrong in well:
         return f"NOT REFUSED by {edit.law}"
@@ -155,12 +147,12 @@ def fault_of(edit, said):
     return ""
 
 
-def refused(names, used):
+def refused(names):
     """Of each of these crates whether its edits are refused as they have to be. Prints each edit."""
     lost, every = set(), edits(*names)
     for home in sorted({it.home for it in every}):
         mine = [it for it in every if it.home == home]
-        said = said_by(mine, used)
+        said = said_by(mine)
         for it in mine:
             fault = fault_of(it, said)
             print(f"wrong definition {it.crate}/{it.name}: {fault or 'refused, and its twin is proved'}", flush=True)
@@ -186,7 +178,7 @@ class Refused(record.Record):
 
 def main(words):
     book = Refused("refused-definitions", "wrong-definitions")
-    wrong = list(misfits(edits(*book.having()), sources(book.used)))
+    wrong = list(misfits(edits(*book.having()), sources()))
     if wrong or words == ["--check"]:
         return book.verdict(wrong, "wrong definitions were refused", "try: those of")
-    return book.main(words, lambda names: refused(names, book.used), "wrong definitions of {} were not refused")
+    return book.main(words, refused, "wrong definitions of {} were not refused")
