@@ -13,6 +13,8 @@ ANSWER = re.compile(r"^pub (\S+) : goal\.\S+$", re.M)
 # How the check names the goals that it leaves open: a file of answers to write, and each goal of it, whose type may stand on the next line.
 FILE = re.compile(r"help: write \./proofs/(\S+)/Answers\.antt with these lines")
 OPEN = re.compile(r"^[ \t]+pub (\S+) :(?: goal\.|$)", re.M)
+# How it names a function that it hasn't tried, since another one that this calls isn't proved.
+UNTRIED = re.compile(r"has not tried the goals of `\w+::([\w:]+)`")
 
 
 def files(folder):
@@ -33,17 +35,19 @@ class Needed(record.Record):
 
 
 def tried(room, name):
-    """The goals that the check of a crate leaves open without any answer, each after its function, and what it printed if it failed."""
+    """The goals that the check of a crate leaves open without any answer, or doesn't try, each after its function, and what it printed if it failed."""
     crate = room / "crates" / name
-    answers = {path: path.read_text() for path in files(crate).values()}
-    for path in answers:
+    answers = {function: (path, path.read_text()) for function, path in files(crate).items()}
+    for path, _ in answers.values():
         path.unlink()
     said = tree.said_by(crate, "rt", "check", "--allow-holes", "--jobs", "2")[1]
     # The crates above, which are tried in the same copy, need them.
-    for path, text in answers.items():
+    for path, text in answers.values():
         path.write_text(text)
     _, *parts = FILE.split(said)
     opened = {(function, goal) for function, text in zip(parts[::2], parts[1::2]) for goal in OPEN.findall(text)}
+    untried = answers.keys() & {it.replace("::", "/") for it in UNTRIED.findall(said)}
+    opened |= {(function, goal) for function in untried for goal in ANSWER.findall(answers[function][1])}
     return opened, "" if "\nholes=" in said else said
 
 

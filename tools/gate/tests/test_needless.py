@@ -41,6 +41,11 @@ class Needless(Small):
         self.assertIn("needless low: 1 answers go", self.run_main(needless, "low"))
         self.assertEqual((self.top / "crates/low/proofs/lib/first/Answers.antt").read_text(), clause)
 
+    def test_answers_of_a_function_that_was_not_tried_stay(self):
+        self.stand_in(STAND_IN.replace("echo\n", 'echo "note: \\`search\\` has not tried the goals of \\`low::lib::second\\`, which wait"\n', 1))
+        self.assertIn("needless low: 1 answers go", self.run_main(needless, "low"))
+        self.assertTrue((self.top / "crates/low/proofs/lib/second").exists())
+
     def test_an_answer_to_all_clauses_stays_if_one_is_open(self):
         whole = HEAD + HARD.replace("returns-clause-hard", "returns")
         self.write("crates/low/proofs/lib/first/Answers.antt", whole)
