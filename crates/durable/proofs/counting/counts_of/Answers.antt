@@ -29,9 +29,3 @@ loop-s-preserved c = record {
         ap (weight b) c.get.ensures.entry,
       );
 }
-
-pub returns-clause-counted : goal.returns-clause-counted
-returns-clause-counted c b lt =
-    let map = c.args.map.now.items in
-    let all : length map ≤ c.loop-s.s = omega (arith, c.loop-s-test.false, c.len-s-end.ensures) in
-    omega (arith, c.loop-s.invariant.counted b lt, kept_in_all b map c.loop-s.s all)

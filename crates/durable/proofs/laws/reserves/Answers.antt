@@ -8,10 +8,6 @@ returns-clause-replaced c events t new u runs =
     let swap = subst (λ (b : ℕ). IsSwapped runs.3.1 t b (runs.1.blocks + failures_in events)) runs.3.5 runs.3.6 in
     (runs.0, runs.3.1, runs.1, runs.2, runs.3.4, swap, runs.3.7, runs.3.8)
 
-pub returns-clause-replaces : goal.returns-clause-replaces
-returns-clause-replaces c events f left t old new u runs safe survives cut swap mounted same =
-    (f, old, runs, (safe, left, 1, survives, cut, refl, swap, mounted, same))
-
 pub returns-clause-safe : goal.returns-clause-safe
 returns-clause-safe c events t new u runs = (runs.0, runs.1, runs.3.0, runs.3.1.0)
 

@@ -1,6 +1,4 @@
 use Rattle.std.proofs.Common.{ap, arith, subst}
-use Rattle.durable.specs.Losses.{version_count}
-use Rattle.durable.specs.Whole.{IsFullBefore, IsSafelySpared}
 use Rattle.durable.proofs.laws.unharmed.Goals as goal
 
 pub returns-clause-alone : goal.returns-clause-alone
@@ -8,20 +6,8 @@ returns-clause-alone c f v newest only doubled =
     let there = doubled 7 1 v (omega arith) newest in
     there.3 (only there.0 there.1 there.2 there.5)
 
-pub returns-clause-full : goal.returns-clause-full
-returns-clause-full c f layer keeps opened torn =
-    let one = subst (IsFullBefore f) opened keeps.full 1 (omega arith) in
-    let none = ap version_count torn in
-    omega (arith, one, none)
-
-pub returns-clause-spared : goal.returns-clause-spared
-returns-clause-spared c f layer keeps closed = subst (IsSafelySpared f layer.map.items layer.blocks) closed keeps.spared
-
 pub returns-clause-mounted : goal.returns-clause-mounted
 returns-clause-mounted c f layer acked begun from is unharmed = from.4 f acked begun from.1 is unharmed
-
-pub returns-clause-first : goal.returns-clause-first
-returns-clause-first c f layer runs = runs
 
 pub returns-clause-done : goal.returns-clause-done
 returns-clause-done c events t new u runs = (runs.0, runs.1, runs.2, runs.3.3, runs.3.4)

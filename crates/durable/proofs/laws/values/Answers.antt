@@ -20,9 +20,6 @@ returns-clause-each c f bytes is told =
     let none : TellsValue f 4 1 1 1 false = told 1 (omega arith) in
     none 1 0 5 bytes (omega arith, inr (refl, omega arith)) (sole 1, is, (omega arith, omega arith))
 
-pub returns-clause-not_marked : goal.returns-clause-not_marked
-returns-clause-not_marked c old new marks = marks.others 2 (λ has. omega (arith, has))
-
 pub returns-clause-bit : goal.returns-clause-bit
 unfolding is_valued
 returns-clause-bit c = (refl, refl, refl)

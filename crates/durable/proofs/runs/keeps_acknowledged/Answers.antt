@@ -2,9 +2,6 @@ use Rattle.durable.proofs.Exact.{runs_each}
 use Rattle.durable.proofs.Promises.{erased_recoverable, runs_consistent, runs_keep}
 use Rattle.durable.proofs.runs.keeps_acknowledged.Goals as goal
 
-pub returns-clause-new : goal.returns-clause-new
-returns-clause-new c = erased_recoverable
-
 pub returns-clause-keeps : goal.returns-clause-keeps
 returns-clause-keeps c = runs_keep
 

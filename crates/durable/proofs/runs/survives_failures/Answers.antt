@@ -1,12 +1,5 @@
 use Rattle.durable.proofs.Promises.{readable_renumbered, blank_recoverable}
-use Rattle.durable.proofs.Reserves.{untouched}
 use Rattle.durable.proofs.runs.survives_failures.Goals as goal
-
-pub returns-clause-untouched : goal.returns-clause-untouched
-returns-clause-untouched c = untouched
 
 pub returns-clause-renumbered : goal.returns-clause-renumbered
 returns-clause-renumbered c f t old new acked begun is renumbered same = readable_renumbered f t old new acked begun renumbered same is
-
-pub returns-clause-recoverable : goal.returns-clause-recoverable
-returns-clause-recoverable c = blank_recoverable

@@ -1,9 +1,6 @@
 use Rattle.durable.proofs.Unharmed.{erased_unharmed, runs_of, runs_whole}
 use Rattle.durable.proofs.runs.tells_no_false_loss.Goals as goal
 
-pub returns-clause-new : goal.returns-clause-new
-returns-clause-new c = erased_unharmed
-
 pub returns-clause-runs : goal.returns-clause-runs
 returns-clause-runs c = runs_of
 

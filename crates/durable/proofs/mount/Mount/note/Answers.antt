@@ -1,8 +1,5 @@
 use Rattle.std.proofs.Common.{refl, arith, ◌≡◌, ◌+◌, ◌<◌, ◌^◌, ◌∙◌, sym, subst, ℕ, List, length, IfSome}
-use Rattle.std.proofs.lemmas.Bool.{false≢true}
 use Rattle.geometry.specs.declared.page_addr.PageAddr.{PageAddr}
-use Rattle.durable.specs.Device.{device_in}
-use Rattle.durable.specs.Updates.{LiesWithin}
 use Rattle.durable.specs.Mounting.{IsStampOf, TellsValues}
 use Rattle.durable.specs.Candidates.{IsFoundWith}
 use Rattle.durable.proofs.Noting.{of_next, some_left, fits_device}
@@ -56,12 +53,3 @@ returns-else-self-clause-notes c f was stamp =
       counts = counts_wrap f mount.pages mount.block (mount.page + 1) c.count_gaps.new.gaps.items c.count_gaps.new.versions full now.1;
       prefers = prefers_wrap f mount.pages mount.block (mount.page + 1) c.count_gaps.new.gaps.items c.take.new.found.items full now.2;
     }
-
-pub returns-then-not-is_of_device-clause-accepts : goal.returns-then-not-is_of_device-clause-accepts
-returns-then-not-is_of_device-clause-accepts c f written stamp =
-    let mount = c.args.self.now in
-    let at : PageAddr = record { block = mount.block; page = mount.page } in
-    let is = of_next mount.read_blocks at (λ at. IsStampOf f at.block at.page c.args.stamp) c.requires stamp in
-    absurd (false≢true (sym c.if-not-is_of_device.true ∙ c.is_of_device.ensures.accepts
-    (subst (λ (n : ℕ). IfSome c.args.stamp (λ s. LiesWithin n s.extent × (s.number + 1 < 2 ^ 64))) (sym c.len.ensures)
-    (fits_device f (device_in mount) mount.block mount.page c.args.stamp written is))))
