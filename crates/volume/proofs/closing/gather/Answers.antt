@@ -48,26 +48,3 @@ returns-clause-looked c =
     let h = looked_after c.in-Some.first.now c.meet_each.new.first c.read_all.new.pass c.meet_each-2.new.first c.in-Some.others.now
     c.meet_each.new.others c.meet_each-2.new.others c.meet_each.ensures.met_each c.in_ok-sectors.ensures.looked c.meet_each-2.ensures.met_each in
     subst (λ (l : List Pass). HaveLooked l (c.meet_each-2.new.first ∷ c.meet_each-2.new.others)) (sym c.in-Some.ensures.cases.0) h
-
-pub meet_each-requires-clause-first : goal.meet_each-requires-clause-first
-meet_each-requires-clause-first c =
-    let IsGood = IsReady c.args.flash.now in
-    All-head IsGood c.in-Some.first.now c.in-Some.others.now (subst (All IsGood) c.in-Some.ensures.cases.0 c.requires.passes)
-
-pub meet_each-requires-clause-others : goal.meet_each-requires-clause-others
-meet_each-requires-clause-others c =
-    All-rest (IsReady c.args.flash.now) c.in-Some.first.now c.in-Some.others.now c.args.passes.now c.in-Some.ensures.cases.0 c.requires.passes
-
-pub meet_each-requires-2-clause-first : goal.meet_each-requires-2-clause-first
-meet_each-requires-2-clause-first c = c.read_all.ensures.pass
-
-pub meet_each-requires-2-clause-others : goal.meet_each-requires-2-clause-others
-meet_each-requires-2-clause-others c = c.meet_each.ensures.others
-
-pub returns-in_err-sectors-clause-passes : goal.returns-in_err-sectors-clause-passes
-returns-in_err-sectors-clause-passes c =
-    All-cons (IsReady c.args.flash.now) c.read_all.new.pass c.meet_each.new.others c.read_all.ensures.pass c.meet_each.ensures.others
-
-pub returns-clause-passes : goal.returns-clause-passes
-returns-clause-passes c =
-    All-cons (IsReady c.args.flash.now) c.meet_each-2.new.first c.meet_each-2.new.others c.meet_each-2.ensures.first c.meet_each-2.ensures.others

@@ -17,12 +17,6 @@ loop-sector-init c =
       omega arith,
     )
 
-pub returns-in_err-value-clause-looked : goal.returns-in_err-value-clause-looked
-returns-in_err-value-clause-looked c = grind (arith, common_steps)
-
-pub push_reserved-requires : goal.push_reserved-requires
-push_reserved-requires c = grind (arith, common_steps)
-
 pub loop-sector-preserved : goal.loop-sector-preserved
 loop-sector-preserved c =
     let f = c.args.flash.now in

@@ -8,6 +8,3 @@ returns-in_err-page-clause-looked c = looked-refl (view_of c.args.pass.now)
 
 pub returns-in-Data-clause-value : goal.returns-in-Data-clause-value
 returns-in-Data-clause-value c = grind (arith, common_steps)
-
-pub returns-in-Empty-clause-value : goal.returns-in-Empty-clause-value
-returns-in-Empty-clause-value c = search rules

@@ -41,6 +41,3 @@ fold_all-requires c =
     let f = c.args.flash.now in
     let Ends : Broom → Type 0 = λ b. IsReady f b × (aside_of b ≡ None) in
     All-weaker (IsFresh f c.args.queue.now) Ends (λ b h. (h.ready, h.aside)) c.loop-seat.brooms.items c.loop-seat.invariant.0.fresh
-
-pub returns-clause-same : goal.returns-clause-same
-returns-clause-same c = grind (arith, common_steps)

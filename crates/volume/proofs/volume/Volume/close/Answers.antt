@@ -20,12 +20,6 @@ row c =
     ∙ take-append_seam c.gather.new.passes (drop (length c.gather.new.passes) c.args.passes.items))
     ∙ (sym c.into_iter-passes.ensures.rest ∙ c.in-Some.ensures.cases.0)
 
-pub gather-requires-clause-some : goal.gather-requires-clause-some
-gather-requires-clause-some c = rw c.deref_mut.ensures.value c.requires.some
-
-pub gather-requires-clause-passes : goal.gather-requires-clause-passes
-gather-requires-clause-passes c = rw c.deref_mut.ensures.value c.requires.passes
-
 -- what a write of all of a list leaves of it
 back_is : (l back : List Pass) (n : ℕ) → n ≡ length back → take n (back ++ drop (length back) l) ≡ back
 back_is l back n whole = ap (λ k. take k (back ++ drop (length back) l)) whole ∙ take-append_seam back (drop (length back) l)
@@ -40,11 +34,6 @@ pub returns-in_default-clause-looked : goal.returns-in_default-clause-looked
 returns-in_default-clause-looked c =
     let back = handed (goal.at.returns-in_default-clause-looked c).After-gather in
     subst (λ (x : List Pass × List Pass). HaveLooked x.0 x.1) (λ i. (c.deref_mut.ensures.value i, sym back i)) c.gather.ensures.looked
-
-pub returns-in_default-clause-ready : goal.returns-in_default-clause-ready
-returns-in_default-clause-ready c =
-    let back = handed (goal.at.returns-in_default-clause-ready c).After-gather in
-    subst (All (IsReady (flash_of c.args.self))) (sym back) c.gather.ensures.passes
 
 pub retire-first-requires : goal.retire-first-requires
 retire-first-requires c =

@@ -28,9 +28,6 @@ returns-in-Ok-clause-ready c = all_fresh c.in_ok-flash.flash c.in_ok-flash.passe
 pub returns-in-Ok-clause-brooms : goal.returns-in-Ok-clause-brooms
 returns-in-Ok-clause-brooms c = begins c.in_ok-flash.flash c.in_ok-flash.seats.items c.in-Ok.brooms.items c.in-Ok.ensures.same c.in_ok-flash.ensures.brooms
 
-pub make_brooms-requires-clause-count : goal.make_brooms-requires-clause-count
-make_brooms-requires-clause-count c = c.requires.count ∙ sym c.in_ok-flash.ensures.count.1
-
 pub returns-in-Ok-clause-brooms_ready : goal.returns-in-Ok-clause-brooms_ready
 returns-in-Ok-clause-brooms_ready c =
     λ k d low.

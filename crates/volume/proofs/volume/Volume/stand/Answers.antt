@@ -3,6 +3,3 @@ use Rattle.volume.proofs.volume.Volume.stand.Goals as goal
 
 pub returns-clause-stood : goal.returns-clause-stood
 returns-clause-stood c = grind (arith, common_steps)
-
-pub returns-clause-undisturbed : goal.returns-clause-undisturbed
-returns-clause-undisturbed c = grind (arith, common_steps)

@@ -1,4 +1,3 @@
-use Rattle.std.proofs.Common.{rules}
 use Rattle.volume.proofs.Answered.{writes}
 use Rattle.volume.proofs.volume.Volume.write.Goals as goal
 
@@ -6,6 +5,3 @@ pub returns-clause-correct : goal.returns-clause-correct
 returns-clause-correct c =
     writes c.args.self.now.flash c.args.pass.now c.write.new.pass c.args.sector c.args.bytes.now c.write.result c.requires.pass c.write.ensures.pass
     c.write.ensures.wrote
-
-pub returns-clause-wrote : goal.returns-clause-wrote
-returns-clause-wrote c = search rules

@@ -6,9 +6,3 @@ pub returns-clause-correct : goal.returns-clause-correct
 returns-clause-correct c =
     writes_new c.args.self.now.flash c.args.pass.now c.write_new.new.pass c.args.sector c.args.bytes.now
     (was_found c.write_new.result) c.requires.pass c.write_new.ensures.pass c.write_new.ensures.wrote
-
-pub returns-clause-wrote : goal.returns-clause-wrote
-returns-clause-wrote c = c.write_new.ensures.wrote
-
-pub returns-clause-refused : goal.returns-clause-refused
-returns-clause-refused c = c.write_new.ensures.refused
