@@ -446,6 +446,42 @@ static void note_kinds(void)
     CHECK(mintlintel_core_note(&core, 3, 0, 1, 5) == MINTLINTEL_CLOSED);
 }
 
+/* The variance of the blocks' erases over the square of their mean, after writes of sectors in order, or of nine in ten to a tenth of them. */
+static double unevenness(int in_order)
+{
+    enum { BLOCKS = 256, PAGES = 64, ALL = BLOCKS * PAGES, SECTORS = ALL / 10 * 9 };
+    static struct mintlintel_core core;
+    double erases[BLOCKS] = {0}, sum = 0, squares = 0;
+    uint64_t draws = 1;
+    CHECK(mintlintel_core_open(&core, BLOCKS, PAGES, SECTORS) == MINTLINTEL_DONE);
+    for (int page = 0; page < ALL; page++)
+        CHECK(mintlintel_core_note(&core, 0, 0, 0, 0) == MINTLINTEL_DONE);
+    CHECK(mintlintel_core_finish(&core) == MINTLINTEL_DONE);
+    for (uint32_t i = 0; i < SECTORS + 20 * ALL; i++) {
+        struct mintlintel_command command;
+        uint32_t below = drawn(&draws) % 10 ? SECTORS / 10 : SECTORS, sector = in_order || i < SECTORS ? i % SECTORS : drawn(&draws) % below;
+        do {
+            CHECK(mintlintel_core_next(&core, sector, 1, &command) == MINTLINTEL_DONE);
+            CHECK(mintlintel_core_done(&core, sector, 1, &command) == MINTLINTEL_DONE);
+            if (command.kind == 3)
+                erases[command.block]++;
+        } while (command.kind != 1);
+    }
+    for (int block = 0; block < BLOCKS; block++) {
+        sum += erases[block];
+        squares += erases[block] * erases[block];
+    }
+    mintlintel_core_close(&core);
+    return squares * BLOCKS / (sum * sum) - 1;
+}
+
+/* Of equal victims and free blocks a less erased one is taken: without that 0.0084 would be left of the second figure. */
+static void wear_evenly(void)
+{
+    CHECK(unevenness(1) < 0.0005);
+    CHECK(unevenness(0) < 0.0045);
+}
+
 int main(int argc, char **argv)
 {
     long rounds = argc > 1 && atol(argv[1]) > 0 ? atol(argv[1]) : 300, cuts = 0, fails;
@@ -457,6 +493,7 @@ int main(int argc, char **argv)
     tear_twins();
     trim_at_once();
     note_kinds();
+    wear_evenly();
     for (long round = 0; round < rounds; round++) {
         run(1000);
         cuts += chip.cuts;
