@@ -4,9 +4,6 @@ use Rattle.exports.specs.Opening.{AreFresh}
 use Rattle.exports.proofs.Dealing.{uncapped}
 use Rattle.exports.proofs.opening.mintlintel_shared_open.Goals as goal
 
-pub returns-in-Err-clause-fresh : goal.returns-in-Err-clause-fresh
-returns-in-Err-clause-fresh c is = absurd (let over = c.code_of_shared_fault.ensures.over in omega (arith, is, over))
-
 pub returns-then-deal-clause-fresh : goal.returns-then-deal-clause-fresh
 returns-then-deal-clause-fresh c _ =
     let given = c.in-Ok.ensures.given in let limits = c.in-Ok.geometry.in_limits in

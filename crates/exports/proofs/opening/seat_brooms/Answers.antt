@@ -6,9 +6,6 @@ use Rattle.exports.specs.Opening.{IsFirstBroom, IsFreshBroom}
 use Rattle.exports.proofs.Dealing.{fewer, taken_ready, taken_first, deal_goes_on}
 use Rattle.exports.proofs.opening.seat_brooms.Goals as goal
 
-pub loop-broom-smaller : goal.loop-broom-smaller
-loop-broom-smaller c = fewer c.loop-broom.brooms.items c.pop.new.self.items c.in-Some.broom c.in-Some.ensures.items
-
 pub loop-broom-preserved : goal.loop-broom-preserved
 loop-broom-preserved c =
     let Ready = IsBroomReady (arc_value c.args.volume.now) in let First = IsFirstBroom (arc_value c.args.volume.now) in

@@ -6,9 +6,6 @@ use Rattle.exports.specs.Opening.{IsFirstPass, IsFreshHost}
 use Rattle.exports.proofs.Dealing.{fewer, taken_first, deal_goes_on}
 use Rattle.exports.proofs.opening.seat_hosts.Goals as goal
 
-pub loop-pass-smaller : goal.loop-pass-smaller
-loop-pass-smaller c = fewer c.loop-pass.passes.items c.pop.new.self.items c.in-Some.pass c.in-Some.ensures.items
-
 pub loop-pass-preserved : goal.loop-pass-preserved
 loop-pass-preserved c =
     let Ready = IsReady (flash_of (arc_value c.args.volume.now)) in let First = IsFirstPass (arc_value c.args.volume.now) in
