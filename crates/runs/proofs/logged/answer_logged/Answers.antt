@@ -15,17 +15,3 @@ returns-clause-logged g c = λ before text logged.
     ∙ (ap (λ n. cond (ltb c.counts-programs.result.programs n) c.due-due.result None) (sym c.counts.ensures.programs)
     ∙ sym c.made.ensures))))
     logged
-
-pub returns-in_default : goal.returns-in_default
-returns-in_default g c =
-    let it = c.answer.ensures in
-    record {
-      page = it.page;
-      refused = it.refused;
-      lines = it.lines;
-      geometry = it.geometry;
-      array = it.array;
-      stock = it.stock;
-      wanted = refl;
-      logged = λ before text logged. shut_more c.args.log.now _ text _ c.in_default.not-Open logged;
-    }

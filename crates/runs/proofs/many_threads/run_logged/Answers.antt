@@ -50,9 +50,6 @@ returns-in-Err-write_out-clause-ended g c =
       part_sent geo commands (answers_by c.deref-2.result.now) played c.args.options.answers input _ _ meaning c.in-Err-write_out.ensures.1,
     )
 
-pub play_commands-requires-clause-playable : goal.play_commands-requires-clause-playable
-play_commands-requires-clause-playable g c _ _ = rw c.in-Ok-new-2.ensures.ok c.in-Ok.ensures.playable
-
 pub returns-in-Err-Threads-clause-ended : goal.returns-in-Err-Threads-clause-ended
 returns-in-Err-Threads-clause-ended g c =
     let input = g.R.Read.remaining (inner_of c.args.reader.now) in (

@@ -52,37 +52,11 @@ returns-in_err-make_room-clause-log_left g c =
     (log_left_of (geometry_of c.args.ftl.now) c.args.commands.now c.loop-i.i c.args.log.now c.loop-i.log _
     (omega arith) c.loop-i.invariant.4 c.loop-i.invariant.5)
 
-pub returns-in_err-make_room-2-clause-log_left : goal.returns-in_err-make_room-2-clause-log_left
-returns-in_err-make_room-2-clause-log_left g c =
-    OnErr-any _ c.from_residual-in_err-make_room-2.result
-    (log_left_of (geometry_of c.args.ftl.now) c.args.commands.now c.loop-i.i c.args.log.now c.loop-i.log _
-    (omega arith) c.loop-i.invariant.4 c.loop-i.invariant.5)
-
-pub returns-clause-logged : goal.returns-clause-logged
-returns-clause-logged g c =
-    let all : c.loop-i.i ≡ length c.args.commands.now = omega arith in
-    OnOk-any _ c.hand_on.result
-    (subst (λ n. IsLogged c.loop-i.log (over g.V.Write.contents c.args.file.now c.loop-i.file)
-    (log_before (geometry_of c.args.ftl.now) c.args.commands.now n)) all c.loop-i.invariant.5)
-
-pub returns-clause-log_left : goal.returns-clause-log_left
-returns-clause-log_left g c =
-    OnErr-any _ c.hand_on.result
-    (log_left_of (geometry_of c.args.ftl.now) c.args.commands.now c.loop-i.i c.args.log.now c.loop-i.log _
-    (omega arith) c.loop-i.invariant.4 c.loop-i.invariant.5)
-
 pub answer_logged-requires-clause-count : goal.answer_logged-requires-clause-count
 answer_logged-requires-clause-count g c =
     let few = refused_few (geometry_of c.args.ftl.now) c.args.commands.now c.loop-i.i in
     let so_far = c.make_room.ensures.refused ∙ c.loop-i.invariant.6 in
     omega (arith, few, so_far)
-
-pub returns-clause-refused : goal.returns-clause-refused
-returns-clause-refused g c =
-    let all : c.loop-i.i ≡ length c.args.commands.now = omega arith in
-    OnOk-any _ c.hand_on.result
-    (c.hand_on.ensures.refused ∙ (c.end.ensures.refused ∙ (c.make_room-2.ensures.refused
-    ∙ (c.loop-i.invariant.6 ∙ ap (refused_before (geometry_of c.args.ftl.now) c.args.commands.now) all))))
 
 pub returns-in_err-make_room-clause-sent : goal.returns-in_err-make_room-clause-sent
 returns-in_err-make_room-clause-sent g c =

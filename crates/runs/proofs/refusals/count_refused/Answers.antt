@@ -45,9 +45,3 @@ overflow_add-refused c =
     let few = lines_few c.loop-i.i c.args.commands.now (answers_by c.args.rows.now) in
     let bit : c.from-refused.result ≤ 1 = subst (λ n. n ≤ 1) (sym c.from-refused.ensures) (bit_low c.is_refusal.result) in
     omega (arith, few, bit)
-
-pub returns : goal.returns
-returns c =
-    let commands = c.args.commands.now in
-    let all : length commands ≤ c.loop-i.i = omega arith in
-    c.loop-i.invariant.count ∙ ap (λ l. length (filter is_full_line (merge l (answers_by c.args.rows.now)))) (take_all c.loop-i.i commands all)

@@ -16,9 +16,6 @@ next_answer-answer-requires-clause-there g c =
     let long = length-map c.deref_mut.result.now place_of ∙ (ap (length {A = Cursor}) lent ∙ c.loop-i.invariant.long) in
     next_there c.args.rows.now next c.loop-i.i c.args.commands.now c.command-command.result so_far long c.requires.answers c.command-command.ensures.rest
 
-pub next_answer-answer-requires-clause-at : goal.next_answer-answer-requires-clause-at
-next_answer-answer-requires-clause-at g c = subst (λ (l : List Cursor). AreAt c.args.rows.now l) (sym c.deref_mut.ensures.value) c.loop-i.invariant.at
-
 pub put_answer-requires-clause-pages : goal.put_answer-requires-clause-pages
 put_answer-requires-clause-pages g c = λ a is.
     let digits : HasDigits (digits_in c.args.self) a =
