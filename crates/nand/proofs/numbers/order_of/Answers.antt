@@ -15,6 +15,9 @@ loop-block-init g c = record {
   made = first_order c.in-Ok.numbers.items (g.N.Nand.bad c.args.nand.now) (g.N.Nand.shape c.args.nand.now).blocks c.in-Ok.ensures.same;
 }
 
+pub place-good-requires-clause-few : goal.place-good-requires-clause-few
+place-good-requires-clause-few g c = omega (arith, c.loop-block.invariant.good, few_good (g.N.Nand.bad c.args.nand.now) c.loop-block.block)
+
 pub returns-clause-few : goal.returns-clause-few
 returns-clause-few g c = omega (
   arith,
