@@ -23,6 +23,7 @@ class Ranking:
 
     def __init__(self, blocks, pages):
         self.order, self.live, self.starts = list(range(blocks)), [0] * blocks, [0, *[blocks] * (pages + 1)]
+        self.erases = [0] * blocks
 
     def _exchange(self, block, place):
         other, mine = self.order[place], self.order.index(block)
@@ -38,12 +39,22 @@ class Ranking:
         self.starts[self.live[block]] += 1
         self.live[block] -= 1
 
+    def _least_erased(self, block, beside):
+        """Of a block and of the eight behind it, as far as they have as many live pages, the least erased."""
+        for other in self.order[self.order.index(block) + 1 :][:8]:
+            if self.live[other] != self.live[block]:
+                break
+            if other != beside and self.erases[other] < self.erases[block]:
+                block = other
+        return block
+
     def fewest(self, beside):
-        return next(block for block in self.order if block != beside)
+        block = next(block for block in self.order if block != beside)
+        return self._least_erased(block, beside) if self.live[block] else block
 
     def free(self, turn):
-        """A block without live pages, in each turn another one."""
-        return self.order[turn % self.starts[1]]
+        """A block without live pages: of a few, which are others in each turn, the least erased."""
+        return self._least_erased(self.order[turn % self.starts[1]], None)
 
 
 class Layer:
@@ -75,6 +86,7 @@ class Layer:
             if self.next is None:
                 block = self.ranking.free(self.turn)
                 self.next, self.turn, self.pages_of[block] = (block, 0), self.turn + 1, [None] * self.pages
+                self.ranking.erases[block] += 1
                 yield "erase", block, block
                 continue
             block = self.next[0]
