@@ -169,6 +169,10 @@ uint32_t mintlintel_core_next(struct mintlintel_core *core, uint32_t first, uint
 /* This command has succeeded: 0, and after a command of kind 1 the write or trim is acknowledged. 2, 3 or 9; 32 if it isn't the one that comes next. */
 uint32_t mintlintel_core_done(struct mintlintel_core *core, uint32_t first, uint32_t count, struct mintlintel_command *command);
 
+/* `block` was erased so often before the mount, of which more than 65,535 count as so many: 0; 2 or 9. Of a few blocks that are as good the core erases the
+ * least erased. */
+uint32_t mintlintel_core_erased(struct mintlintel_core *core, uint32_t block, uint32_t erases);
+
 /* What has succeeded since the mount: 0; 2 or 9. */
 uint32_t mintlintel_core_counts(struct mintlintel_core *core, struct mintlintel_totals *totals);
 

@@ -387,6 +387,18 @@ static uint32_t tell_losses(struct mintlintel_durable *device)
     return flash->losses > 0 && !flash->despite_losses ? MINTLINTEL_PAGES_LOST : MINTLINTEL_DONE;
 }
 
+/* Tells the core by how many erases each block is ahead of the least erased one. */
+static void tell_erases(struct mintlintel_durable *device)
+{
+    struct mintlintel_flash *flash = device->flash;
+    uint32_t least = UINT32_MAX;
+    for (uint32_t block = 0; block < flash->used; block++)
+        if (flash->erases[flash->chip_block[block]] < least)
+            least = flash->erases[flash->chip_block[block]];
+    for (uint32_t block = 0; block < flash->used; block++)
+        mintlintel_core_erased(&device->core, block, flash->erases[flash->chip_block[block]] - least);
+}
+
 /* Mounts the core by these numbers of the blocks. */
 static uint32_t mount_core(struct mintlintel_durable *device, struct opening *opening)
 {
@@ -408,7 +420,10 @@ static uint32_t mount_core(struct mintlintel_durable *device, struct opening *op
     flash->is_stuck = 0;
     if (code == MINTLINTEL_DONE)
         code = mintlintel_core_finish(&device->core);
-    return code == MINTLINTEL_DONE ? tell_losses(device) : code;
+    if (code != MINTLINTEL_DONE)
+        return code;
+    tell_erases(device);
+    return tell_losses(device);
 }
 
 /* Mounts without the bad blocks and the reserve. Where no block of the others can be freed, the reserve comes in use. */

@@ -446,33 +446,49 @@ static void note_kinds(void)
     CHECK(mintlintel_core_note(&core, 3, 0, 1, 5) == MINTLINTEL_CLOSED);
 }
 
+/* A core over a flash without versions, and how often each of its blocks was erased. */
+enum { CORE_BLOCKS = 256 };
+static struct mintlintel_core core;
+static double erases[CORE_BLOCKS];
+
+static void open_core(uint32_t blocks, uint32_t pages, uint32_t of)
+{
+    memset(erases, 0, sizeof erases);
+    CHECK(mintlintel_core_open(&core, blocks, pages, of) == MINTLINTEL_DONE);
+    CHECK(mintlintel_core_erased(&core, 0, 1) == MINTLINTEL_WRONG_KIND);
+    for (uint32_t page = 0; page < blocks * pages; page++)
+        CHECK(mintlintel_core_note(&core, 0, 0, 0, 0) == MINTLINTEL_DONE);
+    CHECK(mintlintel_core_finish(&core) == MINTLINTEL_DONE);
+}
+
+static void write_core(uint32_t sector)
+{
+    struct mintlintel_command command;
+    do {
+        CHECK(mintlintel_core_next(&core, sector, 1, &command) == MINTLINTEL_DONE);
+        CHECK(mintlintel_core_done(&core, sector, 1, &command) == MINTLINTEL_DONE);
+        if (command.kind == 3)
+            erases[command.block % CORE_BLOCKS]++;
+    } while (command.kind != 1);
+}
+
 /* The variance of the blocks' erases over the square of their mean, after writes of sectors in order, or of nine in ten to a tenth of them. */
 static double unevenness(int in_order)
 {
-    enum { BLOCKS = 256, PAGES = 64, ALL = BLOCKS * PAGES, SECTORS = ALL / 10 * 9 };
-    static struct mintlintel_core core;
-    double erases[BLOCKS] = {0}, sum = 0, squares = 0;
+    enum { PAGES = 64, ALL = CORE_BLOCKS * PAGES, SECTORS = ALL / 10 * 9 };
+    double sum = 0, squares = 0;
     uint64_t draws = 1;
-    CHECK(mintlintel_core_open(&core, BLOCKS, PAGES, SECTORS) == MINTLINTEL_DONE);
-    for (int page = 0; page < ALL; page++)
-        CHECK(mintlintel_core_note(&core, 0, 0, 0, 0) == MINTLINTEL_DONE);
-    CHECK(mintlintel_core_finish(&core) == MINTLINTEL_DONE);
+    open_core(CORE_BLOCKS, PAGES, SECTORS);
     for (uint32_t i = 0; i < SECTORS + 20 * ALL; i++) {
-        struct mintlintel_command command;
-        uint32_t below = drawn(&draws) % 10 ? SECTORS / 10 : SECTORS, sector = in_order || i < SECTORS ? i % SECTORS : drawn(&draws) % below;
-        do {
-            CHECK(mintlintel_core_next(&core, sector, 1, &command) == MINTLINTEL_DONE);
-            CHECK(mintlintel_core_done(&core, sector, 1, &command) == MINTLINTEL_DONE);
-            if (command.kind == 3)
-                erases[command.block]++;
-        } while (command.kind != 1);
+        uint32_t below = drawn(&draws) % 10 ? SECTORS / 10 : SECTORS;
+        write_core(in_order || i < SECTORS ? i % SECTORS : drawn(&draws) % below);
     }
-    for (int block = 0; block < BLOCKS; block++) {
+    for (int block = 0; block < CORE_BLOCKS; block++) {
         sum += erases[block];
         squares += erases[block] * erases[block];
     }
     mintlintel_core_close(&core);
-    return squares * BLOCKS / (sum * sum) - 1;
+    return squares * CORE_BLOCKS / (sum * sum) - 1;
 }
 
 /* Of equal victims and free blocks a less erased one is taken: without that 0.0084 would be left of the second figure. */
@@ -480,6 +496,37 @@ static void wear_evenly(void)
 {
     CHECK(unevenness(1) < 0.0005);
     CHECK(unevenness(0) < 0.0045);
+}
+
+/* The core counts the erases of before the mount, of the blocks that it has. */
+static void take_the_least_erased(void)
+{
+    static const uint32_t earlier[6] = {9, 70000, 3, 8, 0, 0};
+    struct mintlintel_command command;
+    open_core(4, 2, 3);
+    for (uint32_t block = 0; block < 6; block++)
+        CHECK(mintlintel_core_erased(&core, block, earlier[block]) == MINTLINTEL_DONE);
+    CHECK(mintlintel_core_next(&core, 0, 1, &command) == MINTLINTEL_DONE && command.kind == 3 && command.block == 2);
+    mintlintel_core_close(&core);
+    CHECK(mintlintel_core_erased(&core, 0, 1) == MINTLINTEL_CLOSED);
+}
+
+/* A device that is opened again after each few writes wears its blocks as evenly as one that stays open. */
+static void wear_evenly_over_opens(void)
+{
+    uint32_t least = UINT32_MAX, most = 0;
+    begin_sound();
+    sectors = 2 * CHIP_PAGES - 1;
+    for (int round = 0; round < 400; round++) {
+        CHECK(open_device());
+        write_some(CHIP_PAGES);
+        mintlintel_durable_close(&device);
+    }
+    for (int block = 0; block < CHIP_BLOCKS - 1; block++) {
+        least = chip.erases[block] < least ? chip.erases[block] : least;
+        most = chip.erases[block] > most ? chip.erases[block] : most;
+    }
+    CHECK(least > 0 && most - least <= 10);
 }
 
 int main(int argc, char **argv)
@@ -494,6 +541,8 @@ int main(int argc, char **argv)
     trim_at_once();
     note_kinds();
     wear_evenly();
+    wear_evenly_over_opens();
+    take_the_least_erased();
     for (long round = 0; round < rounds; round++) {
         run(1000);
         cuts += chip.cuts;

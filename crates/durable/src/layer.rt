@@ -45,6 +45,16 @@ impl Core {
         self.map.get(sector as usize)
     }
 
+    /// A block was erased so often before the mount. Of a few blocks that are as good the least erased is taken, and blocks that are not in use
+    /// don't count.
+    pub fn erased_before(&mut self, block: u32, erases: u32)
+        ensures { self.new ≡ self.old }
+    {
+        if block < self.blocks {
+            self.counts.erased_before(block, erases);
+        }
+    }
+
     /// The command that comes next for a write or trim of these sectors. It depends on nothing but the layer's memory.
     pub fn next(&self, extent: Extent) -> Command
         requires { LiesWithin (device_of self.now).sectors extent }

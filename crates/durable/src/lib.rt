@@ -9,6 +9,7 @@ mod extent;
 mod fault;
 mod found;
 mod gaps;
+mod hints;
 mod laws;
 mod layer;
 mod marks;

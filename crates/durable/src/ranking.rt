@@ -12,7 +12,7 @@ const COMPARED: usize = 8;
 #[derive(Drop)]
 pub struct Counts {
     counts: Vec<u32>,
-    // How often each block was erased since the mount.
+    // How often each block was erased.
     erases: Vec<u16>,
     // The key of a block is its count, or the greatest key if that is less.
     queue: BucketQueue,
@@ -85,6 +85,14 @@ impl Counts {
             self.queue.lower(block);
         }
         self.counts[block as usize] -= 1;
+    }
+
+    /// A block was erased so often before the mount.
+    pub fn erased_before(&mut self, block: u32, erases: u32)
+        requires { block < length self.old }
+        ensures { self.new ≡ self.old }
+    {
+        self.erases[block as usize] = erases.min(u32::from(u16::MAX)) as u16;
     }
 
     /// A block was erased.

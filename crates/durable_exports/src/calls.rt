@@ -296,6 +296,26 @@ pub extern "C" fn mintlintel_core_done(
     })
 }
 
+/// A block was erased so often before the mount, which counts where the layer chooses among blocks that are as good.
+#[unsafe(no_mangle)]
+pub extern "C" fn mintlintel_core_erased(
+    alloc: Global,
+    handle: &mut Handle,
+    block: u32,
+    erases: u32,
+) -> u32
+    ensures code { result ≡ code_of_layer (seat_of handle.old) (λ _. 0) }
+    ensures same { seat_of handle.new ≡ seat_of handle.old }
+{
+    handle.typed().on(alloc, |seat| match seat {
+        Seat::Mounted(layer) => {
+            layer.core.erased_before(block, erases);
+            DONE
+        }
+        Seat::Mounting(_) => WRONG_KIND,
+    })
+}
+
 /// What has succeeded since the mount.
 #[unsafe(no_mangle)]
 pub extern "C" fn mintlintel_core_counts(
