@@ -8,6 +8,8 @@ use victims::BucketQueue;
 // How many blocks are compared for the least erased one.
 const COMPARED: usize = 8;
 
+const NO_BLOCK: u32 = u32::MAX;
+
 /// How many live pages each block has, and the blocks in the order of that.
 #[derive(Drop)]
 pub struct Counts {
@@ -111,7 +113,7 @@ impl Counts {
             → 0 < slice_index_or self.now b 0) }
     {
         let block = self.queue.in_turn(0, turn)?;
-        Some(least_erased(&self.queue, &self.erases, block, block))
+        Some(least_erased(&self.queue, &self.erases, block, NO_BLOCK))
     }
 
     /// The block with the fewest live pages, beside one: of a few the least erased.
@@ -151,9 +153,17 @@ fn least_erased(queue: &BucketQueue, erases: &[u16], block: u32, avoided: u32) -
         if queue.keys[other as usize] != queue.keys[block as usize] {
             break;
         }
-        if other != avoided && erases[other as usize] < erases[best as usize] {
+        if other != avoided && worn(erases, other, avoided) < worn(erases, best, avoided) {
             best = other;
         }
     }
     best
+}
+
+// How often a block was erased, and once more if it is near to another one: mostly they are then of one LUN, and a copy keeps that busy alone.
+fn worn(erases: &[u16], block: u32, other: u32) -> u32
+    requires { block < length erases.now }
+{
+    let is_near = (block.abs_diff(other) as usize) < erases.len() / 4;
+    u32::from(erases[block as usize]) + u32::from(is_near)
 }
