@@ -5,6 +5,7 @@
 #include <errno.h>
 #include <inttypes.h>
 #include <nbdkit-plugin.h>
+#include <sched.h>
 #include <stdlib.h>
 #include <string.h>
 
@@ -17,6 +18,8 @@
 
 // Who has the lock lets others have it after so many pages of a request, or sectors of a trim.
 enum { PAGES_OF_A_TURN = 32, SECTORS_OF_A_TURN = 4096 };
+// How often a write that waits for the lock lets others run before it sleeps.
+enum { YIELDS = 4 };
 
 // ---- Opening and closing.
 
@@ -320,6 +323,16 @@ static int write_part(struct image_disk *disk, const struct piece *piece, const 
     return result;
 }
 
+// The lock is mostly given back before a thread that sleeps would be awake again. Reads don't wait like this, so they come before writes.
+static void lock_for_write(struct image_disk *disk) {
+    for (int i = 0; i < YIELDS; i++) {
+        if (pthread_mutex_trylock(&disk->mutex) == 0)
+            return;
+        sched_yield();
+    }
+    pthread_mutex_lock(&disk->mutex);
+}
+
 // Whole pages, at most those of a turn.
 static int write_pages(struct image_disk *disk, const uint8_t *from, uint32_t sector, uint32_t count, uint64_t began, uint64_t *until) {
     size_t page = disk->options->page;
@@ -327,7 +340,7 @@ static int write_pages(struct image_disk *disk, const uint8_t *from, uint32_t se
     int result = 0;
     for (uint32_t i = 0; i < count; i++)
         checks[i] = mtl_crc(0, from + i * page, page);
-    pthread_mutex_lock(&disk->mutex);
+    lock_for_write(disk);
     mtl_image_keep(&disk->image, from, checks, count);
     for (uint32_t i = 0; result == 0 && i < count; i++) {
         chip_ask(began);

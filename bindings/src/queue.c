@@ -12,8 +12,8 @@
 #include <unistd.h>
 #endif
 
-/* How often a thread looks whether its commands are done before it sleeps. */
-enum { LOOKS = 100 };
+/* How often a thread lets others run before it sleeps. */
+enum { YIELDS = 4 };
 /* Of how many main bytes the system is asked to begin writing at once. */
 enum { STRETCH_BYTES = 1 << 19 };
 
@@ -180,14 +180,14 @@ static void lead(struct mintlintel_image_file *file)
     wake(queue, end, let_go_of(queue), 1);
 }
 
-/* Waits until all before this number is done, or nobody leads, or less: it looks for a moment, and then sleeps. */
+/* Waits until all before this number is done, or nobody leads, or less. A leader is mostly done before a thread that sleeps would be awake again. */
 static void wait_for(struct queue *queue, uint64_t end)
 {
     uint32_t turn = (uint32_t)((end - 1) % TURNS);
-    for (int i = 0; i < LOOKS && done_of(queue) < end && is_led(queue); i++) {
-#if defined __x86_64__ && defined __GNUC__
-        __builtin_ia32_pause();
-#endif
+    for (int i = 0; i < YIELDS; i++) {
+        sched_yield();
+        if (done_of(queue) >= end || !is_led(queue))
+            return;
     }
     __atomic_fetch_add(&queue->sleepers[turn], 1, __ATOMIC_SEQ_CST);
     uint32_t ended = __atomic_load_n(&queue->ended, __ATOMIC_SEQ_CST);

@@ -40,11 +40,16 @@ class Ranking:
         self.live[block] -= 1
 
     def _least_erased(self, block, beside):
-        """Of a block and of the eight behind it, as far as they have as many live pages, the least erased."""
+        """Of a block and of the eight behind it, as far as they have as many live pages, the least erased. If its number is less than a quarter of all
+        blocks away from that of the block beside, it counts an erase more."""
+
+        def worn(block):
+            return self.erases[block] + (beside is not None and abs(block - beside) < len(self.order) // 4)
+
         for other in self.order[self.order.index(block) + 1 :][:8]:
             if self.live[other] != self.live[block]:
                 break
-            if other != beside and self.erases[other] < self.erases[block]:
+            if other != beside and worn(other) < worn(block):
                 block = other
         return block
 
