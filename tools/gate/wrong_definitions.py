@@ -1,11 +1,13 @@
 """wrong-definitions CRATE.. | --all | --missing | --check: shows that laws refuse the wrong definitions of these crates, of all, or of those without
 an entry in .ci/refused-definitions. The prover reads the law that an edit names with a copy of the definition made wrong, and with one only
 written otherwise (its twin); what stands between the law and the definition is copied too. The clause has to stay open with the wrong one, and the
-whole law has to be proved with the twin. --check names the crates without an entry, and fails if an edit fits no definition or names no law."""
+whole law has to be proved with the twin. An edit may change several texts of a definition, with the lines `old:`, `new:` and `twin:` of each in the same
+order. --check names the crates without an entry, and fails if an edit fits no definition or names no law."""
 
 import re
 import runpy
 import shutil
+from collections import defaultdict
 from pathlib import Path
 
 from gate import record, tree
@@ -21,9 +23,11 @@ class Wrong:
     """A wrong definition: the law and the clause that refuse it, and the tags of two copies of the law, with a wrong text and with a right one."""
 
     def __init__(self, number, edit):
-        its = dict(line.split(": ", 1) for line in edit.text.splitlines())
-        self.crate, self.name, self.place, self.definition, self.old = edit.crate, edit.name, edit.place, its["definition"], its["old"]
-        self.law, self.clause = its["law"].split()
+        its = defaultdict(list)
+        for key, text in (line.split(": ", 1) for line in edit.text.splitlines()):
+            its[key].append(text)
+        self.crate, self.name, self.place, (self.definition,), self.old = edit.crate, edit.name, edit.place, its["definition"], its["old"]
+        self.law, self.clause = its["law"][0].split()
         self.home, *self.modules, self.function = self.law.split("::")
         self.wrong, self.twin = f"w{number}", f"t{number}"
         self.copies = {self.wrong: its["new"], self.twin: its["twin"]}
@@ -49,7 +53,7 @@ def place_of(edit, texts):
     head = re.compile(rf"^(?:abbrev |unfoldable )?pub (?:record |data )?{re.escape(edit.definition)} .*?(?=^\n|\Z)", re.M | re.S)
     for it in (it for it in texts if it[:2] == (edit.crate, "specs")):
         if found := head.search(texts[it]):
-            return (it, *found.span()) if found[0].count(edit.old) == 1 else None
+            return (it, *found.span()) if all(found[0].count(old) == 1 for old in edit.old) else None
     return None
 
 
@@ -86,12 +90,15 @@ def part_of(text, wanted):
 
 
 def copy_of(edit, tag, new, texts, below):
-    """A copy of an edit's law under a tag, as it reads with this text in place of the old one: texts to add to files of the law's crate."""
+    """A copy of an edit's law under a tag, as it reads with these texts in place of the old ones: texts to add to files of the law's crate."""
     imports, law, answers = law_of(edit)
     target, begin, end = place_of(edit, texts)
     copied = {it for named in NAMED.findall(imports + law + answers) for it in below.get(named, ()) if target in below[it]}
     wanted = set(WORD.findall("\n".join([imports, law, answers, *(texts[it] for it in copied if it != target)])))
-    changed = texts[target][:begin] + texts[target][begin:end].replace(edit.old, new) + texts[target][end:]
+    changed = texts[target][begin:end]
+    for old, its in zip(edit.old, new, strict=True):
+        changed = changed.replace(old, its)
+    changed = texts[target][:begin] + changed + texts[target][end:]
 
     def redirected(text):
         return NAMED.sub(lambda it: f"Rattle.{edit.home}.{it[2]}.{tag}_{it[1]}_{it[3]}" if it.groups() in copied else it[0], text)
@@ -135,7 +142,7 @@ def said_of(home, additions):
 def fault_of(edit, said):
     """What is wrong with an edit by what the prover printed, or nothing."""
     lines, well = said.splitlines(), set(re.findall(r"^fn \w+::wrong::(\w+)::\w+: proved$", said, re.M))
-    refusals = [it for it in lines if f"proofs/wrong/{edit.wrong}/" in it or f"::wrong::{edit.wrong}::" in it]
+    refusals = [it for it in lines if re.search(rf"proofs/wrong/{edit.wrong}/|src/wrong/{edit.wrong}\.rt:|::wrong::{edit.wrong}::", it)]
     if unread := [it for it in lines if re.search(rf"(?:specs/|src/wrong/)(?:{edit.wrong}|{edit.twin})[_.].*: error", it)]:
         return f"can't be read: {unread[0]}"
     if edit.wrong in well:

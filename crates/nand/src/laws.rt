@@ -19,7 +19,8 @@ ghost use Rattle.nand.specs.Stored.{HasLostSector, ReadsStored, StopsLook, Stops
 ghost use Rattle.nand.specs.Histories.{IsFor, Leads, update_by};
 ghost use Rattle.nand.specs.Nand.{CountsCommand, CountsCut, CountsFault, HasBytes, Performs, ReadsMain, ReadsStamp};
 ghost use Rattle.nand.specs.Nand.{noted_of, other_fault, tally_after, value_with};
-ghost use Rattle.nand.specs.Numbers.{IsInReserve, IsInUse, IsOrder, Marks, chip_block, chip_page, good_before, is_marked, most_in_use, numbered};
+ghost use Rattle.nand.specs.Numbers.{IsInReserve, IsInUse, IsOrder, IsOrderTo, Marks, chip_block, chip_page, good_before};
+ghost use Rattle.nand.specs.Numbers.{is_marked, most_in_use, numbered};
 ghost use Rattle.nand.specs.Opened.{CanFreeInUse, CanOpen, Fails, HasFailed, IsClosed, IsOpenLayer, IsRefusal, IsSameDevice, IsSpent};
 ghost use Rattle.nand.specs.Opened.{IsTrueCause, KeepsDevice, MarksFailed, ReadsSector, Were};
 ghost use Rattle.nand.specs.Opened.{device_on, layer_sectors, most_used, number_of, reserve_of, update_of};
@@ -348,25 +349,24 @@ pub fn opened()
         → chip_flash layer.nand 0 0 ≡ Version (sole 7) 5 v → 5 < next_number_of layer.core }
     ensures bad_unused { (layer : Layer Modelled) (updates : List Update)
         → IsOpenLayer chip_flash chip_shape chip_bad layer updates
-        → chip_bad layer.nand ≡ true ∷ [] → 0 < (device_of layer.core).blocks
+        → chip_bad layer.nand ≡ true ∷ false ∷ false ∷ []
         → chip_block layer.numbers.items 0 ≢ 0 }
     ensures frees { (chip : Modelled) (updates : List Update)
         → (chip_shape chip).blocks ≡ 1 → chip_bad chip ≡ true ∷ []
         → ¬ CanOpen chip_flash chip_shape chip_bad chip 8 updates }
     ensures in_reserve { (layer : Layer Modelled) (updates : List Update)
         → IsOpenLayer chip_flash chip_shape chip_bad layer updates
-        → (chip_shape layer.nand).blocks ≡ 9 → (chip_shape layer.nand).pages ≡ 4
-        → layer_sectors layer ≡ 8 → chip_bad layer.nand ≡ []
-        → reserve_of layer ≡ 1 }
+        → (chip_shape layer.nand).pages ≡ 4 → layer_sectors layer ≡ 3
+        → chip_bad layer.nand ≡ false ∷ false ∷ false ∷ [] → reserve_of layer ≡ 1 }
     ensures blank { (layer : Layer Modelled) (v : Sector) (updates : List Update)
         → IsOpenLayer chip_flash chip_shape chip_bad layer updates
-        → (chip_shape layer.nand).blocks ≡ 9 → (chip_shape layer.nand).pages ≡ 4
-        → layer_sectors layer ≡ 8 → chip_bad layer.nand ≡ []
-        → chip_flash layer.nand 8 0 ≢ Version (sole 7) 5 v }
+        → (chip_shape layer.nand).pages ≡ 4 → layer_sectors layer ≡ 3
+        → chip_bad layer.nand ≡ false ∷ false ∷ false ∷ []
+        → chip_flash layer.nand 2 0 ≢ Version (sole 1) 5 v }
     ensures blank_chip { (chip : Modelled) (v : Sector) (updates : List Update)
-        → CanOpen chip_flash chip_shape chip_bad chip 8 updates
-        → (chip_shape chip).blocks ≡ 9 → (chip_shape chip).pages ≡ 4
-        → chip_bad chip ≡ [] → chip_flash chip 8 0 ≢ Version (sole 7) 5 v }
+        → CanOpen chip_flash chip_shape chip_bad chip 3 updates
+        → (chip_shape chip).pages ≡ 4 → chip_bad chip ≡ false ∷ false ∷ false ∷ []
+        → chip_flash chip 2 0 ≢ Version (sole 1) 5 v }
     ensures freed { (f : Flash) (shape : Numbers) → shape.blocks ≡ 2
         → CanFreeInUse f shape (true ∷ false ∷ []) 8 → IsDuplicated f 8 1 }
     ensures freed_in_use { (f : Flash) (shape : Numbers)
@@ -406,7 +406,10 @@ pub fn orders()
         → (c : ℕ) × (c < 2) × (chip_block numbers c ≡ 1) }
     ensures lies { (numbers : List ℕ) (bad : List Bool)
         → IsOrder numbers bad 2 → chip_block numbers 1 < 2 }
+    ensures beyond { ¬ IsOrderTo (1 ∷ 0 ∷ []) (true ∷ true ∷ []) 1 2 }
+    ensures rest { (numbers : List ℕ) → IsOrder numbers [] 2 → chip_block numbers 5 ≡ 5 }
     ensures in_order { IsOrder [] [] 2 }
+    ensures bad_last { IsOrder (1 ∷ 0 ∷ []) (true ∷ false ∷ []) 2 }
     ensures ranked { (numbers : List ℕ) → IsOrder numbers [] 2 → chip_block numbers 1 ≡ 1 }
     ensures most { most_in_use 100 4 8 ≡ 97 }
     ensures least { most_in_use 3 2 3 ≡ 3 }

@@ -19,6 +19,8 @@ if sys.argv[1:2] == ["version"]:
 if sys.argv[1:2] == ["check"]:
     for law in sorted(Path("src/wrong").glob("*.rt")):
         tag, text = law.stem, definition(law.read_text(), law.stem)
+        if "OPEN" in text:
+            print(f"note: src/wrong/{tag}.rt:3:1: it is not proved that what the function ensures holds when it returns (`returns-clause-held`)")
         if "BAD" in text:
             print(f"./specs/{tag}_low_Low.antt:1:1: error: not in scope")
         if "WRONG" in text or "OTHER" in text:
@@ -95,6 +97,17 @@ class WrongDefinitions(Small):
     def test_another_clause_is_not_the_one_that_refuses(self):
         self.wrong("OTHER")
         self.assert_fault("is refused, but not by the clause held")
+
+    def test_a_clause_that_is_open_beside_an_answer_that_does_not_fit_refuses(self):
+        self.wrong("OTHER OPEN")
+        self.assertIn("refused, and its twin is proved", self.run_here("low"))
+
+    def test_an_edit_may_change_several_texts(self):
+        self.write("crates/low/specs/Low.antt", LOW.replace("right", "right left"))
+        self.wrong("right", twin="also_right\nold: left\nnew: WRONG\ntwin: also_left")
+        self.assertIn("refused, and its twin is proved", self.run_here("low"))
+        self.wrong("right", twin="also_right\nold: absent\nnew: WRONG\ntwin: also_left")
+        self.assertIn("changes a text that isn't in number of low exactly once", self.run_here("--check", status=1))
 
     def test_the_twin_has_to_be_proved(self):
         self.wrong("WRONG", twin="WRONG")

@@ -1,15 +1,8 @@
-use Rattle.std.proofs.Common.{◌≡◌, ◌∙◌, ◌+◌, ◌-◌, ◌%◌, ◌^◌, ℕ, Bool, true, false, List, [], ◌∷◌, ⊎_elim, refl, sym, ap, subst, arith}
-use Rattle.durable.specs.Updates.{sole}
+use Rattle.std.proofs.Common.{◌≡◌, ◌∙◌, ◌+◌, ◌-◌, ◌%◌, ◌^◌, ℕ, Bool, true, false, List, [], ◌∷◌, refl, sym, ap, subst, arith}
 use Rattle.nand.specs.Chip.{chip_bad, chip_faults, chip_shape}
 use Rattle.nand.specs.Numbers.{good_before}
 use Rattle.nand.specs.declared.flash.Fault.TheVariants as fault
 use Rattle.nand.proofs.laws.failing.Goals as goal
-
-pub returns-clause-reopens : goal.returns-clause-reopens
-returns-clause-reopens c old new u updates v held sectors fails = ⊎_elim
-    (λ before. let written = before.readable.written 3 0 (sole 8) 5 v held in omega (arith, written.2.1, sectors))
-    (λ after. let written = after.readable.written 3 0 (sole 8) 5 v held in omega (arith, written.2.1, sectors))
-    fails.reopens
 
 pub returns-clause-one_mark : goal.returns-clause-one_mark
 returns-clause-one_mark c old new updates is marks blocks was now three =

@@ -1,36 +1,10 @@
-use Rattle.std.proofs.Common.{◌≡◌, ◌∙◌, ⊎_elim, ◌<◌, ℕ, zero, suc, true, false, [], ◌∷◌, refl, sym, ap, arith}
-use Rattle.std.proofs.lemmas.Bool.{cases_eq, false≢true}
+use Rattle.std.proofs.Common.{◌≡◌, ◌<◌, ◌≤◌, ℕ, zero, suc, true, false, [], ◌∷◌, refl, arith}
 use Rattle.nand.specs.Numbers.{chip_block, good_before, is_marked}
-use Rattle.nand.proofs.Orders.{other_chip_block}
 use Rattle.nand.proofs.laws.orders.Goals as goal
-
-pub returns-clause-first : goal.returns-clause-first
-returns-clause-first c numbers is = λ e. false≢true (sym (is.good 0 (omega arith)) ∙ ap (is_marked (true ∷ false ∷ [])) e)
-
-marked_second : (b : ℕ) → b < 2 → is_marked (false ∷ true ∷ []) b ≡ true → b ≡ 1
-marked_second b lt marked = ⊎_elim
-    (λ first. absurd (false≢true (sym (ap (is_marked (false ∷ true ∷ [])) first) ∙ marked)))
-    (λ differs. omega (arith, lt, differs))
-    (cases_eq b 0)
-
-pub returns-clause-last : goal.returns-clause-last
-returns-clause-last c numbers is = marked_second (chip_block numbers 1) (is.lies 1 (omega arith)) (is.others 1 (omega arith) (omega arith))
-
-pub returns-clause-once : goal.returns-clause-once
-returns-clause-once c numbers bad is = other_chip_block numbers bad 2 is 1 0 (λ e. omega (arith, e))
-
-pub returns-clause-every : goal.returns-clause-every
-returns-clause-every c numbers bad is = (is.to 1, is.within 1 (omega arith), is.put 1)
-
-pub returns-clause-lies : goal.returns-clause-lies
-returns-clause-lies c numbers bad is = is.lies 1 (omega arith)
 
 all_good : (n : ℕ) → good_before [] n ≡ n
 all_good zero = refl
 all_good (suc n) = omega (arith, all_good n)
-
-pub returns-clause-ranked : goal.returns-clause-ranked
-returns-clause-ranked c numbers is = sym (all_good (chip_block numbers 1)) ∙ is.ranked 1 (omega arith)
 
 pub returns-clause-in_order : goal.returns-clause-in_order
 returns-clause-in_order c = record {
@@ -43,4 +17,46 @@ returns-clause-in_order c = record {
   ranked = λ c lt. all_good c;
   others = λ c le lt. absurd (omega (arith, le, lt));
   rest = λ c le. refl;
+}
+
+-- two blocks that have each other's number
+exchanged : (b : ℕ) → chip_block (1 ∷ 0 ∷ []) (chip_block (1 ∷ 0 ∷ []) b) ≡ b
+exchanged zero = refl
+exchanged (suc zero) = refl
+exchanged (suc (suc b)) = refl
+
+below_two : (b : ℕ) → b < 2 → chip_block (1 ∷ 0 ∷ []) b < 2
+below_two zero lt = omega arith
+below_two (suc zero) lt = omega arith
+below_two (suc (suc b)) lt = absurd (omega (arith, lt))
+
+good_first : (c : ℕ) → c < 1 → is_marked (true ∷ false ∷ []) (chip_block (1 ∷ 0 ∷ []) c) ≡ false
+good_first zero lt = refl
+good_first (suc c) lt = absurd (omega (arith, lt))
+
+ranked_first : (c : ℕ) → c < 1 → good_before (true ∷ false ∷ []) (chip_block (1 ∷ 0 ∷ []) c) ≡ c
+ranked_first zero lt = refl
+ranked_first (suc c) lt = absurd (omega (arith, lt))
+
+bad_second : (c : ℕ) → 1 ≤ c → c < 2 → is_marked (true ∷ false ∷ []) (chip_block (1 ∷ 0 ∷ []) c) ≡ true
+bad_second zero le lt = absurd (omega (arith, le))
+bad_second (suc zero) le lt = refl
+bad_second (suc (suc c)) le lt = absurd (omega (arith, lt))
+
+own_after : (c : ℕ) → 2 ≤ c → chip_block (1 ∷ 0 ∷ []) c ≡ c
+own_after zero le = absurd (omega (arith, le))
+own_after (suc zero) le = absurd (omega (arith, le))
+own_after (suc (suc c)) le = refl
+
+pub returns-clause-bad_last : goal.returns-clause-bad_last
+returns-clause-bad_last c = record {
+  to = chip_block (1 ∷ 0 ∷ []);
+  found = exchanged;
+  put = exchanged;
+  within = below_two;
+  lies = below_two;
+  good = good_first;
+  ranked = ranked_first;
+  others = bad_second;
+  rest = own_after;
 }
