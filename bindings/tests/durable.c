@@ -331,13 +331,15 @@ static int has_twin(uint32_t block, uint32_t page)
     return 0;
 }
 
-/* A block that needs no page is torn in each page whose version another block has too, as in an erase, and its stamps stay whole. */
+/* A block that needs no page is torn in each page whose version another block has too, as in an erase, and its stamps stay whole. With few sectors it
+ * isn't the only one that needs none. */
 static void tear_twins(void)
 {
     struct mintlintel_block block;
     long found = 0;
     for (int round = 0; round < 300; round++) {
         begin_sound();
+        sectors = (CHIP_BLOCKS - 2 - round % 5) * CHIP_PAGES - 1;
         CHECK(open_device());
         write_some(100 + (int)(drawn(&state) % 100));
         for (uint32_t b = 0; b < CHIP_BLOCKS; b++) {

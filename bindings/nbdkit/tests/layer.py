@@ -21,9 +21,10 @@ class Lun:
 class Ranking:
     """The blocks in the order of their live pages: a block that gains or loses one changes places with the last or first of its count."""
 
-    def __init__(self, blocks, pages):
+    def __init__(self, erases, pages):
+        blocks = len(erases)
         self.order, self.live, self.starts = list(range(blocks)), [0] * blocks, [0, *[blocks] * (pages + 1)]
-        self.erases = [0] * blocks
+        self.erases = erases
 
     def _exchange(self, block, place):
         other, mine = self.order[place], self.order.index(block)
@@ -40,8 +41,8 @@ class Ranking:
         self.live[block] -= 1
 
     def _least_erased(self, block, beside):
-        """Of a block and of the eight behind it, as far as they have as many live pages, the least erased. If its number is less than a quarter of all
-        blocks away from that of the block beside, it counts an erase more."""
+        """Of a block and of the eight behind it, as far as they have as many live pages, the least erased. One whose number is less than a quarter of
+        all blocks away from that of the block beside counts an erase more."""
 
         def worn(block):
             return self.erases[block] + (beside is not None and abs(block - beside) < len(self.order) // 4)
@@ -63,19 +64,24 @@ class Ranking:
 
 
 class Layer:
-    """Where each sector is, and the page to be programmed next. `pages_of` has the sector of each page of a block, or None."""
+    """Where each sector is, and the page to be programmed next. `pages_of` has the sector of each page of a block, or None; `stamps` has each version's
+    number, and the erases of the block that it was first programmed to."""
 
     def __init__(self, blocks, pages):
-        self.pages, self.place, self.pages_of = pages, {}, [[None] * pages for _ in range(blocks)]
+        self.pages, self.place, self.number = pages, {}, 0
+        self.pages_of, self.stamps = [[None] * pages for _ in range(blocks)], [{} for _ in range(blocks)]
         self.mount()
 
     def mount(self):
-        self.next, self.hand, self.turn, self.ranking = None, 0, 0, Ranking(len(self.pages_of), self.pages)
+        """A block's erases are those that its newest version tells."""
+        erases = [max(stamps.values(), default=(0, 0))[1] for stamps in self.stamps]
+        self.next, self.hand, self.turn, self.ranking = None, 0, 0, Ranking(erases, self.pages)
         for sector in sorted(self.place):
             self.ranking.gains(self.place[sector][0])
 
-    def _put(self, sector):
+    def _put(self, sector, stamp):
         block, page = self.next
+        self.stamps[block][page] = stamp
         if sector in self.place:
             old, at = self.place[sector]
             self.pages_of[old][at] = None
@@ -90,20 +96,21 @@ class Layer:
         while True:
             if self.next is None:
                 block = self.ranking.free(self.turn)
-                self.next, self.turn, self.pages_of[block] = (block, 0), self.turn + 1, [None] * self.pages
+                self.next, self.turn, self.pages_of[block], self.stamps[block] = (block, 0), self.turn + 1, [None] * self.pages, {}
                 self.ranking.erases[block] += 1
                 yield "erase", block, block
                 continue
             block = self.next[0]
             victim = self.ranking.fewest(block)
             if self.ranking.live[victim] == 0:
-                self._put(sector)
+                self.number += 1
+                self._put(sector, (self.number, self.ranking.erases[block]))
                 yield "program", block, block
                 return
             else:
                 live = [page for page, its in enumerate(self.pages_of[victim]) if its is not None]
                 self.hand = min(live, key=lambda page: (page < self.hand, page))
-                self._put(self.pages_of[victim][self.hand])
+                self._put(self.pages_of[victim][self.hand], self.stamps[victim][self.hand])
                 yield "copy", victim, block
 
 
