@@ -52,10 +52,7 @@ def tried(room, name):
 
 
 def of_edits(name):
-    """The goals that refuse the wrong bodies of a crate, or by its laws wrong definitions, each as the name of its function and its own."""
-    for law, clause in (re.search("law: (.*) (.*)", it.text).groups() for other in tree.crates() for it in tree.edits(other, "wrong-definitions")):
-        if law.startswith(f"{name}::"):
-            yield law.split("::")[-1], f"returns-clause-{clause}"
+    """The goals that refuse the wrong bodies of a crate, each as the name of its function and its own."""
     goals = gallery.goals_on_page()
     for edit in tree.edits(name):
         for place in gallery.places_of(edit):

@@ -1,13 +1,11 @@
 """wrong-definitions CRATE.. | --all | --missing | --check: shows that laws refuse the wrong definitions of these crates, of all, or of those without
-an entry in .ci/refused-definitions. The prover reads the law that an edit names with a copy of the definition made wrong, and with one only
-written otherwise (its twin); what stands between the law and the definition is copied too. The clause has to stay open with the wrong one, and the
-whole law has to be proved with the twin. An edit may change several texts of a definition, with the lines `old:`, `new:` and `twin:` of each in the same
-order. --check names the crates without an entry, and fails if an edit fits no definition or names no law."""
+an entry in .ci/refused-definitions. The prover reads the law that an edit names with a copy of the definition made wrong, in one text or in several,
+and with one only written otherwise (its twin); what stands between them is copied too. The clause has to stay open with the wrong one, and the whole
+law has to be proved with the twin. --check names the crates without an entry, and fails if an edit fits no definition or names no law."""
 
 import re
 import runpy
 import shutil
-from collections import defaultdict
 from pathlib import Path
 
 from gate import record, tree
@@ -23,9 +21,8 @@ class Wrong:
     """A wrong definition: the law and the clause that refuse it, and the tags of two copies of the law, with a wrong text and with a right one."""
 
     def __init__(self, number, edit):
-        its = defaultdict(list)
-        for key, text in (line.split(": ", 1) for line in edit.text.splitlines()):
-            its[key].append(text)
+        pairs = [line.split(": ", 1) for line in edit.text.splitlines()]
+        its = {key: [text for other, text in pairs if other == key] for key, _ in pairs}
         self.crate, self.name, self.place, (self.definition,), self.old = edit.crate, edit.name, edit.place, its["definition"], its["old"]
         self.law, self.clause = its["law"][0].split()
         self.home, *self.modules, self.function = self.law.split("::")

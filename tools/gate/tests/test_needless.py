@@ -59,13 +59,6 @@ class Needless(Small):
         self.assertIn("needless low: 1 answers go", self.run_main(needless, "low"))
         self.assertEqual((self.top / "crates/low/proofs/lib/first/Answers.antt").read_text(), HEAD + LEMMA + EASY + HARD)
 
-    def test_an_answer_stays_at_the_clause_that_a_wrong_definition_names(self):
-        self.write("crates.txt", "low:\nhigh: low\n")
-        self.write("crates/high/wrong-definitions.edits", "edit: is_two\nlaw: low::lib::first easy\ndefinition: Is\nold: 1\nnew: 2\ntwin: 1\n")
-        self.assertIn("needless low: 1 answers go", self.run_main(needless, "low"))
-        self.assertEqual((self.top / "crates/low/proofs/lib/first/Answers.antt").read_text(), HEAD + LEMMA + EASY + HARD)
-        self.assertFalse((self.top / "crates/low/proofs/lib/second").exists())
-
     def test_answers_are_recorded_and_others_are_named(self):
         self.assertIn("never tried: low", self.run_main(needless, "--check"))
         self.run_main(needless, "--missing")
