@@ -7,7 +7,6 @@
 #include <string.h>
 
 enum { PROGRAM = 1, COPY = 2, ERASE = 3 };
-enum { MOST_LUNS = 8, FEWEST_BLOCKS = 3, MOST_BLOCKS = 1048576, MOST_PAGES = 16384, MOST_PAGE_BYTES = 65536, MOST_SECTORS = 268435456 };
 /* At how many sectors a call looks for one that has to move. */
 enum { LOOKED_AT = 4096 };
 /* How many versions an open reads whole, to tell a device with pages of another size. */
@@ -135,21 +134,6 @@ static uint32_t stops(struct mintlintel_flash *flash, uint32_t code)
         return code;
     flash->stopped = code;
     return code;
-}
-
-uint32_t mtl_durable_fault(const struct mintlintel_durable_numbers *n)
-{
-    if (n->luns < 1 || n->luns > MOST_LUNS)
-        return MINTLINTEL_BAD_LUNS;
-    if (n->blocks < FEWEST_BLOCKS || n->blocks > MOST_BLOCKS || n->blocks % n->luns != 0)
-        return MINTLINTEL_BAD_BLOCKS;
-    if (n->pages < 1 || n->pages > MOST_PAGES)
-        return MINTLINTEL_BAD_PAGES;
-    if (n->page_bytes < 1 || n->page_bytes > MOST_PAGE_BYTES)
-        return MINTLINTEL_BAD_WORDS;
-    if (n->sectors < 1 || n->sectors > MOST_SECTORS)
-        return MINTLINTEL_BAD_SECTORS;
-    return n->sectors < (uint64_t)(n->blocks - 1) * n->pages ? MINTLINTEL_DONE : MINTLINTEL_TOO_FEW_BLOCKS;
 }
 
 static void free_flash(struct mintlintel_flash *flash)
@@ -792,7 +776,7 @@ uint32_t mintlintel_durable_block(struct mintlintel_durable *device, uint32_t bl
         return MINTLINTEL_CLOSED;
     if (block >= flash->numbers.blocks)
         return MINTLINTEL_NO_SUCH_BLOCK;
-    uint8_t is_live[MOST_PAGES / 8] = {0}; /* a bit for each page: several sectors may have it */
+    uint8_t is_live[MTL_MOST_PAGES / 8] = {0}; /* a bit for each page: several sectors may have it */
     uint32_t live = 0;
     for (uint32_t sector = 0; sector < flash->numbers.sectors; sector++) {
         if (mintlintel_core_page(&device->core, sector, &at) != MINTLINTEL_WRITTEN || flash->chip_block[at.block] != block)

@@ -9,7 +9,8 @@
 uint32_t mtl_durable_open(struct mintlintel_durable *device, const struct mintlintel_nand *nand, const struct mintlintel_durable_numbers *numbers,
                           const uint32_t *reason, uint64_t *losses);
 
-/* The first fault of a device's numbers, or 0. */
+/* How many pages a block may have; and the first fault of a device's numbers, or 0. */
+enum { MTL_MOST_PAGES = 16384 };
 uint32_t mtl_durable_fault(const struct mintlintel_durable_numbers *numbers);
 
 /* The page of the chip that has the sector's newest version, a value or a trim: 1 with its place; 0 if none has; the code that each call returns. */
