@@ -3,12 +3,12 @@ ghost use Rattle.std.specs.Prelude.{◌<◌};
 use std::alloc::{AllocError, Global};
 
 /// How many sectors have hints of their own: those whose numbers lie so far apart have the same.
-pub const STRIDE: u32 = (1 << 20) - 1;
+pub const STRIDE: u32 = 1 << 20;
 
-/// The mark of a page that several sectors have had.
-pub const SHARED: u32 = 1 << 20;
+/// The mark of a page that was programmed for one sector.
+pub const ALONE: u32 = STRIDE;
 
-/// The hint of a page of which no sector is known.
+/// The hint of a page of which no sector is known. A few sectors have it too, and are looked up in vain for such a page.
 pub const NO_SECTOR: u32 = (1 << BITS) - 1;
 
 const BITS: usize = 21;

@@ -97,14 +97,12 @@ impl Core {
             Command::Copy(sector, from, to) => {
                 remap(&mut self.map, &mut self.counts, sector, Some(from), to);
                 self.owners.copied(&self.map, sector, from, to);
-                self.hand = from.page;
                 self.next_page = page_after(to, self.pages);
                 self.chosen = self.decide();
             }
             Command::Erase(block) => {
                 self.counts.erased(block);
                 self.owners.look_through(&self.map, &self.counts, block);
-                self.hand = 0;
                 self.turn = self.turn.wrapping_add(1);
                 self.next_page = Some(PageAddr { block, page: 0 });
                 self.chosen = self.decide();
@@ -138,7 +136,7 @@ impl Core {
                     }
                     return Command::Program(to, self.next_number);
                 }
-                match source(&self.map, &self.owners, victim, self.hand) {
+                match source(&self.map, &self.owners, victim) {
                     Some((sector, from)) => Command::Copy(sector, from, to),
                     None => Command::Refused,
                 }

@@ -18,9 +18,8 @@ pub struct Core {
     pub(crate) map: PackedMap,
     // How many live pages each block has.
     pub(crate) counts: Counts,
-    // Which sector each page has, and the page at which the next search of the victim starts.
+    // Which sector each page has.
     pub(crate) owners: Owners,
-    pub(crate) hand: u32,
     // How many blocks were erased, modulo 2^32: the choice of a free block begins with another one each time.
     pub(crate) turn: u32,
     // None: no block is open.

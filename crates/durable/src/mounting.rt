@@ -173,7 +173,6 @@ impl Mount {
             map,
             counts,
             owners,
-            hand: 0,
             turn: 0,
             next_page: None,
             next_number: self.next_number,

@@ -1,13 +1,13 @@
 ghost use Rattle.std.specs.Prelude.{◌≡◌, ◌<◌, ◌^◌, length, None, Some, IfSome, slice_index_or};
 
 use crate::extent::Extent;
-use crate::hints::{Hints, NO_SECTOR, SHARED, STRIDE};
+use crate::hints::{ALONE, Hints, NO_SECTOR, STRIDE};
 use crate::ranking::Counts;
 use geometry::PageAddr;
 use packed_map::PackedMap;
 use std::alloc::{AllocError, Global};
 
-// How far from a sector that leaves such a page another one is looked for that has it.
+// How far from a page's hint a sector is looked for if the page was programmed for several.
 const REACH: u32 = 4096;
 
 /// A sector that each page has, as far as it is known. The map says which of the sectors with the page's hint it is.
@@ -15,6 +15,9 @@ const REACH: u32 = 4096;
 pub struct Owners {
     pages: u32,
     hints: Hints,
+    // The sectors that the block that was looked through last had then, the first page's at the end, and how many of them are left.
+    live: Vec<u32>,
+    left: usize,
 }
 
 impl Owners {
@@ -31,6 +34,8 @@ impl Owners {
         let mut owners = Owners {
             pages,
             hints: Hints::new(alloc, count)?,
+            live: vec![in alloc; 0; pages as usize + 1]?,
+            left: 0,
         };
         for s in 0..map.len() {
             if let Some(at) = map.get(s) {
@@ -40,49 +45,62 @@ impl Owners {
         Ok(owners)
     }
 
-    /// A page was programmed for these sectors. The pages that they have left are found by `look_through`.
+    /// A page was programmed for these sectors.
     pub fn programmed(&mut self, at: PageAddr, extent: Extent) {
-        let mark = if extent.count > 1 { SHARED } else { 0 };
+        let mark = if extent.count > 1 { 0 } else { ALONE };
         self.set(at, extent.first % STRIDE | mark);
     }
 
     /// A sector was copied from a page to another.
     pub fn copied(&mut self, map: &PackedMap, sector: u32, from: PageAddr, to: PageAddr) {
-        self.leaves(map, sector, from);
-        self.set(to, sector % STRIDE);
+        self.left = self.left.saturating_sub(1);
+        if self.get(from) & ALONE == 0 {
+            if let Some(other) = near(map, from, sector) {
+                self.put(self.left, other);
+                self.left = self.left.saturating_add(1);
+            }
+        }
+        self.set(to, sector % STRIDE | ALONE);
     }
 
-    /// Forgets the sectors that have left pages of the block with the fewest live pages, beside one.
+    /// Looks for the live sectors of the block with the fewest, beside one. Which pages are live can't be foreseen, so no branch depends on it.
     pub fn look_through(&mut self, map: &PackedMap, counts: &Counts, avoided: u32) {
         let block = counts.fewest(avoided);
+        self.left = 0;
         if (block as usize) >= counts.len() || counts.get(block) == 0 {
             return;
         }
-        for page in 0..self.pages {
+        let rounds = rounds(map);
+        let first = self.index(PageAddr { block, page: 0 });
+        let mut left = 0;
+        for page in (0..self.pages).rev() {
             let at = PageAddr { block, page };
-            self.set(at, kept(map, at, self.get(at)));
+            let hint = self.hints.get(first.wrapping_add(page as usize));
+            if hint & ALONE != 0 {
+                let (sector, count) = owner(map, rounds, at, hint);
+                self.put(left, sector);
+                left = left.wrapping_add(count as usize);
+            } else if let Some(sector) = near(map, at, hint) {
+                self.put(left, sector);
+                left = left.wrapping_add(1);
+            }
         }
+        self.left = left;
     }
 
-    /// A sector that is mapped to a block, and its page: the first from a page on.
-    pub fn next_in(&self, map: &PackedMap, block: u32, from: u32) -> Option<(u32, PageAddr)>
+    /// A sector that is mapped to the block that was looked through, and its page.
+    pub fn next_in(&self, map: &PackedMap, block: u32) -> Option<(u32, PageAddr)>
         ensures { IfSome result
             (λ found. (found.0 < length map.now.items)
             × (slice_index_or map.now.items found.0 None ≡ Some found.1)
             × (found.1.block ≡ block)) }
     {
-        for page in from..self.pages {
-            let hint = self.get(PageAddr { block, page });
-            if hint == NO_SECTOR {
-                continue;
-            }
-            for round in 0..rounds(map) {
-                let sector = in_round(hint, round);
-                if (sector as usize) < map.len() {
-                    if let Some(at) = map.get(sector as usize) {
-                        if at.block == block {
-                            return Some((sector, at));
-                        }
+        for i in (0..self.left.min(self.live.len())).rev() {
+            let sector = self.live[i];
+            if (sector as usize) < map.len() {
+                if let Some(at) = map.get(sector as usize) {
+                    if at.block == block {
+                        return Some((sector, at));
                     }
                 }
             }
@@ -90,21 +108,17 @@ impl Owners {
         None
     }
 
+    fn put(&mut self, place: usize, sector: u32) {
+        if let Some(live) = self.live.get_mut(place) {
+            *live = sector;
+        }
+    }
+
     // A page has one sector more.
     fn share(&mut self, at: PageAddr, sector: u32) {
         let is_shared = self.get(at) != NO_SECTOR;
-        let mark = if is_shared { SHARED } else { 0 };
+        let mark = if is_shared { 0 } else { ALONE };
         self.set(at, sector % STRIDE | mark);
-    }
-
-    // A sector leaves its page.
-    fn leaves(&mut self, map: &PackedMap, sector: u32, at: PageAddr) {
-        let had = self.get(at);
-        if had == sector % STRIDE {
-            self.set(at, NO_SECTOR);
-        } else if had == sector % STRIDE | SHARED {
-            self.set(at, beside(map, at, had));
-        }
     }
 
     fn get(&self, at: PageAddr) -> u32 {
@@ -130,19 +144,21 @@ fn rounds(map: &PackedMap) -> u32 {
 
 // The sector with a hint in a round.
 fn in_round(hint: u32, round: u32) -> u32 {
-    (hint & !SHARED).wrapping_add(round.wrapping_mul(STRIDE))
+    (hint % STRIDE).wrapping_add(round.wrapping_mul(STRIDE))
 }
 
-// What a page still has of the sectors that it had. Whether a page's only sector has left can't be foreseen, so no branch depends on it.
-fn kept(map: &PackedMap, at: PageAddr, had: u32) -> u32 {
-    let mut stays = 0;
-    for round in 0..rounds(map) {
-        stays |= has(map, at, in_round(had, round));
+// The sector with this hint that has a page, and 1; or 0 and 0.
+fn owner(map: &PackedMap, rounds: u32, at: PageAddr, hint: u32) -> (u32, u32) {
+    let mut found = (0, 0);
+    for round in 0..rounds {
+        let sector = in_round(hint, round);
+        let count = has(map, at, sector);
+        found = (
+            found.0 | sector & 0_u32.wrapping_sub(count),
+            found.1 | count,
+        );
     }
-    if stays == 0 && had & SHARED != 0 && had != NO_SECTOR {
-        return beside(map, at, had);
-    }
-    had | stays.wrapping_sub(1)
+    found
 }
 
 // 1 if a sector has a page, or 0.
@@ -155,17 +171,18 @@ fn has(map: &PackedMap, at: PageAddr, sector: u32) -> u32 {
     })
 }
 
-// The hint of a sector near to one with this hint that has the same page, marked as such, or none.
-fn beside(map: &PackedMap, at: PageAddr, hint: u32) -> u32 {
-    for distance in 1..REACH {
+// A sector with this hint, or near to one, that has a page.
+#[inline(never)]
+fn near(map: &PackedMap, at: PageAddr, hint: u32) -> Option<u32> {
+    for distance in 0..REACH {
         for round in 0..rounds(map) {
             let sector = in_round(hint, round);
-            for near in [sector.wrapping_add(distance), sector.wrapping_sub(distance)] {
-                if has(map, at, near) == 1 {
-                    return near % STRIDE | SHARED;
+            for other in [sector.wrapping_add(distance), sector.wrapping_sub(distance)] {
+                if has(map, at, other) == 1 {
+                    return Some(other);
                 }
             }
         }
     }
-    NO_SECTOR
+    None
 }

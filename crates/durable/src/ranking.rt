@@ -117,6 +117,7 @@ impl Counts {
     }
 
     /// The block with the fewest live pages, beside one: of a few the least erased.
+    #[inline(always)]
     pub fn fewest(&self, avoided: u32) -> u32
         ensures { (b : ℕ) → b < length self.now → b ≢ avoided
             → (result < length self.now) × (result ≢ avoided)
@@ -137,6 +138,7 @@ impl Counts {
 }
 
 // The least erased of a block and of a few behind it that have its key, beside one.
+#[inline(never)]
 fn least_erased(queue: &BucketQueue, erases: &[u16], block: u32, avoided: u32) -> u32
     requires block { block < length queue.now.keys.items }
     requires erases { length erases.now ≡ length queue.now.keys.items }

@@ -23,6 +23,7 @@ pub fn page_after(at: PageAddr, pages: u32) -> Option<PageAddr>
 }
 
 /// The block with the fewest live pages, beside one.
+#[inline(never)]
 pub fn fewest(counts: &[u32], avoided: u32) -> u32
     requires { length counts.now < 2 ^ 32 }
     ensures { (b : ℕ) → b < length counts.now → b ≢ avoided
@@ -41,8 +42,8 @@ pub fn fewest(counts: &[u32], avoided: u32) -> u32
     best
 }
 
-/// A sector that is mapped to a block, and its page: the first from a page on, or otherwise any.
-pub fn source(map: &PackedMap, owners: &Owners, block: u32, from: u32) -> Option<(u32, PageAddr)>
+/// A sector that is mapped to a block, and its page.
+pub fn source(map: &PackedMap, owners: &Owners, block: u32) -> Option<(u32, PageAddr)>
     requires { length map.now.items < 2 ^ 32 }
     ensures found { IfSome result
         (λ found. (found.0 < length map.now.items)
@@ -50,15 +51,13 @@ pub fn source(map: &PackedMap, owners: &Owners, block: u32, from: u32) -> Option
         × (found.1.block ≡ block)) }
     ensures none { result ≡ None → IsFree map.now.items block }
 {
-    if let Some(found) = owners.next_in(map, block, from) {
-        return Some(found);
-    }
-    match owners.next_in(map, block, 0) {
+    match owners.next_in(map, block) {
         Some(found) => Some(found),
         None => source_in_map(map, block),
     }
 }
 
+#[inline(never)]
 fn source_in_map(map: &PackedMap, block: u32) -> Option<(u32, PageAddr)>
     requires { length map.now.items < 2 ^ 32 }
     ensures found { IfSome result
