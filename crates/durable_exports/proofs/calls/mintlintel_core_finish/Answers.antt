@@ -1,4 +1,4 @@
-use Rattle.std.proofs.Common.{◌≡◌, ◌∙◌, false, Option, None, Some, Err, option_map, refl, sym, ap, subst}
+use Rattle.std.proofs.Common.{ℕ, ◌≡◌, ◌∙◌, false, Option, None, Some, Err, option_map, refl, sym, ap, subst}
 use Rattle.durable.specs.Calls.{CountsLosses, DropsTrims, Remounts, TellsLosses, TellsNoFalseLoss}
 use Rattle.durable.specs.Device.{device_of}
 use Rattle.durable.specs.Whole.{MountsWhole}
@@ -51,6 +51,23 @@ not_some : (k : Option PageAddr) → false ≡ is_some k → k ≡ None
 not_some None e = refl
 not_some (Some at) e = absurd (false≢true e)
 
+finishes : (k : ℕ) (s : Option Seat) (mount : Mount) → s ≡ Some (Mounting mount) → next_in mount ≡ None →
+  k ≡ code_of_mount s (λ m. finish_code (next_in m) k)
+finishes k s mount has none = subst (λ (x : Option Seat). k ≡ code_of_mount x (λ m. finish_code (next_in m) k)) (sym has)
+  (ap (λ (n : Option PageAddr). finish_code n k) (sym none))
+
+pub returns-then-fill-clause-code : goal.returns-then-fill-clause-code
+returns-then-fill-clause-code c =
+    let mount = c.in-Mounting-into_inner.mount in
+    let held : Some c.in-Some.seat.value ≡ Some (Mounting mount) = ap (λ (x : Seat). Some x) (sym c.into_inner.ensures ∙ c.in-Mounting-into_inner.is) in
+    let has : seat_of c.args.handle.now ≡ Some (Mounting mount) =
+    sym (ap value_of c.typed-handle.ensures.value) ∙ sym c.take.ensures.value ∙ ap (option_map boxed) c.in-Some.is ∙ held in
+    let same = same_mount c.in-Mounting.mount mount
+    (sym c.in-Mounting.is ∙ c.deref.ensures ∙ sym c.into_inner.ensures ∙ c.in-Mounting-into_inner.is) in
+    let none : next_in mount ≡ None =
+    subst (λ (m : Mount). next_in m ≡ None) same (sym c.next_page.ensures ∙ not_some c.next_page.result c.if-is_some.ensures) in
+    finishes 0 _ mount has none
+
 pub returns-else-fill-clause-code : goal.returns-else-fill-clause-code
 returns-else-fill-clause-code c =
     let mount = c.in-Mounting-into_inner.mount in
@@ -61,5 +78,4 @@ returns-else-fill-clause-code c =
     (sym c.in-Mounting.is ∙ c.deref.ensures ∙ sym c.into_inner.ensures ∙ c.in-Mounting-into_inner.is) in
     let none : next_in mount ≡ None =
     subst (λ (m : Mount). next_in m ≡ None) same (sym c.next_page.ensures ∙ not_some c.next_page.result c.if-is_some.ensures) in
-    subst (λ (x : Option Seat). 6 ≡ code_of_mount x (λ m. finish_code (next_in m) 6)) (sym has)
-    (ap (λ (n : Option PageAddr). finish_code n 6) (sym none))
+    finishes 6 _ mount has none
