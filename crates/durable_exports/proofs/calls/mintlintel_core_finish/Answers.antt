@@ -52,9 +52,9 @@ not_some None e = refl
 not_some (Some at) e = absurd (false≢true e)
 
 finishes : (k : ℕ) (s : Option Seat) (mount : Mount) → s ≡ Some (Mounting mount) → next_in mount ≡ None →
-  k ≡ code_of_mount s (λ m. finish_code (next_in m) k)
+    k ≡ code_of_mount s (λ m. finish_code (next_in m) k)
 finishes k s mount has none = subst (λ (x : Option Seat). k ≡ code_of_mount x (λ m. finish_code (next_in m) k)) (sym has)
-  (ap (λ (n : Option PageAddr). finish_code n k) (sym none))
+    (ap (λ (n : Option PageAddr). finish_code n k) (sym none))
 
 pub returns-then-fill-clause-code : goal.returns-then-fill-clause-code
 returns-then-fill-clause-code c =
