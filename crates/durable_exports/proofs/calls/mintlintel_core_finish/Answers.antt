@@ -51,31 +51,26 @@ not_some : (k : Option PageAddr) → false ≡ is_some k → k ≡ None
 not_some None e = refl
 not_some (Some at) e = absurd (false≢true e)
 
-finishes : (k : ℕ) (s : Option Seat) (mount : Mount) → s ≡ Some (Mounting mount) → next_in mount ≡ None →
-    k ≡ code_of_mount s (λ m. finish_code (next_in m) k)
-finishes k s mount has none = subst (λ (x : Option Seat). k ≡ code_of_mount x (λ m. finish_code (next_in m) k)) (sym has)
+-- a mount is closed with this code once no page is left
+finishes : (k : ℕ) (s : Option Seat) (mount other : Mount) (next : Option PageAddr) → s ≡ Some (Mounting mount) →
+    Mounting other ≡ Mounting mount → next ≡ next_in other → false ≡ is_some next → k ≡ code_of_mount s (λ m. finish_code (next_in m) k)
+finishes k s mount other next has same reads ends =
+    let none : next_in mount ≡ None = subst (λ (m : Mount). next_in m ≡ None) (same_mount other mount same) (sym reads ∙ not_some next ends) in
+    subst (λ (x : Option Seat). k ≡ code_of_mount x (λ m. finish_code (next_in m) k)) (sym has)
     (ap (λ (n : Option PageAddr). finish_code n k) (sym none))
 
 pub returns-then-fill-clause-code : goal.returns-then-fill-clause-code
 returns-then-fill-clause-code c =
-    let mount = c.in-Mounting-into_inner.mount in
-    let held : Some c.in-Some.seat.value ≡ Some (Mounting mount) = ap (λ (x : Seat). Some x) (sym c.into_inner.ensures ∙ c.in-Mounting-into_inner.is) in
-    let has : seat_of c.args.handle.now ≡ Some (Mounting mount) =
-    sym (ap value_of c.typed-handle.ensures.value) ∙ sym c.take.ensures.value ∙ ap (option_map boxed) c.in-Some.is ∙ held in
-    let same = same_mount c.in-Mounting.mount mount
-    (sym c.in-Mounting.is ∙ c.deref.ensures ∙ sym c.into_inner.ensures ∙ c.in-Mounting-into_inner.is) in
-    let none : next_in mount ≡ None =
-    subst (λ (m : Mount). next_in m ≡ None) same (sym c.next_page.ensures ∙ not_some c.next_page.result c.if-is_some.ensures) in
-    finishes 0 _ mount has none
+    let held : Some c.in-Some.seat.value ≡ Some (Mounting c.in-Mounting-into_inner.mount) =
+    ap (λ (x : Seat). Some x) (sym c.into_inner.ensures ∙ c.in-Mounting-into_inner.is) in
+    finishes 0 _ c.in-Mounting-into_inner.mount c.in-Mounting.mount c.next_page.result
+    (sym (ap value_of c.typed-handle.ensures.value) ∙ sym c.take.ensures.value ∙ ap (option_map boxed) c.in-Some.is ∙ held)
+    (sym c.in-Mounting.is ∙ c.deref.ensures ∙ sym c.into_inner.ensures ∙ c.in-Mounting-into_inner.is) c.next_page.ensures c.if-is_some.ensures
 
 pub returns-else-fill-clause-code : goal.returns-else-fill-clause-code
 returns-else-fill-clause-code c =
-    let mount = c.in-Mounting-into_inner.mount in
-    let held : Some c.in-Some.seat.value ≡ Some (Mounting mount) = ap (λ (x : Seat). Some x) (sym c.into_inner.ensures ∙ c.in-Mounting-into_inner.is) in
-    let has : seat_of c.args.handle.now ≡ Some (Mounting mount) =
-    sym (ap value_of c.typed-handle.ensures.value) ∙ sym c.take.ensures.value ∙ ap (option_map boxed) c.in-Some.is ∙ held in
-    let same = same_mount c.in-Mounting.mount mount
-    (sym c.in-Mounting.is ∙ c.deref.ensures ∙ sym c.into_inner.ensures ∙ c.in-Mounting-into_inner.is) in
-    let none : next_in mount ≡ None =
-    subst (λ (m : Mount). next_in m ≡ None) same (sym c.next_page.ensures ∙ not_some c.next_page.result c.if-is_some.ensures) in
-    finishes 6 _ mount has none
+    let held : Some c.in-Some.seat.value ≡ Some (Mounting c.in-Mounting-into_inner.mount) =
+    ap (λ (x : Seat). Some x) (sym c.into_inner.ensures ∙ c.in-Mounting-into_inner.is) in
+    finishes 6 _ c.in-Mounting-into_inner.mount c.in-Mounting.mount c.next_page.result
+    (sym (ap value_of c.typed-handle.ensures.value) ∙ sym c.take.ensures.value ∙ ap (option_map boxed) c.in-Some.is ∙ held)
+    (sym c.in-Mounting.is ∙ c.deref.ensures ∙ sym c.into_inner.ensures ∙ c.in-Mounting-into_inner.is) c.next_page.ensures c.if-is_some.ensures
