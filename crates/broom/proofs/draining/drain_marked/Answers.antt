@@ -9,13 +9,6 @@ use Rattle.broom.proofs.draining.drain_marked.{Given.Over, Goals.Else-not-claim,
 use Rattle.broom.proofs.draining.drain_marked.Goals.{After-drain}
 use Rattle.broom.proofs.draining.drain_marked.Goals as goal
 
-pub claim-requires-clause-block : goal.claim-requires-clause-block
-claim-requires-clause-block g c = low_block c.args.flash.now c.args.broom.now c.args.block c.requires.ready c.requires.marked
-
-pub claim-requires-clause-state : goal.claim-requires-clause-state
-claim-requires-clause-state g c =
-    state_closed c.args.flash.now c.args.broom.now c.args.block c.requires.ready c.requires.marked c.index-state.result.now c.index-state.ensures
-
 pub claim-requires-clause-loaded : goal.claim-requires-clause-loaded
 claim-requires-clause-loaded g c =
     last_loaded c.args.flash.now c.args.broom.now c.args.block c.requires.ready c.requires.marked c.index-state.result.now c.index-state.ensures
@@ -29,16 +22,6 @@ sweeping g c =
     c.claim.new.broom c.claim.ensures.broom
     (with_owned (owned_as c.args.block c.index-state.result.now Victim) (view_of_broom c.args.broom.now).owns) c.if-not-claim.ensures.claimed
     c.if-not-claim.ensures.blocks
-
-pub relocate-copied-requires-clause-sweeps : goal.relocate-copied-requires-clause-sweeps
-relocate-copied-requires-clause-sweeps g c =
-    let f = c.args.flash.now in
-    let r = c.args.broom.now in
-    let q = c.index-state.result.now in
-    let at = (goal.at.relocate-copied-requires-clause-sweeps g c).Else-not-claim in
-    let room = claimed_room f r c.args.block c.requires.ready c.requires.marked q c.index-state.ensures c.claim.new.broom c.claim.ensures.broom
-    (with_owned (owned_as c.args.block q Victim) (view_of_broom r).owns) c.if-not-claim.ensures.claimed c.if-not-claim.ensures.blocks c.requires.spare in
-    (victim_of_state f r c.args.block c.requires.ready c.requires.marked q c.index-state.ensures, sweeping g at, room)
 
 -- and still sweeps it when all its pages are cleared
 swept : (g : Over) (c : After-relocate-copied g)
@@ -90,9 +73,6 @@ returns-clause-ready g c =
     let done = ended g (goal.at.returns-clause-ready g c).After-drain in
     ready_unseen f r _ c.args.block c.requires.ready (low_mark f r c.args.block c.requires.ready c.requires.marked)
     (done.2 c.drain.ensures.broom) refl refl done.1
-
-pub returns-clause-block : goal.returns-clause-block
-returns-clause-block g c = low_block c.args.flash.now c.args.broom.now c.args.block c.requires.ready c.requires.marked
 
 pub returns-then-not-claim-clause-ready : goal.returns-then-not-claim-clause-ready
 returns-then-not-claim-clause-ready g c =

@@ -79,9 +79,6 @@ returns-then-not-condemn-clause-ready g c =
     (rested_loaded c.args.flash.now c.args.broom.now.seat c.condemn.new.broom c.requires.broom.rested c.condemn.ensures.broom blocks _ _ _ is)
     refl refl (ap (λ (v : View). v.loaded) is)
 
-pub condemn-requires-clause-expected : goal.condemn-requires-clause-expected
-condemn-requires-clause-expected g c = search rules
-
 pub returns-then-state-endurance-clause-erased : goal.returns-then-state-endurance-clause-erased
 returns-then-state-endurance-clause-erased g c =
     let at = (goal.at.returns-then-state-endurance-clause-erased g c).After-wipe_all in

@@ -48,36 +48,3 @@ returns-clause-met_brooms c =
     (first_look (goal.at.returns-clause-met_brooms c).After-broom_look) u c.broom_look-2.result c.requires.second.rested.source
     c.requires.second.rested.whole again c.requires.first.rested.alone in
     subst (λ (x : View). BroomsMet v v' x u) (sym c.broom_give_back-note.ensures.giver) t
-
-pub broom_lend-note-requires-clause-broom : goal.broom_lend-note-requires-clause-broom
-broom_lend-note-requires-clause-broom c = c.requires.second.rested.seat
-
-pub broom_lend-note-requires-clause-whole : goal.broom_lend-note-requires-clause-whole
-broom_lend-note-requires-clause-whole c = c.requires.second.rested.whole
-
-pub broom_lend-note-requires-clause-alone : goal.broom_lend-note-requires-clause-alone
-broom_lend-note-requires-clause-alone c = c.requires.second.rested.alone
-
-pub broom_take_in-requires-clause-broom : goal.broom_take_in-requires-clause-broom
-broom_take_in-requires-clause-broom c = c.requires.first.rested.seat
-
-pub broom_take_in-requires-clause-whole : goal.broom_take_in-requires-clause-whole
-broom_take_in-requires-clause-whole c = c.requires.first.rested.whole
-
-pub broom_look-requires-clause-broom : goal.broom_look-requires-clause-broom
-broom_look-requires-clause-broom c = c.broom_take_in.ensures.broom
-
-pub broom_give_back-note-requires-clause-broom : goal.broom_give_back-note-requires-clause-broom
-broom_give_back-note-requires-clause-broom c = c.broom_look.ensures.broom
-
-pub broom_come_home-requires-clause-broom : goal.broom_come_home-requires-clause-broom
-broom_come_home-requires-clause-broom c = c.broom_lend-note.ensures.broom
-
-pub broom_look-requires-2-clause-broom : goal.broom_look-requires-2-clause-broom
-broom_look-requires-2-clause-broom c = c.broom_come_home.ensures.broom
-
-pub returns-clause-first_queue : goal.returns-clause-first_queue
-returns-clause-first_queue c = record { place = refl; aside = refl }
-
-pub returns-clause-second_queue : goal.returns-clause-second_queue
-returns-clause-second_queue c = record { place = refl; aside = refl }

@@ -55,6 +55,3 @@ returns-clause-stood c =
     (named_broom x.role c.requires.broom.rested.seat.role) (spares at) y c.broom_look.result c.requires.broom.rested.source
     c.requires.broom.rested.whole looked c.requires.pass.1.alone in
     subst (λ (z : View). StoodTold v x (page_in c.args.page c.args.generation) z y) (sym (c.give_back-note.ensures.giver ∙ ap giver read)) t
-
-pub returns-clause-broom : goal.returns-clause-broom
-returns-clause-broom c = grind arith

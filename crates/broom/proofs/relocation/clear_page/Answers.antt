@@ -38,10 +38,6 @@ copy_page-copy-requires-clause-sweeps g c =
 pub copy_page-copy-requires-clause-destination : goal.copy_page-copy-requires-clause-destination
 copy_page-copy-requires-clause-destination g c = destination g (goal.at.copy_page-copy-requires-clause-destination g c).After-open_destination
 
-pub copy_page-copy-requires-clause-source : goal.copy_page-copy-requires-clause-source
-copy_page-copy-requires-clause-source g c = let at = (goal.at.copy_page-copy-requires-clause-source g c).After-open_destination in
-    ((live g at).value, source_is g at)
-
 -- the copy, counted
 the_copy : (g : Over) (c : After-copy_page-copy g)
     → let at = (goal.at.After-copy_page-copy g c).After-open_destination in
@@ -61,11 +57,6 @@ copied_sweeps g c x h = c.copy_page-copy.ensures.sweeps x (sweeping g (goal.at.A
 pub move_to-moved-requires-clause-broom : goal.move_to-moved-requires-clause-broom
 move_to-moved-requires-clause-broom g c = let t = c.requires.next in
     (copied_sweeps g (goal.at.move_to-moved-requires-clause-broom g c).After-copy_page-copy t.0 t.1).seat
-
-pub move_to-moved-requires-clause-sector : goal.move_to-moved-requires-clause-sector
-move_to-moved-requires-clause-sector g c =
-    let numbers = c.requires.next.1.seat.numbers in
-    subst (λ (z : Numbers). c.in-Some.sector < z.sectors) numbers (live g (goal.at.move_to-moved-requires-clause-sector g c).After-open_destination).low
 
 pub move_to-moved-requires-clause-fits : goal.move_to-moved-requires-clause-fits
 move_to-moved-requires-clause-fits g c =

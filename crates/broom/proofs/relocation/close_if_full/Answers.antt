@@ -12,12 +12,6 @@ opened c = ap (λ (x : BroomBlocks). x.destination) (sym c.blocks-2.ensures) ∙
 pages_are : (c : After-pages) → c.pages.result ≡ pages_of (geometry_of c.args.flash.now)
 pages_are c = c.pages.ensures.value ∙ ap pages_of c.geometry.ensures
 
-pub close_destination-requires-clause-settled : goal.close_destination-requires-clause-settled
-close_destination-requires-clause-settled c =
-    let is = opened (goal.at.close_destination-requires-clause-settled c).In-Some in
-    let g = c.requires.sweeps.1 in
-    (c.in-Some.destination, is, can_close c.args.seat.now g.filed c.in-Some.destination is, (g.destination c.in-Some.destination is).low)
-
 pub returns-then-destination-pages-clause-tidied : goal.returns-then-destination-pages-clause-tidied
 returns-then-destination-pages-clause-tidied c =
     let at = goal.at.returns-then-destination-pages-clause-tidied c in
@@ -39,10 +33,4 @@ returns-then-destination-pages-clause-sweeps c x =
 pub returns-else-destination-pages-clause-tidied : goal.returns-else-destination-pages-clause-tidied
 returns-else-destination-pages-clause-tidied c = let at = goal.at.returns-else-destination-pages-clause-tidied c in
     left_tidied c.args.flash.now c.args.seat.now c.in-Some.destination (opened at.In-Some)
-    (λ e. let pages = pages_are at.After-pages in c.if-destination-pages.false (omega (arith, e, pages)))
-
-pub returns-else-destination-pages-clause-sweeps : goal.returns-else-destination-pages-clause-sweeps
-returns-else-destination-pages-clause-sweeps c x =
-    let at = goal.at.returns-else-destination-pages-clause-sweeps c in
-    left_sweeps c.args.flash.now c.args.seat.now c.in-Some.destination (opened at.In-Some) x
     (λ e. let pages = pages_are at.After-pages in c.if-destination-pages.false (omega (arith, e, pages)))

@@ -17,12 +17,6 @@ opened c = ap (λ (x : BroomBlocks). x.destination) (sym c.blocks-2.ensures) ∙
 room : (c : In-Some) → HasRoom (geometry_of c.args.flash.now) (pages_of (geometry_of c.args.flash.now)) c.in-Some.destination
 room c = c.requires.sweeps.1.destination c.in-Some.destination (opened c)
 
-pub page_start-start-requires-clause-block : goal.page_start-start-requires-clause-block
-page_start-start-requires-clause-block c = let r = room (goal.at.page_start-start-requires-clause-block c).In-Some in r.low
-
-pub page_start-start-requires-clause-page : goal.page_start-start-requires-clause-page
-page_start-start-requires-clause-page c = let r = room (goal.at.page_start-start-requires-clause-page c).In-Some in r.room
-
 pub loop-i-init : goal.loop-i-init
 loop-i-init c o there value is =
     let sweeps = c.requires.sweeps.1 in filling_none c.args.flash.now c.args.seat.now o value sweeps.seat there sweeps.filed

@@ -19,12 +19,6 @@ loop-page-init g c =
     let room = subst (λ (x : ReclaimedBlock). x.written ≤ room_left (pages_of (geometry_of f)) (own_blocks c.args.seat.now)) same t.2 in
     clearing_none f c.args.seat.now c.in-Draining.victim (subst (Sweeps f c.args.seat.now) same t.1) c.requires.cleared c.requires.source room
 
-pub clear_page-requires-clause-next : goal.clear_page-requires-clause-next
-clear_page-requires-clause-next g c = (c.in-Draining.victim, c.loop-page.invariant.sweeps, (refl, omega arith))
-
-pub clear_page-requires-clause-room : goal.clear_page-requires-clause-room
-clear_page-requires-clause-room g c = let room = c.loop-page.invariant.room in let below = c.loop-page-test.true in omega arith
-
 pub loop-page-preserved : goal.loop-page-preserved
 loop-page-preserved g c =
     let f = c.args.flash.now in
@@ -38,12 +32,6 @@ loop-page-preserved g c =
       | then-clear_page w ↦ more (let one : count_if c.clear_page.result ≡ 1 = ap count_if w.if-clear_page.true in let e = w.copied-is in omega arith)
       | else-clear_page w ↦ more (let none : count_if c.clear_page.result ≡ 0 = ap count_if w.if-clear_page.false in let e = w.copied-is in omega arith)
     ]
-
-pub clear_page-requires-clause-cleared : goal.clear_page-requires-clause-cleared
-clear_page-requires-clause-cleared g c = sym c.loop-page.invariant.cleared
-
-pub returns-clause-source : goal.returns-clause-source
-returns-clause-source g c = c.loop-page.invariant.source
 
 pub returns-clause-emptied : goal.returns-clause-emptied
 returns-clause-emptied g c x h =

@@ -29,13 +29,6 @@ kept c = elim c.else-index.branch [
       c.requires.broom.closed c.requires.block c.index.ensures ∙ w.if-index.false) ∙ is in absurd (cc))
 ]
 
-pub returns-else-index-clause-loaded : goal.returns-else-index-clause-loaded
-returns-else-index-clause-loaded c = record {
-  loaded = c.load_state-state.ensures.loaded;
-  blocks = c.load_state-state.ensures.blocks;
-  survey = inl (record { states = refl; counts = refl; marks = refl });
-}
-
 pub returns-else-index-clause-ready : goal.returns-else-index-clause-ready
 returns-else-index-clause-ready c =
     let load = c.load_state-state.ensures in

@@ -68,9 +68,6 @@ ready c =
 pub gains-requires-clause-ready : goal.gains-requires-clause-ready
 gains-requires-clause-ready c = ready (goal.at.gains-requires-clause-ready c).After-forget
 
-pub gains-requires-clause-next : goal.gains-requires-clause-next
-gains-requires-clause-next c = c.greedy-victim.ensures.value ∙ (λ i. greedy_of (c.deref-2.ensures.value i) (c.deref-3.ensures.value i))
-
 pub returns-clause-chosen : goal.returns-clause-chosen
 returns-clause-chosen c =
     let at = (goal.at.returns-clause-chosen c).After-forget in

@@ -1,5 +1,4 @@
 use Rattle.std.proofs.Common.{◌≡◌, ℕ, [], ◌<◌, ◌∷◌, ◌++◌, List, None, Some, length, sym, ap, ◌∙◌, subst, arith}
-use Rattle.std.proofs.lemmas.Grind.{common_steps}
 use Rattle.geometry.specs.{Geometry.sectors_of, Limits.Numbers}
 use Rattle.broom.specs.declared.broom.TheConstants.{NOT_LOADED}
 use Rattle.flash_table.specs.Flash.{broom_view, own_blocks, geometry_of}
@@ -26,9 +25,6 @@ found_low c =
     let blocks = ap (λ (z : Numbers). z.blocks) c.loop-sector.invariant.seat.numbers in
     let states = c.requires.states in
     let low = within.0 in omega arith
-
-pub overflow_add-counts : goal.overflow_add-counts
-overflow_add-counts c = grind (arith, common_steps)
 
 pub loop-sector-preserved : goal.loop-sector-preserved
 loop-sector-preserved c =

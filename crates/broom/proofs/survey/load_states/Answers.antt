@@ -21,14 +21,3 @@ loop-block-preserved c =
     let P : Bool → Type 0 = λ mark. LoadedTo f v (own_blocks c.args.seat.now) (c.loop-block.block + 1) c.load_state-state.new.broom
     (set c.loop-block.states c.loop-block.block state) (set c.loop-block.closed c.loop-block.block mark) in
     subst P (sym c.is_closed.ensures) more
-
-pub returns-clause-loaded : goal.returns-clause-loaded
-returns-clause-loaded c =
-    let f = c.args.flash.now in
-    let blocks : c.blocks-block-end.result ≡ blocks_of (geometry_of f) = c.blocks-block-end.ensures.value ∙ ap blocks_of c.geometry.ensures in
-    let most = c.loop-block.auto.block-end in
-    let least = c.loop-block-test.false in
-    let states = c.requires.states in
-    let closed = c.requires.closed in
-    loaded_all f (broom_view c.args.seat.now) (own_blocks c.args.seat.now) c.loop-block.block c.loop-block.seat c.loop-block.states
-    c.loop-block.closed c.loop-block.invariant (omega arith) (omega arith)

@@ -13,6 +13,3 @@ returns-clause-erased_one g c =
     let told = c.erase-answer.ensures in
     pinned_one _ c.args.broom.now c.fetch.new.broom c.erase-answer.new.broom c.hand_on.new.broom c.in-Some.block c.erase-answer.result c.in-Pinned.is
     c.in-Some.ensures.fetched told.erased told.marks told.queue c.hand_on.ensures.handed
-
-pub erase-answer-requires-clause-block : goal.erase-answer-requires-clause-block
-erase-answer-requires-clause-block g c = subst (λ n. c.in-Some.block < n) c.requires.limit c.in-Some.ensures.block

@@ -8,11 +8,3 @@ returns-then-start-text c =
     let count : s.start + c.from-count.result - s.start ≡ s.brief.digits = omega (arith, c.from-count.ensures) in
     let within : s.start + s.brief.digits ≤ length c.args.text.now = omega (arith, c.from-count.ensures) in
     ap (λ n. take n (drop s.start c.args.text.now)) count ∙ sym (digits-text c.args.text.now c.args.odd.now s within)
-
-pub returns-else-count-text : goal.returns-else-count-text
-returns-else-count-text c =
-    let s = lent_as c.args.stored.now in
-    let text = c.args.text.now in
-    let count : s.start - length text + c.from-count.result - (s.start - length text) ≡ s.brief.digits = omega (arith, c.from-count.ensures) in
-    let behind : length text ≤ s.start = grind arith in
-    ap (λ n. take n (drop (s.start - length text) c.args.odd.now)) count ∙ sym (digits-odd text c.args.odd.now s behind)

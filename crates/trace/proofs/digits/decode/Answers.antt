@@ -4,9 +4,6 @@ use Rattle.hex.proofs.{HexLemmas.decode_of-even, HexLemmas.decode_of-same, Pairs
 use Rattle.trace.proofs.{DigitFacts.digit_at, DigitFacts.pair_read, DigitFacts.value_below, LaneFacts.decoded_block}
 use Rattle.trace.proofs.digits.decode.Goals as goal
 
-pub blocks-2-init : goal.blocks-2-init
-blocks-2-init c = (omega arith, c.requires.count, decode_start c.args.digits.now c.args.out.now)
-
 pub decode_block-requires-clause-digits : goal.decode_block-requires-clause-digits
 decode_block-requires-clause-digits c =
     let (within, sized, before) = c.blocks-2.invariant in

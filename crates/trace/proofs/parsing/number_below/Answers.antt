@@ -11,10 +11,3 @@ overflow_add-number c = let few = ten_to c.loop-digit.digit-index (omega arith) 
 pub returns-then-is_empty-clause-value : goal.returns-then-is_empty-clause-value
 unfolding number_below
 returns-then-is_empty-clause-value c = search rules
-
-pub loop-digit-preserved : goal.loop-digit-preserved
-loop-digit-preserved c = grind (arith, common_steps)
-
-pub returns-then-not-is_ascii_digit-clause-value : goal.returns-then-not-is_ascii_digit-clause-value
-unfolding number_below
-returns-then-not-is_ascii_digit-clause-value c = grind (arith, common_steps)

@@ -6,6 +6,3 @@ returns-in-Ok-clause-commands c = rw c.new.ensures (commands_of-commands _ _ _ (
 
 pub returns-in-Err-clause-fault : goal.returns-in-Err-clause-fault
 returns-in-Err-clause-fault c = rw c.deref.ensures.value at c.in-Err.ensures.fault
-
-pub returns-in-Err-clause-first : goal.returns-in-Err-clause-first
-returns-in-Err-clause-first c = rw c.deref.ensures.value at c.in-Err.ensures.first

@@ -1,7 +1,6 @@
 use Rattle.std.proofs.{Common.◌∙◌, Common.ap, Common.append-nil, Common.inr, Common.length, Common.sym, lemmas.List.take_rest}
 use Rattle.trace.{specs.Trace.records_of, specs.declared.fault.TraceFaultKind.TheVariants.Fields, specs.Stored.drafted, proofs.CommandFacts.line_is}
 use Rattle.trace.proofs.CheckFacts.{first_other, first_refused, one_more_command, refuses_fields, same_first, states_fault}
-use Rattle.trace.proofs.NumberFacts.{falls_next}
 use Rattle.trace.proofs.parsing.parse_rest.Goals as goal
 
 pub returns-in-Fields-clause-fault : goal.returns-in-Fields-clause-fault
@@ -52,25 +51,3 @@ returns-in-Err-add_read-clause-first c =
     rw (c.fault-in-Err-add_read.ensures, c.next_line-line.ensures, line_is c.args.text.now c.records.draft)
     (first_refused c.args.text.now c.args.geometry.now (drafted c.args.text.now c.records.draft) next.fields _ _ _ c.records.invariant.so_far
     next.first (rw (sym same.0 ∙ c.row_of.ensures) c.in-Err-add_read.ensures.refused))
-
-pub records-init : goal.records-init
-records-init c = record {
-  place = c.requires.place;
-  draft = c.requires.draft;
-  so_far = c.requires.so_far;
-  reading = c.records-rows.ensures.reading;
-  left = c.records-rows.ensures.all ∙ ap records_of (take_rest c.args.text.now c.args.start);
-}
-
-pub returns-in-End-clause-each : goal.returns-in-End-clause-each
-returns-in-End-clause-each c = rw c.in-End.ensures at c.records.invariant.so_far ∙ append-nil _
-
-pub row_of-requires : goal.row_of-requires
-row_of-requires c =
-    let next = c.in-Record.ensures in
-    let taken = rw c.in-Ok-true.field-0-test at c.in-Ok-true.ensures.takes in
-    let same = same_first _ _ _ _ _ taken (c.records.invariant.left ∙ next.first) in
-    ap length same.0 ∙ next.count
-
-pub records-smaller : goal.records-smaller
-records-smaller c = falls_next _ _ _ c.in-Record.ensures.low c.in-Record.ensures.high
