@@ -231,23 +231,47 @@ fn a_trim_of_many_sectors_programs_one_page(rt: HostRuntime) -> Result<(), Fail>
     Ok(())
 }
 
-// Ten blocks of four pages, of which one is in reserve. A client that writes four sectors in order opens 90 blocks, each of the nine some ten times.
+// Writes four sectors in order, 90 times, each time into a new block.
+fn fill(rt: &impl Abort, layer: &mut Durable<Chip>) {
+    for round in 0..90u8 {
+        for sector in 0..4 {
+            let written = make(rt, layer, Call::Write(sector, round), None);
+            expect(rt, written.is_ok(), &(round, sector));
+        }
+    }
+}
+
+// Ten blocks of four pages, of which one is in reserve: each of the nine is erased some ten times.
 #[test]
 fn free_blocks_are_erased_in_turn(rt: HostRuntime) -> Result<(), Fail> {
     let Some(mut layer) = open(&rt, chip(rt.alloc(), 10, 4)?, 4) else {
         return Ok(());
     };
-    for round in 0..90u8 {
-        for sector in 0..4 {
-            let written = make(&rt, &mut layer, Call::Write(sector, round), None);
-            expect(&rt, written.is_ok(), &(round, sector));
-        }
-    }
+    fill(&rt, &mut layer);
     let chip = layer.into_nand();
     assert!(rt; chip.erases(9) == 0);
     for block in 0..9 {
         let erases = chip.erases(block);
         expect(&rt, erases >= 7 && erases <= 13, &(block, erases));
+    }
+    Ok(())
+}
+
+// The same, but one of the nine was erased often before the open, and one is bad.
+#[test]
+fn a_block_that_was_erased_often_rests(rt: HostRuntime) -> Result<(), Fail> {
+    let mut worn = chip(rt.alloc(), 11, 4)?;
+    assert!(rt; worn.mark_bad(0).is_ok());
+    let Some(mut layer) = open(&rt, worn, 4) else {
+        return Ok(());
+    };
+    layer.erased_before(&[0, 0, 0, 1000]);
+    fill(&rt, &mut layer);
+    let chip = layer.into_nand();
+    for block in 1..10 {
+        let erases = chip.erases(block);
+        let rests = erases == 0 && block == 3;
+        expect(&rt, rests || erases >= 7 && block != 3, &(block, erases));
     }
     Ok(())
 }

@@ -21,21 +21,19 @@ use Rattle.durable.specs.declared.extent.Extent.{Extent}
 use Rattle.durable.specs.Updates.{Update, sole}
 use Rattle.durable.proofs.Cells.{erased_holds_none, erased_has_none}
 use Rattle.durable.proofs.Promises.{erased_recoverable, version_before, readable, readable_renumbered, written_renumbered}
-use Rattle.durable.proofs.Reserves.{swapped_first, swapped_other, swapped_second, swapped_twice, swapped_within}
+use Rattle.durable.proofs.Reserves.{swapped_first, swapped_other, swapped_second, swapped_twice}
 use Rattle.nand.specs.declared.flash.Fault.{Fault}
 use Rattle.nand.specs.declared.flash.Shape.{Shape}
 use Rattle.nand.specs.Nand.{Performs}
-use Rattle.nand.specs.Numbers.{IsOrder, IsOrderTo, chip_block, chip_page, good_before, is_marked, most_in_use, numbered}
+use Rattle.nand.specs.Numbers.{IsOrder, chip_block, chip_page, good_before, is_marked, most_in_use, numbered}
 use Rattle.nand.specs.Opened.{IsOpenable, IsReserveBlank, device_on, most_used}
 
 -- the order as it is made
-pub first_order : (numbers : List ℕ) (bad : List Bool) (blocks : ℕ) → ((c : ℕ) → chip_block numbers c ≡ c) → IsOrderTo numbers bad blocks 0
-first_order numbers bad blocks same = record {
+pub first_order : (numbers : List ℕ) (bad : List Bool) → ((c : ℕ) → chip_block numbers c ≡ c) → IsOrder numbers bad 0
+first_order numbers bad same = record {
   to = λ b. b;
   found = same;
   put = same;
-  within = λ b lt. lt;
-  lies = λ c lt. omega (arith, same c, lt);
   good = λ c lt. absurd (omega (arith, lt));
   ranked = λ c lt. absurd (omega (arith, lt));
   others = λ c le lt. absurd (omega (arith, lt));
@@ -138,16 +136,13 @@ erased_opens f shape bad sectors erased some =
     }
 
 -- a bad block keeps its number for now
-pub skips : (numbers : List ℕ) (bad : List Bool) (blocks i : ℕ) → is_marked bad i ≡ true → IsOrderTo numbers bad blocks i
-    → IsOrderTo numbers bad blocks (i + 1)
-skips numbers bad blocks i marked is =
+pub skips : (numbers : List ℕ) (bad : List Bool) (i : ℕ) → is_marked bad i ≡ true → IsOrder numbers bad i → IsOrder numbers bad (i + 1)
+skips numbers bad i marked is =
     let good = next_good bad i true marked in
     record {
       to = is.to;
       found = is.found;
       put = is.put;
-      within = is.within;
-      lies = is.lies;
       good = λ c lt. is.good c (omega (arith, lt, good));
       ranked = λ c lt. is.ranked c (omega (arith, lt, good));
       others = λ c le lt. ⊎_elim
@@ -158,9 +153,9 @@ skips numbers bad blocks i marked is =
     }
 
 -- a good block takes the next number of the good ones
-pub takes : (old new : List ℕ) (bad : List Bool) (blocks i : ℕ) → i < blocks → is_marked bad i ≡ false → IsOrderTo old bad blocks i
-    → ((c : ℕ) → chip_block new c ≡ chip_block old (swapped (good_before bad i) i c)) → IsOrderTo new bad blocks (i + 1)
-takes old new bad blocks i within marked is swap =
+pub takes : (old new : List ℕ) (bad : List Bool) (i : ℕ) → is_marked bad i ≡ false → IsOrder old bad i
+    → ((c : ℕ) → chip_block new c ≡ chip_block old (swapped (good_before bad i) i c)) → IsOrder new bad (i + 1)
+takes old new bad i marked is swap =
     let g = good_before bad i in
     let few : g ≤ i = few_good bad i in
     let now : good_before bad (i + 1) ≡ g + 1 = next_good bad i false marked in
@@ -171,9 +166,6 @@ takes old new bad blocks i within marked is swap =
       to = λ b. swapped g i (is.to b);
       found = λ c. ap (λ (b : ℕ). swapped g i (is.to b)) (swap c) ∙ (ap (swapped g i) (is.found (swapped g i c)) ∙ swapped_twice g i c);
       put = λ b. swap (swapped g i (is.to b)) ∙ (ap (chip_block old) (swapped_twice g i (is.to b)) ∙ is.put b);
-      within = λ b lt. swapped_within g i blocks (is.to b) (omega (arith, few, within)) within (is.within b lt);
-      lies = λ c lt. let there = is.lies (swapped g i c) (swapped_within g i blocks c (omega (arith, few, within)) within lt) in
-          omega (arith, swap c, there);
       good = λ c lt. ⊎_elim
           (λ here. ap (is_marked bad) (ap (chip_block new) here ∙ first) ∙ marked)
           (λ differs. ap (is_marked bad) (stays c differs (λ e. omega (arith, e, lt, now, few, differs)))
@@ -225,11 +217,21 @@ pushed xs n is same c = ⊎_elim
 
 -- the pages of the blocks in this order are those of a flash that is numbered anew
 module _ (numbers : List ℕ) (bad : List Bool) (blocks : ℕ) (is : IsOrder numbers bad blocks) where
+  -- those of the chip are the chip's, since each other one has its own number
+  pub within : (b : ℕ) → b < blocks → is.to b < blocks
+  within b lt = ⊎_elim (λ lt. lt) (λ past. absurd (omega (arith, is.rest (is.to b) past, is.put b, past, lt))) (cases_lt (is.to b) blocks)
+
+  pub lies : (c : ℕ) → c < blocks → chip_block numbers c < blocks
+  lies c lt = ⊎_elim
+      (λ lt. lt)
+      (λ past. absurd (omega (arith, is.found (chip_block numbers c), ap is.to (is.rest (chip_block numbers c) past), is.found c, past, lt)))
+      (cases_lt (chip_block numbers c) blocks)
+
   abbrev pub anew : (f : Flash) → IsRenumbered f (numbered numbers f) blocks
-  anew f = record { to = is.to; from = chip_block numbers; inverse = is.found; moved = λ b p i. f (is.put b i) p; within = is.within }
+  anew f = record { to = is.to; from = chip_block numbers; inverse = is.found; moved = λ b p i. f (is.put b i) p; within = within }
 
   abbrev pub back : (f : Flash) → IsRenumbered (numbered numbers f) f blocks
-  back f = record { to = chip_block numbers; from = is.to; inverse = is.put; moved = λ b p. refl; within = is.lies }
+  back f = record { to = chip_block numbers; from = is.to; inverse = is.put; moved = λ b p. refl; within = lies }
 
   pub other_chip_block : (c d : ℕ) → d ≢ c → chip_block numbers d ≢ chip_block numbers c
   other_chip_block c d differs e = differs (sym (is.found d) ∙ (ap is.to e ∙ is.found c))
@@ -238,7 +240,7 @@ module _ (numbers : List ℕ) (bad : List Bool) (blocks : ℕ) (is : IsOrder num
   pub first_numbers : (b : ℕ) → b < blocks → is_marked bad b ≡ false → is.to b < good_before bad blocks
   first_numbers b lt good = ⊎_elim
       (λ first. first)
-      (λ past. absurd (false≢true (sym good ∙ (sym (ap (is_marked bad) (is.put b)) ∙ is.others (is.to b) past (is.within b lt)))))
+      (λ past. absurd (false≢true (sym good ∙ (sym (ap (is_marked bad) (is.put b)) ∙ is.others (is.to b) past (within b lt)))))
       (cases_lt (is.to b) (good_before bad blocks))
 
   pub rank : (b : ℕ) → b < blocks → is_marked bad b ≡ false → good_before bad b ≡ is.to b
@@ -288,7 +290,7 @@ module _ (f : Flash) (shape : Shape) (bad : List Bool) (numbers : List ℕ) (sec
             (readable (numbered numbers f) device updates updates mounts);
         frees = (
           chip_block numbers spare.0,
-          is.lies spare.0 (omega (arith, first.0, few_good bad shape.blocks)),
+          lies numbers bad shape.blocks is spare.0 (omega (arith, first.0, few_good bad shape.blocks)),
           (is.good spare.0 first.0, omega (arith, is.ranked spare.0 first.0, first.1)),
           duplicated_there (numbered numbers f) f shape.blocks sectors again is.found spare.0 spare.2,
         );

@@ -26,7 +26,7 @@ use Rattle.nand.specs.Attempts.{CanReplace}
 use Rattle.nand.specs.Numbers.{IsOrder, Marks, chip_block, good_before, is_marked, numbered}
 use Rattle.nand.specs.Opened.{CanOpen, IsClosed, IsOpenLayer, IsOpenable, IsRefusal, IsReserveBlank}
 use Rattle.nand.specs.Opened.{device_on, layer_sectors, most_used, reserve_of, used_blocks}
-use Rattle.nand.proofs.Orders.{few_good, fewer, least_first, least_second, no_greater, openable, other_chip_block, rank}
+use Rattle.nand.proofs.Orders.{lies, few_good, fewer, least_first, least_second, no_greater, openable, other_chip_block, rank}
 use Rattle.nand.proofs.Steps.{device_there, same_order}
 
 -- a block counts if it is good
@@ -80,7 +80,7 @@ module _ (f : Flash) (shape : Shape) (bad marks : List Bool) (numbers : List ℕ
       let most = most_used shape sectors in
       let b = chip_block numbers most in
       let d = chip_block numbers number in
-      let within = order.lies most (omega (arith, more, few_good bad shape.blocks)) in
+      let within = lies numbers bad shape.blocks order most (omega (arith, more, few_good bad shape.blocks)) in
       let good = order.good most more in
       let first : good_before bad b ≡ most = order.ranked most more in
       let failed : is_marked bad d ≡ false = order.good number (omega (arith, more, lt)) in
@@ -303,7 +303,7 @@ module _ {N : Type 0} (flash : N → Flash) (shape : N → Shape) (bad : N → L
         closed = closed;
         opens = opens;
         reserve = reserve;
-        lies = order.lies number (omega (arith, first.0, few_good marked chip.blocks));
+        lies = lies layer.numbers.items marked chip.blocks order number (omega (arith, first.0, few_good marked chip.blocks));
         good = order.good number first.0;
         replaces = λ some marks is. marked_opens (flash layer.nand) chip marked marks layer.numbers.items (layer_sectors layer) number order is updates
             (spared (good_before marked chip.blocks) most (reserve_of layer) some reserve) first.1 opens.readable blank;

@@ -42,17 +42,11 @@ abbrev pub Marks : List Bool → List Bool → ℕ → Type 0
 Marks before now b = (is_marked now b ≡ true) × ((d : ℕ) → d ≢ b → is_marked now d ≡ is_marked before d)
 
 -- each block has one number: of those before block i first the good ones in their order, then the bad ones, and the others have their own
-pub record IsOrderTo (numbers : List ℕ) (bad : List Bool) (blocks i : ℕ) : Type 0 where
+pub record IsOrder (numbers : List ℕ) (bad : List Bool) (i : ℕ) : Type 0 where
   pub to : ℕ → ℕ
   pub found : (c : ℕ) → to (chip_block numbers c) ≡ c
   pub put : (b : ℕ) → chip_block numbers (to b) ≡ b
-  pub within : (b : ℕ) → b < blocks → to b < blocks
-  pub lies : (c : ℕ) → c < blocks → chip_block numbers c < blocks
   pub good : (c : ℕ) → c < good_before bad i → is_marked bad (chip_block numbers c) ≡ false
   pub ranked : (c : ℕ) → c < good_before bad i → good_before bad (chip_block numbers c) ≡ c
   pub others : (c : ℕ) → good_before bad i ≤ c → c < i → is_marked bad (chip_block numbers c) ≡ true
   pub rest : (c : ℕ) → i ≤ c → chip_block numbers c ≡ c
-
--- each block has one number: first the good ones, and then the bad ones
-abbrev pub IsOrder : List ℕ → List Bool → ℕ → Type 0
-IsOrder numbers bad blocks = IsOrderTo numbers bad blocks blocks

@@ -19,7 +19,7 @@ ghost use Rattle.nand.specs.Stored.{HasLostSector, ReadsStored, StopsLook, Stops
 ghost use Rattle.nand.specs.Histories.{IsFor, Leads, update_by};
 ghost use Rattle.nand.specs.Nand.{CountsCommand, CountsCut, CountsFault, HasBytes, Performs, ReadsMain, ReadsStamp};
 ghost use Rattle.nand.specs.Nand.{noted_of, other_fault, tally_after, value_with};
-ghost use Rattle.nand.specs.Numbers.{IsInReserve, IsInUse, IsOrder, IsOrderTo, Marks, chip_block, chip_page, good_before};
+ghost use Rattle.nand.specs.Numbers.{IsInReserve, IsInUse, IsOrder, Marks, chip_block, chip_page, good_before};
 ghost use Rattle.nand.specs.Numbers.{is_marked, most_in_use, numbered};
 ghost use Rattle.nand.specs.Opened.{CanFreeInUse, CanOpen, Fails, HasFailed, IsClosed, IsOpenLayer, IsRefusal, IsSameDevice, IsSpent};
 ghost use Rattle.nand.specs.Opened.{IsTrueCause, KeepsDevice, MarksFailed, ReadsSector, Were};
@@ -406,7 +406,6 @@ pub fn orders()
         → (c : ℕ) × (c < 2) × (chip_block numbers c ≡ 1) }
     ensures lies { (numbers : List ℕ) (bad : List Bool)
         → IsOrder numbers bad 2 → chip_block numbers 1 < 2 }
-    ensures beyond { ¬ IsOrderTo (1 ∷ 0 ∷ []) (true ∷ true ∷ []) 1 2 }
     ensures rest { (numbers : List ℕ) → IsOrder numbers [] 2 → chip_block numbers 5 ≡ 5 }
     ensures in_order { IsOrder [] [] 2 }
     ensures bad_last { IsOrder (1 ∷ 0 ∷ []) (true ∷ false ∷ []) 2 }

@@ -22,7 +22,7 @@ ghost use Rattle.nand.specs.declared.flash.Fault.TheVariants as fault;
 use crate::failure::{Failure, OpenFailure};
 use crate::flash::{Nand, PowerGone, Reading, Tally};
 use crate::mounting::mount;
-use crate::numbers::chip_page;
+use crate::numbers::{chip_block, chip_page};
 use durable::{Core, Extent};
 use geometry::{Got, Was};
 use std::alloc::Global;
@@ -151,6 +151,18 @@ impl<N: Nand> Durable<N> {
         ensures reserve { result ≡ reserve_of self.now }
     {
         self.reserve
+    }
+
+    /// How often each of the chip's blocks was erased before the open. Of a few blocks that are as good the least erased is taken, so a chip that was
+    /// opened often wears evenly too. The layer forgets this when a command fails.
+    pub fn erased_before(&mut self, erases: &[u32])
+        ensures { self.new ≡ self.old }
+    {
+        for block in 0..self.nand.shape().blocks {
+            if let Some(count) = erases.get(chip_block(&self.numbers, block) as usize) {
+                self.core.erased_before(block, *count);
+            }
+        }
     }
 
     /// How many programs, copies and erases the chip has done since it counts, modulo 2^64.

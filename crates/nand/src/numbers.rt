@@ -2,7 +2,7 @@
 ghost use Rattle.std.specs.Prelude.{◌≡◌, ◌≢◌, ◌⊎◌, ◌<◌, ◌≤◌, ◌+◌, ◌^◌, ℕ, min, Bool, List, length, Err, IfOk, OnOk, OnErr};
 ghost use Rattle.durable.specs.Failures.{swapped};
 ghost use Rattle.durable.specs.declared.fault.MountFault.TheVariants as mount_fault;
-ghost use Rattle.nand.specs.Numbers.{IsOrder, IsOrderTo, chip_block as block_of, chip_page as page_of, good_before, is_marked, most_in_use};
+ghost use Rattle.nand.specs.Numbers.{IsOrder, chip_block as block_of, chip_page as page_of, good_before, is_marked, most_in_use};
 ghost use Rattle.nand.specs.declared.failure.OpenFailure.TheVariants as why;
 ghost use Rattle.nand.specs.declared.flash.Fault.{Fault as Cause};
 ghost use Rattle.nand.specs.declared.flash.Fault.TheVariants as fault;
@@ -91,8 +91,7 @@ fn place(numbers: &mut Vec<u32>, good: u32, block: u32, is_bad: bool) -> u32
     requires within { block < length numbers.old.items }
     requires last { block + 1 < 2 ^ 32 }
     ensures order { (bad : List Bool) → good ≡ good_before bad block → is_marked bad block ≡ is_bad
-        → IsOrderTo numbers.old.items bad (length numbers.old.items) block
-        → IsOrderTo numbers.new.items bad (length numbers.old.items) (block + 1) }
+        → IsOrder numbers.old.items bad block → IsOrder numbers.new.items bad (block + 1) }
     ensures good { (bad : List Bool) → good ≡ good_before bad block
         → is_marked bad block ≡ is_bad → result ≡ good_before bad (block + 1) }
     ensures length { length numbers.new.items ≡ length numbers.old.items }

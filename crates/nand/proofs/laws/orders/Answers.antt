@@ -1,18 +1,26 @@
-use Rattle.std.proofs.Common.{◌≡◌, ◌<◌, ◌≤◌, ℕ, zero, suc, true, false, [], ◌∷◌, refl, arith}
+use Rattle.std.proofs.Common.{◌∙◌, sym, ◌≡◌, ◌<◌, ◌≤◌, ℕ, zero, suc, true, false, [], ◌∷◌, refl, arith}
 use Rattle.nand.specs.Numbers.{chip_block, good_before, is_marked}
+use Rattle.nand.proofs.Orders.{lies, within}
 use Rattle.nand.proofs.laws.orders.Goals as goal
 
 all_good : (n : ℕ) → good_before [] n ≡ n
 all_good zero = refl
 all_good (suc n) = omega (arith, all_good n)
 
+pub returns-clause-every : goal.returns-clause-every
+returns-clause-every c numbers bad is = (is.to 1, within numbers bad 2 is 1 (omega arith), is.put 1)
+
+pub returns-clause-lies : goal.returns-clause-lies
+returns-clause-lies c numbers bad is = lies numbers bad 2 is 1 (omega arith)
+
+pub returns-clause-ranked : goal.returns-clause-ranked
+returns-clause-ranked c numbers is = sym (all_good (chip_block numbers 1)) ∙ is.ranked 1 (omega arith)
+
 pub returns-clause-in_order : goal.returns-clause-in_order
 returns-clause-in_order c = record {
   to = λ b. b;
   found = λ c. refl;
   put = λ b. refl;
-  within = λ b lt. lt;
-  lies = λ c lt. lt;
   good = λ c lt. refl;
   ranked = λ c lt. all_good c;
   others = λ c le lt. absurd (omega (arith, le, lt));
@@ -24,11 +32,6 @@ exchanged : (b : ℕ) → chip_block (1 ∷ 0 ∷ []) (chip_block (1 ∷ 0 ∷ [
 exchanged zero = refl
 exchanged (suc zero) = refl
 exchanged (suc (suc b)) = refl
-
-below_two : (b : ℕ) → b < 2 → chip_block (1 ∷ 0 ∷ []) b < 2
-below_two zero lt = omega arith
-below_two (suc zero) lt = omega arith
-below_two (suc (suc b)) lt = absurd (omega (arith, lt))
 
 good_first : (c : ℕ) → c < 1 → is_marked (true ∷ false ∷ []) (chip_block (1 ∷ 0 ∷ []) c) ≡ false
 good_first zero lt = refl
@@ -53,8 +56,6 @@ returns-clause-bad_last c = record {
   to = chip_block (1 ∷ 0 ∷ []);
   found = exchanged;
   put = exchanged;
-  within = below_two;
-  lies = below_two;
   good = good_first;
   ranked = ranked_first;
   others = bad_second;

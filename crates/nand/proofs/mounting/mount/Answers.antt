@@ -6,12 +6,6 @@ use Rattle.nand.specs.Opened.{most_used, used_blocks}
 use Rattle.nand.proofs.Orders.{capacity_of_good, capacity_of_used, mountable, written_in_order}
 use Rattle.nand.proofs.mounting.mount.Goals as goal
 
-pub returns-in-Ok-clause-device : goal.returns-in-Ok-clause-device
-returns-in-Ok-clause-device g c =
-    let used : c.used_of-used.result ≡ used_blocks (g.N.Nand.shape c.args.nand.now) (g.N.Nand.bad c.args.nand.now) c.args.sectors =
-    rw (c.shape.ensures, c.order_of.ensures.shape, c.in_ok-order.ensures.good) at c.used_of-used.ensures.used in
-    rw (c.order_of.ensures.shape, used) at c.in-Ok.ensures.device
-
 pub returns-in-Ok-clause-reserve : goal.returns-in-Ok-clause-reserve
 returns-in-Ok-clause-reserve g c =
     let used : c.used_of-used.result ≡ used_blocks (g.N.Nand.shape c.args.nand.now) (g.N.Nand.bad c.args.nand.now) c.args.sectors =
@@ -26,14 +20,6 @@ returns-in-Ok-clause-consistent g c updates is =
     c.in_ok-order.order.numbers.items c.args.sectors c.in_ok-order.ensures.order updates is in
     let mounts = rw (c.deref.ensures.value, c.order_of.ensures.flash, c.order_of.ensures.shape, used) at c.in-Ok.ensures.consistent in
     mounts updates (record { keeps = there.keeps; written = there.written })
-
-pub returns-in-Ok-clause-capacity : goal.returns-in-Ok-clause-capacity
-returns-in-Ok-clause-capacity g c =
-    let used : c.used_of-used.result ≡ used_blocks (g.N.Nand.shape c.args.nand.now) (g.N.Nand.bad c.args.nand.now) c.args.sectors =
-    rw (c.shape.ensures, c.order_of.ensures.shape, c.in_ok-order.ensures.good) at c.used_of-used.ensures.used in
-    let shape = g.N.Nand.shape c.args.nand.now in
-    capacity_of_good c.args.sectors (good_before (g.N.Nand.bad c.args.nand.now) shape.blocks) (most_used shape c.args.sectors) shape.pages
-    (rw (c.order_of.ensures.shape, used) at c.in-Ok.ensures.capacity)
 
 pub returns-in-Err-clause-refused : goal.returns-in-Err-clause-refused
 returns-in-Err-clause-refused g c capacity =

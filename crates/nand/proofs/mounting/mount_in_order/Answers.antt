@@ -59,9 +59,3 @@ returns-in-Err-NoFreeBlock-clause-frees g c updates is =
     let f = numbered c.args.numbers.now flash in
     absurd (c.finish.ensures.frees f updates updates inv.noted (subst (λ (d : Device). IsRecoverable f d updates updates) (sym inv.device) is)
     (c.in-Err-NoFreeBlock.is ∙ ap Err c.in-Err-NoFreeBlock.field-0-is))
-
-pub returns-in-Ok-finish-clause-consistent : goal.returns-in-Ok-finish-clause-consistent
-returns-in-Ok-finish-clause-consistent g c updates is =
-    let inv = c.loop-at.invariant in
-    let f = numbered c.args.numbers.now (g.N.Nand.flash c.args.nand.now) in
-    c.in-Ok-finish.ensures.remounts f updates updates inv.noted (subst (λ (d : Device). IsReadable f d updates updates) (sym inv.device) is)

@@ -12,11 +12,8 @@ loop-block-init g c = record {
   faults = λ cause. refl;
   sized = c.in-Ok.ensures.all ∙ ap (λ (s : Shape). s.blocks) c.shape-blocks.ensures;
   good = refl;
-  made = first_order c.in-Ok.numbers.items (g.N.Nand.bad c.args.nand.now) (g.N.Nand.shape c.args.nand.now).blocks c.in-Ok.ensures.same;
+  made = first_order c.in-Ok.numbers.items (g.N.Nand.bad c.args.nand.now) c.in-Ok.ensures.same;
 }
-
-pub place-good-requires-clause-few : goal.place-good-requires-clause-few
-place-good-requires-clause-few g c = omega (arith, c.loop-block.invariant.good, few_good (g.N.Nand.bad c.args.nand.now) c.loop-block.block)
 
 pub returns-clause-few : goal.returns-clause-few
 returns-clause-few g c = omega (

@@ -1,5 +1,5 @@
 use Rattle.std.proofs.Common.{◌≡◌, length}
-use Rattle.nand.specs.Numbers.{IsOrderTo, good_before}
+use Rattle.nand.specs.Numbers.{IsOrder, good_before}
 use Rattle.nand.specs.declared.flash.Fault.{Fault}
 use Rattle.nand.proofs.numbers.order_of.Given as goal
 
@@ -12,5 +12,5 @@ invariant-loop-block g l = record {
   faults : (cause : Fault) → g.N.Nand.faults l.nand cause ≡ g.N.Nand.faults l.fn.nand cause;
   sized : length l.numbers.items ≡ (g.N.Nand.shape l.fn.nand).blocks;
   good : l.good ≡ good_before (g.N.Nand.bad l.fn.nand) l.block;
-  made : IsOrderTo l.numbers.items (g.N.Nand.bad l.fn.nand) (g.N.Nand.shape l.fn.nand).blocks l.block;
+  made : IsOrder l.numbers.items (g.N.Nand.bad l.fn.nand) l.block;
 }

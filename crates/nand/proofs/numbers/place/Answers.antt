@@ -7,5 +7,5 @@ use Rattle.nand.proofs.numbers.place.Goals as goal
 pub returns-clause-order : goal.returns-clause-order
 returns-clause-order c bad good marked is =
     let old = c.args.numbers.now.items in
-    takes old c.exchange.new.numbers.items bad (length old) c.args.block c.requires.within (marked ∙ c.if-is_bad.false) is
+    takes old c.exchange.new.numbers.items bad c.args.block (marked ∙ c.if-is_bad.false) is
     (λ n. c.exchange.ensures.swapped n ∙ ap (λ (k : ℕ). chip_block old (swapped k c.args.block n)) good)

@@ -1,5 +1,4 @@
 use Rattle.std.proofs.Common.{◌≡◌, ◌≢◌, ◌∙◌, ◌∷◌, ◌+◌, ◌^◌, ◌<◌, ⊎_elim, List, refl, sym, ap, subst, arith}
-use Rattle.std.proofs.lemmas.Bool.{cases_lt}
 use Rattle.durable.specs.declared.command.Command.TheVariants.{Refused}
 use Rattle.durable.specs.Choice.{Spends, left}
 use Rattle.durable.specs.Device.{Device, NamesOn, device_of}
@@ -46,15 +45,6 @@ returns-then-matches-clause-leaves g c updates h =
       blank = inv.blank updates h;
       consistent = inv.consistent updates h;
     }
-
-pub returns-then-matches-clause-number : goal.returns-then-matches-clause-number
-returns-then-matches-clause-number g c is =
-    let number = c.loop-self.invariant.number in
-    elim c.match-matches.branch [
-      | in-Refused w ↦ ⊎_elim (λ lt. absurd (c.next-command.ensures.progress lt w.in-Refused.is)) (λ most. (number, most))
-          (cases_lt (c.loop-self.self.core.next_number + 1) (2 ^ 64))
-      | in_default w ↦ absurd (cc (sym w.matches-is ∙ c.if-matches.true))
-    ]
 
 pub returns-in-Err-clause-leaves : goal.returns-in-Err-clause-leaves
 returns-in-Err-clause-leaves g c updates h =
@@ -155,15 +145,6 @@ returns-then-is_last-clause-adds g c updates h =
     adds_version (g.N.Nand.flash c.args.self.now.nand) (g.N.Nand.flash mid) (g.N.Nand.flash now) numbers (g.N.Nand.bad mid)
     (g.N.Nand.shape mid).blocks order (inv.had updates h) c.next-command.result c.loop-self.self.core _ (update_of c.args.extent value)
     (sym c.is_last.ensures ∙ c.if-is_last.true) c.next-command.ensures.next inv.number completes
-
-pub returns-then-is_last-clause-tally : goal.returns-then-is_last-clause-tally
-returns-then-is_last-clause-tally g c =
-    let inv = c.loop-self.invariant in
-    let old = left c.loop-self.self.core in
-    let new = left c.done.new.self in
-    tallies_once (g.N.Nand.tally c.args.self.now.nand) (g.N.Nand.tally c.loop-self.self.nand) (g.N.Nand.tally c.perform.new.nand) c.next-command.result
-    (device_of c.args.self.now.core).pages old new (sym c.is_last.ensures ∙ c.if-is_last.true) inv.spent c.in_default-perform.ensures.tally.0
-    (subst (λ (d : Device). Spends c.next-command.result d.pages old new) inv.device c.done.ensures.spends)
 
 pub loop-self-preserved : goal.loop-self-preserved
 loop-self-preserved g c =

@@ -35,7 +35,3 @@ returns-in-Ok-clause-once g c updates is = by_answer c.in-Ok.field-0
 pub returns-in-Err-clause-memory : goal.returns-in-Err-clause-memory
 returns-in-Err-clause-memory g c told updates is =
     let memory : c.in-Err.failure ≡ failure.OutOfMemory = cc told in c.in-Err.ensures.memory (ap Err memory) updates is
-
-pub returns-in-Err-clause-overwrites : goal.returns-in-Err-clause-overwrites
-returns-in-Err-clause-overwrites g c told =
-    let written : c.in-Err.failure ≡ failure.Written = cc told in c.in-Err.ensures.trims (ap Err written)

@@ -1,6 +1,5 @@
 use Rattle.std.proofs.Common.{◌∙◌, All, List, Bool, ℕ, refl, sym, ap, arith, subst, length}
 use Rattle.std.proofs.lemmas.List.Elements.{All-nil}
-use Rattle.std.proofs.lemmas.Result.{err_from_is_err_and}
 use Rattle.nand.specs.Histories.{Leads}
 use Rattle.nand.specs.Opened.{CanOpen}
 use Rattle.nand.proofs.Histories.{Explains, all_more, leads_more, one_longer, same_chip}
@@ -18,15 +17,6 @@ loop-i-init g c = record {
   );
   failed = λ before is. subst (All (Explains g.N.Nand.flash g.N.Nand.shape g.N.Nand.bad g.N.Nand.faults)) (sym c.requires.none) (All-nil _);
 }
-
-pub returns-in_err-layer-clause-back : goal.returns-in_err-layer-clause-back
-returns-in_err-layer-clause-back g c before is =
-    let p = err_from_is_err_and c.from_residual.result c.from_residual.ensures.1 in
-    rw (p.1, p.2) (
-      before,
-      subst (λ (outcomes : List Bool). Leads c.args.changes.now outcomes before before) (sym c.requires.none) refl,
-      same_chip g.N.Nand.flash g.N.Nand.shape g.N.Nand.bad c.args.nand _ c.args.sectors before c.in_err-layer.ensures.back is,
-    )
 
 pub returns-in-Err-clause-back : goal.returns-in-Err-clause-back
 returns-in-Err-clause-back g c before is =
@@ -48,10 +38,6 @@ returns-in-Err-make_or_reopen-clause-back g c before is =
           (omega (arith, c.loop-i-test.true, c.loop-i.auto.i-end)) c.index-changes-i.is back.1,
       subst (λ (n : ℕ). CanOpen g.N.Nand.flash g.N.Nand.shape g.N.Nand.bad c.in-Err-make_or_reopen.refused.nand n back.0) inv.sectors back.2,
     )
-
-pub returns-in_err-layer-clause-failed : goal.returns-in_err-layer-clause-failed
-returns-in_err-layer-clause-failed g c before is =
-    subst (All (Explains g.N.Nand.flash g.N.Nand.shape g.N.Nand.bad g.N.Nand.faults)) (sym c.requires.none) (All-nil _)
 
 pub returns-in-Err-clause-failed : goal.returns-in-Err-clause-failed
 returns-in-Err-clause-failed g c before is =

@@ -18,9 +18,6 @@ returns-in-Ok-clause-new g c erased =
     let blocks = has_blocks c.args.sectors (good_before bad shape.blocks) shape.pages c.in-Ok.ensures.capacity in
     returns-in-Ok-clause-open g c [] (erased_opens (g.N.Nand.flash c.args.nand) shape bad c.args.sectors erased blocks)
 
-pub returns-in-Err-clause-foreign : goal.returns-in-Err-clause-foreign
-returns-in-Err-clause-foreign g c is = λ e. c.in-Err.ensures.foreign is (ap Err e)
-
 pub returns-in-Err-clause-frees : goal.returns-in-Err-clause-frees
 returns-in-Err-clause-frees g c updates is = λ e. c.in-Err.ensures.frees updates is (ap Err e)
 

@@ -42,27 +42,3 @@ pub returns-in-Ok-Written-clause-gives : goal.returns-in-Ok-Written-clause-gives
 returns-in-Ok-Written-clause-gives g c updates is =
     gives g.N.Nand.flash c.args.self.now c.args.sector g.N.Nand.shape g.N.Nand.bad updates is c.requires.sector got.Data c.read.new.out
     (returns-in-Ok-Written-clause-stored g c)
-
-pub returns-in-Ok-Written-clause-data : goal.returns-in-Ok-Written-clause-data
-returns-in-Ok-Written-clause-data g c _ =
-    let at = c.chip_page.result in
-    let f = g.N.Nand.flash c.args.self.now.nand in
-    let told = sym (c.found.ensures.tells (f at.block at.page) c.in-Ok.ensures.stamp) ∙ (c.in-Ok-Written.is ∙ ap Ok c.in-Ok-Written.field-0-is) in
-    has_bytes f at.block at.page c.args.sector c.read.new.out (data_in (f at.block at.page) c.args.sector c.read.new.out told c.in-Ok.ensures.main)
-
-pub returns-in-Err-found-clause-stops : goal.returns-in-Err-found-clause-stops
-returns-in-Err-found-clause-stops g c =
-    let at = c.chip_page.result in
-    let there = in_page g.N.Nand.flash c.args.self.now c.args.sector c.page.result c.page.ensures.map c.in-Some.at c.in-Some.is
-    c.deref.result.now c.deref.ensures.value at c.chip_page.ensures in
-    let told = c.found.ensures.tells (g.N.Nand.flash c.args.self.now.nand at.block at.page) c.in-Ok.ensures.stamp in
-    tells (stored_value g.N.Nand.flash c.args.self.now) c.args.sector (Err c.in-Err-found.lost) (sym c.in-Err-found.is ∙ (told ∙ ap told_of (sym there)))
-
-pub returns-in-Err-found-clause-only : goal.returns-in-Err-found-clause-only
-returns-in-Err-found-clause-only g c updates is =
-    let at = c.chip_page.result in
-    let there = in_page g.N.Nand.flash c.args.self.now c.args.sector c.page.result c.page.ensures.map c.in-Some.at c.in-Some.is
-    c.deref.result.now c.deref.ensures.value at c.chip_page.ensures in
-    let told = c.found.ensures.tells (g.N.Nand.flash c.args.self.now.nand at.block at.page) c.in-Ok.ensures.stamp in
-    absurd (cc (sym c.in-Err-found.is ∙ told_there g.N.Nand.flash c.args.self.now c.args.sector g.N.Nand.shape g.N.Nand.bad updates is c.requires.sector
-    c.found.result (told ∙ ap told_of (sym there))))

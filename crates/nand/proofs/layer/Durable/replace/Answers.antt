@@ -41,12 +41,3 @@ returns-in-Err-Refused-clause-marked g c updates can told =
     let place : c.chip_block.result ≡ block = c.chip_block.ensures ∙ ap (λ (ns : List ℕ). chip_block ns number) c.deref.ensures.value in
     let is : Marks bad marks block = subst (Marks bad marks) place (c.in_default.ensures.marks (omega (arith, place, can.lies))) in
     ap (λ (m : List Bool). good_before m blocks + 1) c.mount.ensures.bad ∙ fewer_good bad marks block is can.good blocks can.lies
-
-pub returns-in-Ok-clause-marks : goal.returns-in-Ok-clause-marks
-returns-in-Ok-clause-marks g c b is =
-    let bad = g.N.Nand.bad c.args.self.now.nand in
-    let marks = g.N.Nand.bad c.mark_bad.new.self in
-    ap (λ (m : List Bool). is_marked m b) c.mount.ensures.bad ∙ ⊎_elim
-    (λ same. ap (λ (m : List Bool). is_marked m b) same ∙ is)
-    (λ marked. stays_marked bad marks c.chip_block.result marked b is)
-    c.mark_bad.ensures.only

@@ -9,11 +9,6 @@ use Rattle.nand.specs.declared.failure.Failure.TheVariants as failure
 use Rattle.nand.proofs.Readings.{in_page, no_page, tells, told_there}
 use Rattle.nand.proofs.layer.Durable.was.Goals as goal
 
-pub returns-in_default-clause-tells : goal.returns-in_default-clause-tells
-returns-in_default-clause-tells g c =
-    let none = no_page g.N.Nand.flash c.args.self.now c.args.sector c.page.result c.page.ensures.map c.in_default.is in
-    tells (stored_value g.N.Nand.flash c.args.self.now) c.args.sector (Ok was.Empty) (ap told_of (sym none))
-
 pub returns-in_default-clause-gives : goal.returns-in_default-clause-gives
 returns-in_default-clause-gives g c updates is =
     let none = no_page g.N.Nand.flash c.args.self.now c.args.sector c.page.result c.page.ensures.map c.in_default.is in
@@ -36,13 +31,3 @@ returns-in-Ok-clause-gives g c updates is =
     subst (λ (r : Result Was Failure). IfOk r (λ had. had ≡ was_of (array_after updates c.args.sector)))
     (sym (told_there g.N.Nand.flash c.args.self.now c.args.sector g.N.Nand.shape g.N.Nand.bad updates is c.requires c.found.result
     (told ∙ ap told_of (sym there)))) refl
-
-pub returns-in-Ok-clause-only : goal.returns-in-Ok-clause-only
-returns-in-Ok-clause-only g c updates is =
-    let at = c.chip_page.result in
-    let there = in_page g.N.Nand.flash c.args.self.now c.args.sector c.page.result c.page.ensures.map c.in-Some.at c.in-Some.is
-    c.deref.result.now c.deref.ensures.value at c.chip_page.ensures in
-    let told = c.found.ensures.tells (g.N.Nand.flash c.args.self.now.nand at.block at.page) c.in-Ok.ensures.stamp in
-    subst (λ (r : Result Was Failure). OnErr r (r ≡ Err failure.PowerGone))
-    (sym (told_there g.N.Nand.flash c.args.self.now c.args.sector g.N.Nand.shape g.N.Nand.bad updates is c.requires c.found.result
-    (told ∙ ap told_of (sym there)))) tt

@@ -15,21 +15,6 @@ returns-in-Ok-Written-clause-looks g c =
 pub returns-in-Err-clause-looks : goal.returns-in-Err-clause-looks
 returns-in-Err-clause-looks g c = looks_after c.loop-sector.invariant.looks (Err c.in-Err.failure) c.in-Err.ensures.looks
 
-pub returns-in-Ok-Written-clause-tells : goal.returns-in-Ok-Written-clause-tells
-returns-in-Ok-Written-clause-tells g c =
-    written_within (stored_value g.N.Nand.flash c.loop-sector.self) (stored_value g.N.Nand.flash c.args.self.now) c.args.extent c.loop-sector.sector
-    (c.loop-sector.invariant.from, omega arith) (stored_after c.loop-sector.invariant.looks) c.loop-sector.invariant.stored
-    (subst (WereStored (stored_value g.N.Nand.flash c.loop-sector.self) (sole c.loop-sector.sector)) c.in-Ok-Written.field-0-is c.in-Ok-Written.ensures.tells)
-
-pub returns-in-Err-clause-tells : goal.returns-in-Err-clause-tells
-returns-in-Err-clause-tells g c =
-    stops_within (stored_value g.N.Nand.flash c.loop-sector.self) (stored_value g.N.Nand.flash c.args.self.now) c.args.extent c.loop-sector.sector
-    (c.loop-sector.invariant.from, omega arith) (stored_after c.loop-sector.invariant.looks) c.loop-sector.invariant.stored
-    c.in-Err.failure c.in-Err.ensures.tells
-
-pub returns-in-Err-clause-only : goal.returns-in-Err-clause-only
-returns-in-Err-clause-only g c updates is = c.in-Err.ensures.only updates (c.loop-sector.invariant.looks.opens updates is)
-
 pub loop-sector-preserved : goal.loop-sector-preserved
 loop-sector-preserved g c =
     let inv = c.loop-sector.invariant in
