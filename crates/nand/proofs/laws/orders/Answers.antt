@@ -1,6 +1,6 @@
-use Rattle.std.proofs.Common.{◌∙◌, sym, ◌≡◌, ◌<◌, ◌≤◌, ℕ, zero, suc, true, false, [], ◌∷◌, refl, arith}
+use Rattle.std.proofs.Common.{◌∙◌, sym, ap, ⊎_elim, ◌≡◌, ◌<◌, ◌≤◌, ℕ, zero, suc, true, false, [], ◌∷◌, refl, arith}
+use Rattle.std.proofs.lemmas.Bool.{cases_lt}
 use Rattle.nand.specs.Numbers.{chip_block, good_before, is_marked}
-use Rattle.nand.proofs.Orders.{lies, within}
 use Rattle.nand.proofs.laws.orders.Goals as goal
 
 all_good : (n : ℕ) → good_before [] n ≡ n
@@ -8,10 +8,14 @@ all_good zero = refl
 all_good (suc n) = omega (arith, all_good n)
 
 pub returns-clause-every : goal.returns-clause-every
-returns-clause-every c numbers bad is = (is.to 1, within numbers bad 2 is 1 (omega arith), is.put 1)
+returns-clause-every c numbers bad is =
+    let few = ⊎_elim (λ lt. lt) (λ past. absurd (omega (arith, is.rest (is.to 1) past, is.put 1, past))) (cases_lt (is.to 1) 2) in
+    (is.to 1, few, is.put 1)
 
 pub returns-clause-lies : goal.returns-clause-lies
-returns-clause-lies c numbers bad is = lies numbers bad 2 is 1 (omega arith)
+returns-clause-lies c numbers bad is =
+    let b = chip_block numbers 1 in
+    ⊎_elim (λ lt. lt) (λ past. absurd (omega (arith, is.found b, ap is.to (is.rest b past), is.found 1, past))) (cases_lt b 2)
 
 pub returns-clause-ranked : goal.returns-clause-ranked
 returns-clause-ranked c numbers is = sym (all_good (chip_block numbers 1)) ∙ is.ranked 1 (omega arith)
