@@ -1,5 +1,6 @@
 use Rattle.std.proofs.{Common.◌≡◌, Common.ℕ, Common.List, Common.length, Common.sym, Common.ap, Common.◌∙◌, Common.subst, Common.arith, lemmas.List.length-map}
 use Rattle.std.specs.Arc.{arc_value}
+use Rattle.geometry.specs.Geometry.{hosts_of}
 use Rattle.rounds.specs.{declared.answer_list.Answers.Answers, Plans.ends_of}
 use Rattle.volume.specs.{declared.volume.Volume.Volume, Volume.flash_of}
 use Rattle.flash_table.specs.Flash.{geometry_of}
@@ -13,6 +14,14 @@ fold_collectors-requires-clause-room g c =
     let dealt = c.in_ok-volume.ensures.collectors in
     let count = c.brooms.ensures.value in
     let room = c.in_ok-brooms.ensures.capacity in omega arith
+
+pub returns-clause-rows : goal.returns-clause-rows
+returns-clause-rows g c =
+    let geometry : geometry_of (flash_of c.deref-2.result.now) ≡ c.args.geometry.now =
+    ap (λ (v : Volume). geometry_of (flash_of v)) c.deref-2.ensures ∙ c.in_ok-volume.ensures.geometry in
+    let all = c.in_ok-team.ensures.manned.all ∙ ap hosts_of geometry in
+    let are = ap (length {A = Answers}) c.hand_out.ensures in
+    omega (arith, length-map c.in_ok-team.team.workers.items answers_kept)
 
 pub returns-clause-played : goal.returns-clause-played
 returns-clause-played g c =

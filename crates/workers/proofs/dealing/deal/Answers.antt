@@ -3,10 +3,12 @@ use Rattle.std.specs.{Prelude.slice_get, Arc.arc_value}
 use Rattle.std.proofs.lemmas.List.{length-map}
 use Rattle.geometry.specs.{Geometry.hosts_of, declared.geometry.Geometry.Geometry}
 use Rattle.flash_table.specs.{declared.pass.Pass.Pass, Flash.view_of, Flash.device, Flash.geometry_of, Flash.first_view}
+use Rattle.host.specs.Ready.{IsReady}
 use Rattle.broom.specs.declared.broom.Broom.{Broom}
 use Rattle.trace.specs.declared.commands.Command.{Command}
 use Rattle.volume.specs.{declared.volume.Volume.Volume, Volume.flash_of, Brooms.IsBroomReady, Brooms.IsUnused}
 use Rattle.rounds.specs.Plans.{ends_of}
+use Rattle.workers.specs.declared.{worker.Worker.Worker, collector.Collector.Collector}
 use Rattle.workers.specs.{Meetings.IsAt, Runs.AreManned, Runs.HasBegun, Served.AreAtRunStart, Served.HasCountedNone}
 use Rattle.workers.specs.Shares.{HasFitShare, IsOwner, with_commands, work_in}
 use Rattle.workers.proofs.{Counting.zero_plus, Serving.all_first, Openings.at_first, Openings.row_count, Openings.rows_doable}
@@ -17,11 +19,20 @@ pub make_shares-requires : goal.make_shares-requires
 make_shares-requires c = rows_doable c.args.geometry.now (hosts_of c.args.geometry.now)
     (arc_value c.args.commands.now) c.args.rows.items c.requires.playable c.requires.rows
 
+pub seat_workers-requires-clause-ready : goal.seat_workers-requires-clause-ready
+seat_workers-requires-clause-ready c =
+    subst (λ (v : Volume). All (IsReady (flash_of v)) c.into_parts-volume.result.1.items) (sym c.deref.ensures) c.into_parts-volume.ensures.ready.passes_ready
+
 pub seat_workers-requires-clause-fit : goal.seat_workers-requires-clause-fit
 seat_workers-requires-clause-fit c =
     let same : geometry_of (flash_of c.deref.result.now) ≡ c.args.geometry.now =
     ap (λ (v : Volume). geometry_of (flash_of v)) (c.deref.ensures ∙ c.into_parts-volume.ensures.volume) ∙ c.in_ok-unseated.ensures.geometry in
     subst (λ (g : Geometry). All (HasFitShare g) c.in_ok-shares.shares.items) (sym same) c.in_ok-shares.ensures.fit
+
+pub seat_workers-requires-clause-owners : goal.seat_workers-requires-clause-owners
+seat_workers-requires-clause-owners c =
+    subst (λ (v : Volume). All (IsOwner v) c.in_ok-worker_owners.worker_owners.items)
+    (sym (c.deref.ensures ∙ c.into_parts-volume.ensures.volume)) c.in_ok-worker_owners.ensures.same
 
 pub seat_workers-requires-clause-shares_count : goal.seat_workers-requires-clause-shares_count
 seat_workers-requires-clause-shares_count c =
@@ -29,6 +40,17 @@ seat_workers-requires-clause-shares_count c =
     let work = ap (length {A = List Command × List ℕ}) c.in_ok-shares.ensures.work in
     let passes = ap (length {A = Pass}) c.into_parts-volume.ensures.passes ∙ c.in_ok-unseated.ensures.playing in
     omega (arith, length-map c.in_ok-shares.shares.items work_in, length-map c.args.rows.items (with_commands (arc_value c.args.commands.now)))
+
+pub seat_workers-requires-clause-owners_count : goal.seat_workers-requires-clause-owners_count
+seat_workers-requires-clause-owners_count c =
+    omega (arith, c.in_ok-worker_owners.ensures.count, ap (length {A = Pass}) c.into_parts-volume.ensures.passes, c.in_ok-unseated.ensures.playing)
+
+pub seat_workers-requires-clause-none : goal.seat_workers-requires-clause-none
+seat_workers-requires-clause-none c = ap (length {A = Worker}) c.in_ok-workers.ensures.items
+
+pub seat_workers-requires-clause-room : goal.seat_workers-requires-clause-room
+seat_workers-requires-clause-room c =
+    omega (arith, c.in_ok-workers.ensures.capacity, ap (length {A = Pass}) c.into_parts-volume.ensures.passes, c.in_ok-unseated.ensures.playing)
 
 pub seat_collectors-requires-clause-ready : goal.seat_collectors-requires-clause-ready
 seat_collectors-requires-clause-ready c =
@@ -38,6 +60,25 @@ pub seat_collectors-requires-clause-owners : goal.seat_collectors-requires-claus
 seat_collectors-requires-clause-owners c =
     subst (λ (v : Volume). All (IsOwner v) c.in_ok-collector_owners.collector_owners.items)
     (sym (c.deref-2.ensures ∙ c.into_parts-volume.ensures.volume)) c.in_ok-collector_owners.ensures.same
+
+pub seat_collectors-requires-clause-count : goal.seat_collectors-requires-clause-count
+seat_collectors-requires-clause-count c =
+    omega (arith, c.in_ok-collector_owners.ensures.count, ap (length {A = Broom}) c.into_parts-volume.ensures.brooms, c.in_ok-unseated.ensures.collecting)
+
+pub seat_collectors-requires-clause-none : goal.seat_collectors-requires-clause-none
+seat_collectors-requires-clause-none c = ap (length {A = Collector}) c.in_ok-collectors.ensures.items
+
+pub seat_collectors-requires-clause-room : goal.seat_collectors-requires-clause-room
+seat_collectors-requires-clause-room c =
+    omega (arith, c.in_ok-collectors.ensures.capacity, ap (length {A = Broom}) c.into_parts-volume.ensures.brooms, c.in_ok-unseated.ensures.collecting)
+
+pub returns-clause-geometry : goal.returns-clause-geometry
+returns-clause-geometry c = ap (λ (v : Volume). geometry_of (flash_of v)) c.into_parts-volume.ensures.volume ∙ c.in_ok-unseated.ensures.geometry
+
+pub returns-clause-collectors : goal.returns-clause-collectors
+returns-clause-collectors c =
+    let brooms = ap (length {A = Broom}) c.into_parts-volume.ensures.brooms in
+    (ap (length {A = Collector}) c.in_ok-new.ensures.collectors) ∙ (c.seat_collectors.ensures.count ∙ (brooms ∙ c.in_ok-unseated.ensures.collecting))
 
 -- what the workers have at the beginning
 opened : (c : After-seat_collectors) → let volume = arc_value c.into_parts-volume.result.0 in let cs = arc_value c.args.commands.now in

@@ -42,3 +42,9 @@ loop-broom-preserved c =
       made = omega arith;
       room = omega arith;
     }
+
+pub loop-broom-init : goal.loop-broom-init
+loop-broom-init c = grind (arith, common_steps)
+
+pub returns-clause-brooms : goal.returns-clause-brooms
+returns-clause-brooms c = grind (arith, common_steps)

@@ -64,3 +64,9 @@ loop-pass-preserved c =
       owners_count = omega arith;
       room = omega arith;
     }
+
+pub loop-pass-init : goal.loop-pass-init
+loop-pass-init c = grind (arith, common_steps)
+
+pub returns-clause-work : goal.returns-clause-work
+returns-clause-work c = grind (arith, common_steps)

@@ -21,3 +21,27 @@ returns-clause-seated c =
     workers_seated c.args.volume.now c.args.workers.now c.in-Some.first.now c.meet_others.new.first c.meet_others-2.new.first c.in-Some.others.now
     c.meet_others.new.others c.meet_others-2.new.others
     c.in-Some.ensures.cases.0 c.requires.at c.requires.seated c.meet_others.ensures.met c.meet_others-2.ensures.met
+
+pub returns-clause-rest : goal.returns-clause-rest
+returns-clause-rest c =
+    rests_met c.args.volume.now c.args.workers.now c.in-Some.first.now c.meet_others.new.first c.meet_others-2.new.first c.in-Some.others.now
+    c.meet_others.new.others c.meet_others-2.new.others
+    c.in-Some.ensures.cases.0 c.requires.at c.requires.seated c.meet_others.ensures.met c.meet_others-2.ensures.met
+    c.meet_others.ensures.first c.meet_others-2.ensures.first c.meet_others.ensures.others c.meet_others-2.ensures.others
+
+pub meet_others-requires-clause-first : goal.meet_others-requires-clause-first
+meet_others-requires-clause-first c =
+    let volume = c.args.volume.now in
+    All-head (IsAt volume) c.in-Some.first.now c.in-Some.others.now (subst (All (IsAt volume)) c.in-Some.ensures.cases.0 c.requires.at)
+
+pub meet_others-requires-clause-others : goal.meet_others-requires-clause-others
+meet_others-requires-clause-others c =
+    let volume = c.args.volume.now in
+    All-tail (IsAt volume) c.in-Some.first.now c.in-Some.others.now (subst (All (IsAt volume)) c.in-Some.ensures.cases.0 c.requires.at)
+
+pub meet_others-requires-2-clause-first : goal.meet_others-requires-2-clause-first
+meet_others-requires-2-clause-first c =
+    let volume = c.args.volume.now in
+    let first = c.in-Some.first.now in
+    let at : IsAt volume first = All-head (IsAt volume) first c.in-Some.others.now (subst (All (IsAt volume)) c.in-Some.ensures.cases.0 c.requires.at) in
+    same_at volume first c.meet_others.new.first c.meet_others.ensures.first at

@@ -14,6 +14,9 @@ loop-other-init c = record {
   others = refl;
 }
 
+pub meet_two-requires-clause-first : goal.meet_two-requires-clause-first
+meet_two-requires-clause-first c = same_at c.args.volume.now c.args.first.now c.loop-other.first c.loop-other.invariant.first c.requires.first
+
 pub meet_two-requires-clause-second : goal.meet_two-requires-clause-second
 meet_two-requires-clause-second c =
     let long = c.loop-other.auto.others in

@@ -9,6 +9,9 @@ give_up-requires c =
     subst (λ (v : Volume). AreReady v c.in_ok-volume.passes.items c.in_ok-volume.brooms.items) (sym c.in-Err.ensures.value_returned)
     (record { passes_ready = told.ready; brooms_ready = told.brooms_ready })
 
+pub invariant_of-result : goal.invariant_of-result
+invariant_of-result c = grind (arith, common_steps)
+
 pub returns-in-Ok : goal.returns-in-Ok
 returns-in-Ok c =
     let told = c.in_ok-volume.ensures in

@@ -15,6 +15,9 @@ loop-i-init g c = (
   omega arith,
 )
 
+pub play_line-kind-requires-clause-pass : goal.play_line-kind-requires-clause-pass
+play_line-kind-requires-clause-pass g c = c.loop-i.invariant.0.playing.ready
+
 pub play_line-kind-requires-clause-line : goal.play_line-kind-requires-clause-line
 play_line-kind-requires-clause-line g c =
     let commands = c.args.commands.now in
@@ -60,4 +63,9 @@ loop-i-preserved g c =
 pub returns-clause-played : goal.returns-clause-played
 returns-clause-played g c =
     adding_end c.args.volume.now c.args.patience c.args.pass.now c.loop-i.pass c.args.commands.now c.args.places.now c.args.answers.now
+    c.loop-i.answers c.loop-i.i c.loop-i.invariant.0 (let past = c.loop-i-test.false in omega arith) c.loop-i.invariant.1
+
+pub returns-clause-answered : goal.returns-clause-answered
+returns-clause-answered g c =
+    all_answered c.args.volume.now c.args.patience c.args.pass.now c.loop-i.pass c.args.commands.now c.args.places.now c.args.answers.now
     c.loop-i.answers c.loop-i.i c.loop-i.invariant.0 (let past = c.loop-i-test.false in omega arith) c.loop-i.invariant.1

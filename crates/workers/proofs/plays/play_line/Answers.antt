@@ -21,6 +21,23 @@ returns-in-Read-clause-played g c t role =
     subst (λ (o : Op). PlayedLine t c.args.patience v o line.sector line.page c.found.result c.read_gated.new.out (is_full c.found.result) w)
     (sym c.in-Read.is) played
 
+pub returns-in-Write-clause-played : goal.returns-in-Write-clause-played
+returns-in-Write-clause-played g c t role =
+    let kind = c.write_patiently.result in
+    let bytes = c.copy_into.new.out in
+    let P : Op × List ℕ → Type 0 =
+    λ x. PlayedLine t c.args.patience (view_of c.args.pass.now) x.0 c.args.line.now.sector x.1 kind bytes (is_full kind) (view_of c.write_patiently.new.pass) in
+    subst P (λ i. (sym c.in-Write.is i, c.copy_into.ensures i)) (c.write_patiently.ensures.played t role)
+
+pub returns-in-New-clause-played : goal.returns-in-New-clause-played
+returns-in-New-clause-played g c t role =
+    let line = c.args.line.now in
+    let kind = c.write_patiently-in-New.result in
+    let bytes = c.copy_into-in-New.new.out in
+    let P : Op × List ℕ → Type 0 =
+    λ x. PlayedLine t c.args.patience (view_of c.args.pass.now) x.0 line.sector x.1 kind bytes (is_full kind) (view_of c.write_patiently-in-New.new.pass) in
+    subst P (λ i. (sym c.in-New.is i, c.copy_into-in-New.ensures i)) (c.write_patiently-in-New.ensures.played t role)
+
 pub returns-in-Trim-clause-played : goal.returns-in-Trim-clause-played
 returns-in-Trim-clause-played g c t role =
     let line = c.args.line.now in

@@ -12,6 +12,17 @@ returns-in-Some-clause-played g c t role =
     (view_of c.try_write.new.pass) c.args.sector c.args.bytes.now c.args.bytes.now c.in-Some.was c.of_was.result
     c.loop-tried.pass.opened c.loop-tried.pass.owns c.loop-tried-test.true waited (c.in-Some.ensures.wrote t now) c.of_was.ensures
 
+pub loop-tried-init : goal.loop-tried-init
+loop-tried-init g c = (c.requires.pass, waited_none (view_of c.args.pass.now), omega arith)
+
+pub loop-tried-preserved : goal.loop-tried-preserved
+loop-tried-preserved g c = (
+  c.try_write.ensures.pass,
+  waited_more c.loop-tried.tried (view_of c.args.pass.now) (view_of c.loop-tried.pass)
+      (view_of c.try_write.new.pass) c.loop-tried.invariant.1 c.in_default.ensures.refused,
+  (let low = c.loop-tried-test.true in omega arith),
+)
+
 pub returns-clause-played : goal.returns-clause-played
 returns-clause-played g c t role =
     full_line _ _ (a_write c.args.only_new) t c.args.patience c.loop-tried.tried (view_of c.args.pass.now) c.args.sector c.args.bytes.now c.args.bytes.now
