@@ -7,6 +7,3 @@ pub mod Outcome
 pub mod Faults
 pub mod Lines
 pub mod Playable
--- Internal.
-pub mod Encoding
-pub mod Placed

@@ -1,7 +1,7 @@
 -- What a clause sees of a watched reader or writer: how often it failed, and its known bytes.
 use Rattle.std.specs.Prelude.{◌≡◌, ◌≢◌, ℕ, List, Option, IfSome, Result, Ok, Err}
 use Rattle.std.specs.Io.KnownBytes.{Appends}
-use Rattle.trace.specs.{Watched.failures_of, Watched.inner_of, declared.watched.Watched.Watched}
+use Rattle.streams.specs.{Watched.failures_of, Watched.inner_of, declared.watched.Watched.Watched}
 use Rattle.answers.specs.declared.delivery.OutputFailed.{OutputFailed}
 use Rattle.answers.specs.Delivery.{AppendsBeginning, AppendsPart, AppendsText, IsUnderWay}
 

@@ -1,9 +1,9 @@
 ghost use Rattle.std.specs.Prelude.{◌≡◌, ◌≢◌, ◌≤◌, drop, length};
-ghost use Rattle.trace.specs.Watched.{failures_of, inner_of};
+ghost use Rattle.streams.specs.Watched.{failures_of, inner_of};
 ghost use Rattle.answers.specs.{Delivery.IsUnderWay, Streams.WritesOut, Streams.over};
 
 use std::io::Write;
-use trace::Watched;
+use streams::Watched;
 
 /// The writer failed: a call returned an error, or accepted no byte.
 #[derive(Clone, Copy, Debug, PartialEq, Eq)]

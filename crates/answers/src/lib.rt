@@ -3,16 +3,13 @@
 
 mod broom_line;
 mod delivery;
-mod encoding;
 mod fault;
 mod laws;
 mod line;
 mod lines;
-mod numbering;
 mod printing;
 mod reading;
 mod reply;
-mod text;
 mod words;
 
 pub use broom_line::BroomLine;

@@ -2,14 +2,14 @@
 ghost use Rattle.std.specs.Prelude.{◌≡◌, ◌+◌, ◌*◌, ◌≤◌, ◌++◌, codes, length};
 ghost use Rattle.hex.specs.Hex.{encode_lower};
 ghost use Rattle.answers.specs.Answers.{broom_line, collection_line, end_text, line_text, totals_text, wear_line};
-ghost use Rattle.answers.specs.{Placed.Placed, Replies.reply_text};
+ghost use Rattle.text.specs.Placed.{Placed};
+ghost use Rattle.answers.specs.Replies.{reply_text};
 ghost use Rattle.answers.specs.declared.reply.Reply.TheVariants as replies;
 
 use crate::broom_line::BroomLine;
-use crate::numbering::Numbering;
 use crate::reply::Reply;
-use crate::text::{SHORT_BYTES, put_number, put_page, put_short};
 use crate::words::{END, END_COMMA, op_word, outcome_word, reply_word};
+use text::{Numbering, SHORT_BYTES, put_number, put_page, put_short};
 use trace::Op;
 
 /// The most bytes of a line without those of its page, but with the bytes that are stored after its end.

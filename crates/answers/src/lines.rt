@@ -1,7 +1,7 @@
 ghost use Rattle.std.specs.Prelude.{◌+◌, ◌≤◌, vec_len};
 ghost use Rattle.answers.specs.declared.line.TheConstants.{LINE_BYTES, PIECE_BYTES};
 
-use crate::numbering::Numbering;
+use text::Numbering;
 
 /// The lines that wait to be written: the first bytes of a buffer, which is allocated once.
 #[derive(Drop)]

@@ -1,7 +1,7 @@
 ghost use Rattle.std.specs.Prelude.{◌≡◌, ◌≢◌, ◌*◌, ◌-◌, ◌≤◌, [], ◌++◌, drop, length, IfOk, OnOk, OnErr};
 ghost use Rattle.geometry.specs.Geometry.{page_bytes_of};
 ghost use Rattle.hex.specs.Hex.{encode_lower};
-ghost use Rattle.trace.specs.Watched.{failures_of, inner_of};
+ghost use Rattle.streams.specs.Watched.{failures_of, inner_of};
 ghost use Rattle.answers.specs.Answers.{broom_line, broom_names, collection_line, collection_names, end_text, line_text, totals_text, wear_line, wear_names};
 ghost use Rattle.answers.specs.{Delivery.AppendsBeginning, Delivery.IsUnderWay, Lines.page_digits_of, Lines.waiting_of, Replies.reply_text};
 ghost use Rattle.answers.specs.{Streams.WritesOut, Streams.over, declared.line.TheConstants.PIECE_BYTES};
@@ -13,13 +13,13 @@ use crate::line::{
     LINE_BYTES, PIECE_BYTES, put_broom, put_collection, put_end, put_line, put_totals, put_wear,
 };
 use crate::lines::Lines;
-use crate::numbering::Numbering;
 use crate::reply::Reply;
-use crate::text::put_text;
 use geometry::Geometry;
 use std::alloc::{AllocError, Global};
 use std::io::Write;
-use trace::{Op, Watched};
+use streams::Watched;
+use text::{Numbering, put_text};
+use trace::Op;
 
 impl Lines {
     /// An empty buffer for the lines of a device of this geometry.

@@ -1,11 +1,13 @@
 ghost use Rattle.std.specs.{Prelude.◌≡◌, Prelude.All, Prelude.IfErr, Prelude.IfOk, Prelude.IfSome, Prelude.Ok, Prelude.OnOk, Io.KnownBytes.IsAtEnd};
-ghost use Rattle.trace.specs.{Trace.commands_of, Watched.failures_of, Watched.inner_of};
+ghost use Rattle.trace.specs.Trace.{commands_of};
+ghost use Rattle.streams.specs.Watched.{failures_of, inner_of};
 ghost use Rattle.answers.specs.{Outcome.ExplainsTrace, Playable.IsPlayable, Streams.over};
 
 use geometry::Geometry;
 use std::alloc::Global;
 use std::io::Read;
-use trace::{Commands, TraceFault, Watched, load, parse_owned};
+use streams::Watched;
+use trace::{Commands, TraceFault, load, parse_owned};
 
 /// Reads a whole trace, and returns its commands for this device.
 pub fn read_commands<R: Read>(

@@ -1,10 +1,11 @@
 //! The words of the lines, each with the byte behind it.
 ghost use Rattle.std.specs.Prelude.{◌≡◌, ◌≤◌, [], ◌++◌, codes};
 ghost use Rattle.trace.specs.Trace.{name_of};
-ghost use Rattle.answers.specs.{Answers.outcome_text, Placed.short_of, Replies.reply_text};
+ghost use Rattle.answers.specs.{Answers.outcome_text, Replies.reply_text};
+ghost use Rattle.text.specs.Placed.{short_of};
 
 use crate::reply::Reply;
-use crate::text::{SHORT_BYTES, Short};
+use text::{SHORT_BYTES, Short};
 use trace::Op;
 
 // A word of this length: of 16 bytes, so that it is stored at once.

@@ -1,9 +1,10 @@
 -- Where the records of a text are, and how csv's machine reads from one place of it to another.
-use Rattle.std.specs.Prelude.{◌≡◌, ◌≢◌, ◌≤◌, ◌<◌, ◌-◌, ◌==◌, ◌||◌, ℕ, Bool, true, false, not, List, [], ◌∷◌, Option, Some, IfSome, length, take, drop}
+use Rattle.std.specs.Prelude.{◌≡◌, ◌≢◌, ◌≤◌, ◌<◌, ◌-◌, ◌==◌, ℕ, Bool, true, false, not, List, [], ◌∷◌, Option, Some, IfSome, length, take, drop}
 use Rattle.csv.specs.{Machine.Read, Machine.Runs, Machine.next_record, Reading.default_config, Reading.strip_bom, declared.parser.State.State}
 use Rattle.csv.specs.declared.parser.State.TheVariants as st
 use Rattle.trace.specs.{Rows.records_after, Trace.records_of, declared.cutting.Cut.Cut, declared.cutting.Field.Field, declared.cutting.Row.Row}
 use Rattle.trace.specs.declared.cutting.Cut.TheVariants as cut
+use Rattle.text.specs.Lanes.{is_field_end, is_line_end}
 
 -- ---- bytes
 
@@ -11,14 +12,6 @@ use Rattle.trace.specs.declared.cutting.Cut.TheVariants as cut
 abbrev pub begins_with : ℕ → List ℕ → Bool
 begins_with byte [] = false
 begins_with byte (first ∷ rest) = first == byte
-
--- whether a byte ends a line
-abbrev pub is_line_end : ℕ → Bool
-is_line_end byte = (byte == 13) || (byte == 10)
-
--- whether a byte ends a field, if no quotes are open
-abbrev pub is_field_end : ℕ → Bool
-is_field_end byte = (byte == 44) || is_line_end byte
 
 -- whether a field ends before this text: it is over, or begins with a comma or a line end
 abbrev pub ends_field : List ℕ → Bool

@@ -4,12 +4,10 @@ pub mod Faults
 pub mod Loading
 pub mod Page
 pub mod Trace
-pub mod Watched
 -- Internal.
 pub mod Cutting
 pub mod Digits
 pub mod Drafting
-pub mod Lanes
 pub mod Parsing
 pub mod Rows
 pub mod Stored

@@ -1,7 +1,8 @@
 -- How the commands of a trace are kept: each with the place of its digits, in the text or after its end among the odd ones. The first ones
 -- have a place of four bytes.
 use Rattle.std.specs.Prelude.{◌≡◌, ◌⊎◌, ℕ, ◌+◌, ◌*◌, ◌^◌, ◌<◌, ◌≤◌, List, [], ◌∷◌, All, ◌++◌, length, map, take, drop}
-use Rattle.trace.specs.{declared.commands.Command.Command, declared.draft.Draft.Draft, Digits.IsData, Digits.bytes_of, Page.page_with, Parsing.page_len}
+use Rattle.trace.specs.{declared.commands.Command.Command, declared.draft.Draft.Draft, Digits.IsData, Page.page_with, Parsing.page_len}
+use Rattle.text.specs.Digits.{bytes_of}
 use Rattle.trace.specs.declared.stored.{AllStored.AllStored, Brief.Brief, Head.Head, Lent.Lent, Near.Near, Stored.Stored}
 
 -- a command whose place has four bytes, with a place of eight

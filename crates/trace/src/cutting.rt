@@ -4,9 +4,10 @@
 ghost use Rattle.std.specs.Prelude.{◌≡◌, ◌≤◌, length, drop, true};
 ghost use Rattle.csv.specs.declared.parser.State.TheVariants.{InField};
 ghost use Rattle.trace.specs.Cutting.{CutsField, IsCut, EndsField, EndsPlain, EndsQuoted, IsMarkEnd, Joins};
-ghost use Rattle.trace.specs.Cutting.{StartsRecord, begins_with, is_field_end, is_line_end, AreValues};
+ghost use Rattle.trace.specs.Cutting.{StartsRecord, begins_with, AreValues};
+ghost use Rattle.text.specs.Lanes.{is_field_end, is_line_end};
 
-use crate::lanes::{LANES, field_run};
+use text::{LANES, field_run};
 
 // How far a field is looked at byte by byte.
 const NEAR: usize = 8;

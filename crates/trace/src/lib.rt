@@ -4,26 +4,21 @@
 
 mod commands;
 mod cutting;
-mod digits;
 mod draft;
 mod fault;
-mod lanes;
 mod laws;
 mod limits;
 mod loading;
-mod named_file;
 mod page;
 mod parsing;
 mod rows;
 mod stored;
 mod usual;
-mod watched;
 
 pub use commands::{Command, CommandIter, Commands, Op};
 pub use fault::{TraceFault, TraceFaultKind};
 pub use limits::MAX_DIGITS;
 pub use loading::{MAX_TRACE_BYTES, load};
-pub use named_file::{NamedFile, OpenFault};
 pub use page::Page;
 pub use parsing::{parse, parse_owned};
-pub use watched::Watched;
+pub use streams::{NamedFile, OpenFault, Watched};

@@ -1,10 +1,11 @@
 ghost use Rattle.std.specs.{Prelude.◌≡◌, Prelude.◌≤◌, Prelude.vec_len, Prelude.IfOk, Prelude.IfErr, Prelude.IfSome, Prelude.OnOk, Io.KnownBytes.IsAtEnd};
-ghost use Rattle.trace.specs.{Loading.ExplainsLoad, Loading.most_bytes, Watched.failures_of, Watched.inner_of};
+ghost use Rattle.trace.specs.Loading.{ExplainsLoad, most_bytes};
+ghost use Rattle.streams.specs.Watched.{failures_of, inner_of};
 
 use crate::fault::{TraceFault, TraceFaultKind};
-use crate::watched::Watched;
 use std::alloc::Global;
 use std::io::Read;
+use streams::Watched;
 
 /// The most bytes of a trace.
 pub const MAX_TRACE_BYTES: usize = 268_435_456;

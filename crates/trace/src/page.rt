@@ -1,8 +1,9 @@
 ghost use Rattle.std.specs.Prelude.{◌≡◌, ◌==◌, length};
-ghost use Rattle.trace.specs.{Digits.IsData, Digits.bytes_of, Page.page_with};
+ghost use Rattle.trace.specs.{Digits.IsData, Page.page_with};
+ghost use Rattle.text.specs.Digits.{bytes_of};
 
-use crate::digits::decode;
 use std::marker::Model;
+use text::decode;
 
 /// The data of a command: the digits that the trace has for the first bytes of its page. The other bytes are zeros.
 #[derive(Drop)]
@@ -13,7 +14,8 @@ pub struct Page<'a> {
 
 impl<'a> Model for Page<'a> {
     ghost use Rattle.std.specs.Prelude.{ℕ, List};
-    ghost use Rattle.trace.specs.Digits.{IsData, bytes_of};
+    ghost use Rattle.trace.specs.Digits.{IsData};
+    ghost use Rattle.text.specs.Digits.{bytes_of};
     ghost use Rattle.trace.specs.Page.{page_with};
 
     ghost Value = { List ℕ };

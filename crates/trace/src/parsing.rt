@@ -8,7 +8,6 @@ ghost use Rattle.trace.specs.Trace.{AreCommands, IsFirstFault, checked, command_
 
 use crate::commands::{Commands, Op};
 use crate::cutting::{Cut, Row, next_cut};
-use crate::digits::are_pairs;
 use crate::draft::Draft;
 use crate::fault::{TraceFault, TraceFaultKind};
 use crate::limits::MAX_DIGITS;
@@ -18,6 +17,7 @@ use crate::usual::usual_line;
 use csv::ByteRecord;
 use geometry::{Geometry, LONE_WORKERS, WORD_BYTES};
 use std::alloc::{AllocError, Global};
+use text::are_pairs;
 
 /// The commands of a trace for this device, or its first fault. They keep a copy of the text.
 pub fn parse(alloc: Global, text: &[u8], geometry: &Geometry) -> Result<Commands, TraceFault>

@@ -6,11 +6,11 @@ ghost use Rattle.trace.specs.Usual.{IsNumber, IsOpName, IsUsual, IsUsualData, Is
 
 use crate::commands::Op;
 use crate::cutting::has;
-use crate::digits::digits_end;
 use crate::limits::MAX_DIGITS;
 use crate::parsing::{page_bytes, workers};
 use crate::stored::Head;
 use geometry::Geometry;
+use text::digits_end;
 
 /// A line of the usual form: what it says without its digits, and where these begin and end.
 #[derive(Clone, Copy)]

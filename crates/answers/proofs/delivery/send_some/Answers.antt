@@ -1,6 +1,6 @@
 use Rattle.std.proofs.{Common.subst, Common.arith, Common.ap, Common.drop, Common.length, Common.take, lemmas.Bool.Decides.nat_tests}
 use Rattle.std.{proofs.lemmas.List.drop-drop, proofs.lemmas.List.length-drop, proofs.lemmas.List.take_rest, specs.Io.KnownBytes.Appends}
-use Rattle.trace.specs.Watched.{inner_of}
+use Rattle.streams.specs.Watched.{inner_of}
 use Rattle.answers.{specs.Delivery.IsUnderWay, proofs.Deliveries.IsUnderWay-take}
 use Rattle.answers.proofs.delivery.send_some.Goals as goal
 

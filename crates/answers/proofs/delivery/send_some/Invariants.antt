@@ -1,5 +1,5 @@
 use Rattle.std.proofs.Common.{◌≡◌, ◌-◌, ◌≤◌, drop, length}
-use Rattle.trace.specs.Watched.{failures_of, inner_of}
+use Rattle.streams.specs.Watched.{failures_of, inner_of}
 use Rattle.answers.specs.Delivery.{IsUnderWay}
 use Rattle.answers.proofs.delivery.send_some.Given as goal
 

@@ -1,5 +1,5 @@
 use Rattle.std.proofs.Common.{refl}
-use Rattle.answers.proofs.Places.{Placed-number, first_number}
+use Rattle.text.proofs.Places.{Placed-number, first_number}
 use Rattle.answers.proofs.line.put_broom.Goals as goal
 
 pub returns : goal.returns

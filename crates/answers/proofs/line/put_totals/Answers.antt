@@ -1,5 +1,5 @@
 use Rattle.std.proofs.Common.{refl}
-use Rattle.answers.proofs.Places.{Placed-number}
+use Rattle.text.proofs.Places.{Placed-number}
 use Rattle.answers.proofs.line.put_totals.Goals as goal
 
 pub returns : goal.returns

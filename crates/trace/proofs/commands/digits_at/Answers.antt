@@ -1,5 +1,5 @@
 use Rattle.std.proofs.Common.{◌≡◌, ◌+◌, ◌-◌, ◌≤◌, length, ap, take, drop, sym, ◌∙◌, arith}
-use Rattle.trace.{specs.Stored.lent_as, proofs.CommandFacts.digits-odd, proofs.CommandFacts.digits-text}
+use Rattle.trace.{specs.Stored.lent_as, proofs.Meanings.digits-text}
 use Rattle.trace.proofs.commands.digits_at.Goals as goal
 
 pub returns-then-start-text : goal.returns-then-start-text

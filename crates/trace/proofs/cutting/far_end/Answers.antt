@@ -1,6 +1,6 @@
 use Rattle.std.proofs.Common.{◌≡◌, ◌+◌, ◌≤◌, length, subst, sym, ◌∙◌, arith}
 use Rattle.csv.specs.declared.parser.State.TheVariants.{InField}
-use Rattle.trace.{specs.Cutting.Joins, proofs.CutFacts.plain-more, proofs.CutFacts.plain-run, proofs.CutFacts.stops-at}
+use Rattle.trace.{specs.Cutting.Joins, proofs.Cuts.plain-more, proofs.Cuts.plain-run, proofs.Cuts.stops-at}
 use Rattle.trace.proofs.cutting.far_end.Goals as goal
 
 pub returns-then-run-lt-LANES : goal.returns-then-run-lt-LANES

@@ -1,5 +1,5 @@
 use Rattle.std.proofs.lemmas.List.{take_rest}
-use Rattle.trace.proofs.RecordFacts.{mark-not_there, mark-there}
+use Rattle.trace.proofs.Records.{mark-not_there, mark-there}
 use Rattle.trace.proofs.cutting.mark_end.Goals as goal
 
 pub returns-then-starts_with : goal.returns-then-starts_with

@@ -1,4 +1,4 @@
-use Rattle.trace.proofs.RecordFacts.{cut-end, cut-five, cut-four, cut-one, cut-three, cut-two}
+use Rattle.trace.proofs.Records.{cut-end, cut-five, cut-four, cut-one, cut-three, cut-two}
 use Rattle.trace.proofs.cutting.next_cut.Goals as goal
 
 pub returns-then-start-text : goal.returns-then-start-text

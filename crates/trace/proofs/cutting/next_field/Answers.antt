@@ -1,5 +1,5 @@
 use Rattle.std.proofs.Common.{◌-◌, drop, refl, sym, take, ◌∙◌}
-use Rattle.trace.proofs.CutFacts.{plain-field, stands-before}
+use Rattle.trace.proofs.Cuts.{plain-field, stands-before}
 use Rattle.trace.proofs.cutting.next_field.Goals as goal
 
 pub returns : goal.returns

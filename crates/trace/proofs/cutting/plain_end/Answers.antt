@@ -1,6 +1,6 @@
 use Rattle.std.proofs.Common.{sym, ◌∙◌, arith}
 use Rattle.csv.specs.declared.parser.State.TheVariants.{InField}
-use Rattle.trace.proofs.CutFacts.{joins-none, plain-more}
+use Rattle.trace.proofs.Cuts.{joins-none, plain-more}
 use Rattle.trace.proofs.cutting.plain_end.Goals as goal
 
 pub loop-end-init : goal.loop-end-init

@@ -1,6 +1,6 @@
 use Rattle.std.proofs.{Common.get_or, lemmas.Bool.ne_eqb}
 use Rattle.csv.specs.declared.parser.State.TheVariants.{InQuoted}
-use Rattle.trace.proofs.CutFacts.{joins-none, quoted-more}
+use Rattle.trace.proofs.Cuts.{joins-none, quoted-more}
 use Rattle.trace.proofs.cutting.quote_at.Goals as goal
 
 pub loop-quote-init : goal.loop-quote-init

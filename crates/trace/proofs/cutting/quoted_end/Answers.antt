@@ -1,5 +1,5 @@
 use Rattle.std.proofs.Common.{sym, ◌∙◌}
-use Rattle.trace.proofs.CutFacts.{open-closed, open-end, open-more, opens}
+use Rattle.trace.proofs.Cuts.{open-closed, open-end, open-more, opens}
 use Rattle.trace.proofs.cutting.quoted_end.Goals as goal
 
 pub quotes-init : goal.quotes-init

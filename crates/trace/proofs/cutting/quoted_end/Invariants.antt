@@ -1,5 +1,5 @@
 use Rattle.std.proofs.Common.{◌-◌, length}
-use Rattle.trace.proofs.CutFacts.{IsOpen}
+use Rattle.trace.proofs.Cuts.{IsOpen}
 use Rattle.trace.proofs.cutting.quoted_end.Given as goal
 
 -- the field's quotes are open

@@ -1,5 +1,5 @@
 use Rattle.std.proofs.{Common.sym, Common.◌∙◌, Common.arith, lemmas.Grind.common_steps}
-use Rattle.trace.proofs.RecordFacts.{starts-more}
+use Rattle.trace.proofs.Records.{starts-more}
 use Rattle.trace.proofs.cutting.record_start.Goals as goal
 
 pub loop-start-preserved : goal.loop-start-preserved

@@ -1,5 +1,5 @@
 use Rattle.std.proofs.Common.{refl}
-use Rattle.trace.proofs.LawFacts.{bytes-0a, bytes-0b, bytes-none}
+use Rattle.trace.proofs.Examples.{bytes-0a, bytes-0b, bytes-none}
 use Rattle.trace.proofs.laws.commands_at_places.Goals as goal
 
 pub returns-clause-write : goal.returns-clause-write

@@ -1,5 +1,5 @@
-use Rattle.std.proofs.Common.{◌≡◌, ◌∙◌, ℕ, ◌+◌, ◌<◌, length, ap, arith, take, vec_len}
-use Rattle.trace.proofs.LoadFacts.{all_taken, one_more_differs, piece_counted, piece_falls, piece_taken, too_many}
+use Rattle.std.proofs.Common.{arith}
+use Rattle.trace.proofs.Loads.{too_many}
 use Rattle.trace.proofs.loading.load.Goals as goal
 
 pub returns-clause-why : goal.returns-clause-why

@@ -1,5 +1,6 @@
 use Rattle.std.{proofs.Common.◌≡◌, proofs.Common.◌≤◌, proofs.Common.◌+◌, proofs.Common.◌-◌, proofs.Common.vec_len, specs.Io.KnownBytes.Consumes}
-use Rattle.trace.specs.{Watched.failures_of, Watched.inner_of, declared.loading.TheConstants.MAX_TRACE_BYTES}
+use Rattle.streams.specs.Watched.{failures_of, inner_of}
+use Rattle.trace.specs.declared.loading.TheConstants.{MAX_TRACE_BYTES}
 use Rattle.trace.proofs.loading.load.Given as goal
 
 -- the text is what was taken from the reader so far, and no read failed

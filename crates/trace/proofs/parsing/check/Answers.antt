@@ -1,6 +1,6 @@
 use Rattle.std.proofs.{Common.sym, Common.arith, lemmas.Result.err_from_is_err_and}
-use Rattle.trace.proofs.CheckFacts.{accepts, refuses_op, refuses_page, refuses_sector, refuses_worker}
-use Rattle.trace.proofs.DigitFacts.{few_digits}
+use Rattle.trace.proofs.Checks.{accepts, refuses_op, refuses_page, refuses_sector, refuses_worker}
+use Rattle.trace.proofs.Data.{few_digits}
 use Rattle.trace.proofs.parsing.check.Goals as goal
 
 pub returns-in_err-worker-clause-refused : goal.returns-in_err-worker-clause-refused

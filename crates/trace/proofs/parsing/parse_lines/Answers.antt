@@ -1,6 +1,6 @@
-use Rattle.std.proofs.Common.{◌∙◌, append-nil, arith, inr, refl}
-use Rattle.trace.{specs.declared.fault.TraceFaultKind.TheVariants.Fields, specs.Stored.drafted, proofs.CommandFacts.line_is, proofs.NumberFacts.falls_past}
-use Rattle.trace.proofs.CheckFacts.{first_other, first_refused, one_more_command, refuses_fields, states_fault}
+use Rattle.std.proofs.Common.{inr}
+use Rattle.trace.{specs.declared.fault.TraceFaultKind.TheVariants.Fields, specs.Stored.drafted, proofs.Meanings.line_is}
+use Rattle.trace.proofs.Checks.{first_other, first_refused, refuses_fields, states_fault}
 use Rattle.trace.proofs.parsing.parse_lines.Goals as goal
 
 pub returns-in-Fields-clause-fault : goal.returns-in-Fields-clause-fault

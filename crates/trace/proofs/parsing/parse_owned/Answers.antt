@@ -1,4 +1,4 @@
-use Rattle.trace.proofs.CheckFacts.{commands_of-commands}
+use Rattle.trace.proofs.Checks.{commands_of-commands}
 use Rattle.trace.proofs.parsing.parse_owned.Goals as goal
 
 pub returns-in-Ok-clause-commands : goal.returns-in-Ok-clause-commands

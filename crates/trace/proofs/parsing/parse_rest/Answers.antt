@@ -1,6 +1,6 @@
-use Rattle.std.proofs.{Common.◌∙◌, Common.ap, Common.append-nil, Common.inr, Common.length, Common.sym, lemmas.List.take_rest}
-use Rattle.trace.{specs.Trace.records_of, specs.declared.fault.TraceFaultKind.TheVariants.Fields, specs.Stored.drafted, proofs.CommandFacts.line_is}
-use Rattle.trace.proofs.CheckFacts.{first_other, first_refused, one_more_command, refuses_fields, same_first, states_fault}
+use Rattle.std.proofs.{Common.◌∙◌, Common.inr, Common.sym}
+use Rattle.trace.{specs.declared.fault.TraceFaultKind.TheVariants.Fields, specs.Stored.drafted, proofs.Meanings.line_is}
+use Rattle.trace.proofs.Checks.{first_other, first_refused, one_more_command, refuses_fields, same_first, states_fault}
 use Rattle.trace.proofs.parsing.parse_rest.Goals as goal
 
 pub returns-in-Fields-clause-fault : goal.returns-in-Fields-clause-fault

@@ -1,5 +1,5 @@
 use Rattle.std.proofs.Common.{sym}
-use Rattle.trace.proofs.RowFacts.{field_at-get, field_at-some, some-option_map}
+use Rattle.trace.proofs.Fields.{field_at-get, field_at-some, some-option_map}
 use Rattle.trace.proofs.rows.field.Goals as goal
 
 pub unwrap-requires : goal.unwrap-requires

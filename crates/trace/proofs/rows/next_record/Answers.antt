@@ -1,4 +1,4 @@
-use Rattle.trace.proofs.RowFacts.{takes_next}
+use Rattle.trace.proofs.Fields.{takes_next}
 use Rattle.trace.proofs.rows.next_record.Goals as goal
 
 pub returns : goal.returns

@@ -1,5 +1,5 @@
 use Rattle.std.proofs.Common.{sym, ◌∙◌}
-use Rattle.trace.proofs.UsualFacts.{data_none_there, data_there}
+use Rattle.trace.proofs.UsualLines.{data_none_there, data_there}
 use Rattle.trace.proofs.usual.usual_data.Goals as goal
 
 pub returns-else-end-start : goal.returns-else-end-start

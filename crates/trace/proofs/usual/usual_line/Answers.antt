@@ -1,5 +1,5 @@
 use Rattle.std.proofs.Common.{arith}
-use Rattle.trace.proofs.UsualFacts.{usual_is}
+use Rattle.trace.proofs.UsualLines.{usual_is}
 use Rattle.trace.proofs.usual.usual_line.Goals as goal
 
 pub returns : goal.returns

@@ -1,5 +1,5 @@
 use Rattle.std.proofs.Common.{◌≡◌, ◌+◌, ◌-◌, ◌*◌, arith, subst, sym, ◌∙◌}
-use Rattle.trace.proofs.{NumberFacts.ten_to, UsualFacts.IsNumberSoFar, UsualFacts.more_so_far, UsualFacts.none_so_far, UsualFacts.number_ends}
+use Rattle.trace.proofs.{Numbers.ten_to, UsualLines.IsNumberSoFar, UsualLines.more_so_far, UsualLines.none_so_far, UsualLines.number_ends}
 use Rattle.trace.proofs.usual.usual_number.Goals as goal
 
 pub loop-i-init : goal.loop-i-init

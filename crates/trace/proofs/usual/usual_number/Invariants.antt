@@ -1,5 +1,5 @@
 use Rattle.std.proofs.Common.{◌+◌}
-use Rattle.trace.proofs.UsualFacts.{IsNumberSoFar}
+use Rattle.trace.proofs.UsualLines.{IsNumberSoFar}
 use Rattle.trace.proofs.usual.usual_number.Given as goal
 
 -- digits alone came so far, and this is their number

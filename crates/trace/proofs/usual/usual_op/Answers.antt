@@ -1,4 +1,4 @@
-use Rattle.trace.proofs.UsualFacts.{new_there, read_there, trim_there, write_there}
+use Rattle.trace.proofs.UsualLines.{new_there, read_there, trim_there, write_there}
 use Rattle.trace.proofs.usual.usual_op.Goals as goal
 
 pub returns-then-has_all : goal.returns-then-has_all

@@ -1,5 +1,5 @@
 use Rattle.std.proofs.{Common.◌<◌, Common.length, Common.ap, Common.add-one, Common.arith, lemmas.List.length-map}
-use Rattle.trace.{specs.Stored.command_at, specs.Stored.lent_as, specs.Stored.stored_in, proofs.CommandFacts.map_at}
+use Rattle.trace.{specs.Stored.command_at, specs.Stored.lent_as, specs.Stored.stored_in, proofs.Meanings.map_at}
 use Rattle.trace.proofs.commands.Commands.command.Goals as goal
 
 pub returns : goal.returns

@@ -1,5 +1,5 @@
 use Rattle.std.proofs.Common.{arith}
-use Rattle.trace.{proofs.CommandFacts.push-kept, specs.Stored.stored_in}
+use Rattle.trace.{proofs.Meanings.push-kept, specs.Stored.stored_in}
 use Rattle.trace.proofs.draft.Draft.push.Goals as goal
 
 pub returns-clause-draft : goal.returns-clause-draft

@@ -1,5 +1,5 @@
 use Rattle.std.proofs.Common.{arith}
-use Rattle.trace.{proofs.CommandFacts.push_odd-commands, proofs.CommandFacts.push_odd-kept, specs.Stored.stored_in}
+use Rattle.trace.{proofs.Meanings.push_odd-commands, proofs.Meanings.push_odd-kept, specs.Stored.stored_in}
 use Rattle.trace.proofs.draft.Draft.push_odd.Goals as goal
 
 pub returns-clause-draft : goal.returns-clause-draft

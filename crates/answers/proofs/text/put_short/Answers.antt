@@ -1,9 +1,0 @@
-use Rattle.std.proofs.Common.{◌≡◌, length, arith, rules}
-use Rattle.answers.proofs.Places.{Placed-less, Placed-store}
-use Rattle.answers.proofs.text.put_short.Goals as goal
-
-pub returns-clause-placed : goal.returns-clause-placed
-returns-clause-placed c =
-    let bytes = c.args.text.now.bytes in
-    let long : length bytes ≡ 16 = search rules in
-    Placed-less c.args.text.now.len (omega arith) (omega arith) (Placed-store c.args.buffer.now bytes c.args.at 16 long c.requires.room)

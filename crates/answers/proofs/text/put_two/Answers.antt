@@ -1,5 +1,0 @@
-use Rattle.answers.proofs.Numbers.{Placed-two}
-use Rattle.answers.proofs.text.put_two.Goals as goal
-
-pub returns : goal.returns
-returns c = Placed-two c.args.buffer.now c.args.at c.args.digits c.requires.0 c.requires.1

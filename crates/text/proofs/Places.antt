@@ -1,0 +1,64 @@
+-- Texts put at places of one buffer, one after another.
+use Rattle.std.proofs.Common.{◌≡◌, ℕ, Bool, true, false, refl, ◌+◌, ◌<◌, ◌≤◌, List, [], ◌∷◌, ◌++◌, length, set, take, drop, ap, sym, ◌∙◌, arith, append_assoc}
+use Rattle.std.proofs.Common.{length-set, length-take-le, length-drop, take-add, take-take, take_at, drop_at, subst}
+use Rattle.std.proofs.lemmas.{List.take_more_set, Simd.take_more_put_chunk, Simd.length-put_chunk, Slice.take-put_mid}
+use Rattle.std.specs.{Prelude.if◌then◌else◌, Fmt.decimal}
+use borrow.Rule.Slice.PartMut.{put_mid, same_len_mid}
+use lib.Lanes.{put_chunk}
+use mir.Val.{bool_byte}
+use Rattle.text.specs.Placed.{Placed}
+
+-- a second text begins where the first one ended
+pub Placed-then : {a b c xs ys : List ℕ} {i j k : ℕ} → Placed a b i xs j → Placed b c j ys k → Placed a c i (xs ++ ys) k
+Placed-then {a} {b} {c} {xs} {ys} {i} p q =
+    record { bytes = q.bytes ∙ ap (λ l. l ++ ys) p.bytes ∙ append_assoc (take i a) xs ys; within = q.within; len = q.len ∙ p.len }
+
+-- one byte
+pub Placed-byte : (a : List ℕ) (i y : ℕ) → i < length a → Placed a (set a i y) i (y ∷ []) (i + 1)
+Placed-byte a i y h =
+    let same = length-set a i y in
+    record { bytes = take_more_set a i y h; within = omega arith; len = same }
+
+-- of a text only the first n bytes count
+pub Placed-less : {a b xs : List ℕ} {i j : ℕ} (n : ℕ) → i ≤ length a → i + n ≤ j → Placed a b i xs j → Placed a b i (take n xs) (i + n)
+Placed-less {a} {b} {xs} {i} {j} n within few p =
+    let front = length-take-le i a within in
+    let inside = p.within in
+    record {
+      bytes = sym (take-take (i + n) j b few) ∙ ap (take (i + n)) p.bytes ∙ take-add i n (take i a ++ xs)
+          ∙ (λ k. take_at (take i a) xs i front k ++ take n (drop_at (take i a) xs i front k));
+      within = omega arith;
+      len = p.len;
+    }
+
+-- bytes that are stored at once
+pub Placed-store : (a ys : List ℕ) (i n : ℕ) → length ys ≡ n → i + n ≤ length a → Placed a (put_chunk i a ys) i ys (i + n)
+Placed-store a ys i n long fits =
+    let same = length-put_chunk i a ys in
+    record { bytes = take_more_put_chunk i a ys (i + n) (omega arith) fits; within = omega arith; len = same }
+
+-- a part of the buffer
+pub Placed-part : (a ys : List ℕ) (i k : ℕ) → i + k ≤ length a → length ys ≡ k → Placed a (put_mid i k a ys) i ys (i + k)
+Placed-part a ys i k fits long =
+    let same : length (put_mid i k a ys) ≡ length a = same_len_mid i k a ys (omega (arith, length-take-le k (drop i a) (omega (arith, length-drop i a)))) in
+    record { bytes = take-put_mid i k a ys (i + k) (omega arith) (omega arith); within = omega arith; len = same }
+
+-- a text with other words for it
+pub Placed-as : {a b xs ys : List ℕ} {i j : ℕ} → xs ≡ ys → Placed a b i xs j → Placed a b i ys j
+Placed-as {a} {b} {xs} {ys} {i} {j} e p = subst (λ (l : List ℕ). Placed a b i l j) e p
+
+-- a second text in two parts
+pub Placed-on : {a b c xs : List ℕ} {i j k : ℕ} (ys zs : List ℕ) → Placed a b i xs j → Placed b c j (ys ++ zs) k → Placed a c i (xs ++ ys ++ zs) k
+Placed-on {a} {b} {c} {xs} ys zs p q = Placed-as (sym (append_assoc xs ys zs)) (Placed-then p q)
+
+-- a number and the byte behind it
+pub Placed-number : {a b c xs : List ℕ} {i j k n m : ℕ} (end : ℕ) → n ≡ m → Placed a b i xs j → Placed b c j (decimal n ++ end ∷ []) k
+    → Placed a c i (xs ++ decimal m ++ end ∷ []) k
+Placed-number {a} {b} {c} {xs} {i} {j} {k} {n} {m} end same p q = Placed-on (decimal m) (end ∷ []) p (Placed-as (ap (λ (r : ℕ). decimal r ++ end ∷ []) same) q)
+
+pub first_number : {a b : List ℕ} {i j n m : ℕ} (end : ℕ) → n ≡ m → Placed a b i (decimal n ++ end ∷ []) j → Placed a b i (decimal m ++ end ∷ []) j
+first_number end same p = Placed-as (ap (λ (r : ℕ). decimal r ++ end ∷ []) same) p
+
+pub bit_is : (b : Bool) → bool_byte b ≡ (if b then 1 else 0)
+bit_is true = refl
+bit_is false = refl

@@ -1,0 +1,6 @@
+-- What public contracts rest on.
+pub mod Digits
+pub mod Lanes
+pub mod Placed
+-- Internal.
+pub mod Encoding

@@ -1,7 +1,0 @@
-use Rattle.trace.proofs.LaneFacts.{block_is}
-use Rattle.trace.proofs.lanes.decode_block.Goals as goal
-
-pub returns : goal.returns
-returns c =
-    let digits = c.requires.digits in
-    block_is c.args.text.now c.args.at c.requires.room _ _ c.values-front.ensures c.values-back.ensures c.type_inv.text digits.0 digits.1
