@@ -8,8 +8,8 @@ use Rattle.broom.specs.Survey.{Survey, closed_of, counts_of}
 use Rattle.broom.specs.declared.answer.Drain.TheVariants as drain
 use Rattle.broom.specs.declared.answer.Erase.TheVariants as erase
 use Rattle.flash_table.specs.declared.pass.OpenBlock.{OpenBlock}
-use Rattle.workers.specs.declared.{broom_answer.BroomAnswer.BroomAnswer, tally.Tally.Tally}
-use Rattle.workers.specs.declared.broom_answer.BroomAnswer.TheVariants as by
+use Rattle.workers.specs.declared.collector.{broom_answer.BroomAnswer.BroomAnswer, tally.Tally.Tally}
+use Rattle.workers.specs.declared.collector.broom_answer.BroomAnswer.TheVariants as by
 
 -- a block with two pages written and no reader, in this phase of this generation
 abbrev pub two_written : Phase → ℕ → PinWord

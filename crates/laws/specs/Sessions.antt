@@ -8,8 +8,8 @@ use Rattle.player.specs.{Session.EndsSession, Session.Explains, Session.Explains
 use Rattle.player.specs.declared.{run_files.RunFile.RunFile, stop.Stop.Stop}
 use Rattle.player.specs.declared.stop.Stop.TheVariants as stop
 use Rattle.runs.specs.declared.files.RunFiles.{RunFiles}
-use Rattle.trace.specs.declared.named_file.OpenFault.{OpenFault}
-use Rattle.trace.specs.declared.named_file.OpenFault.TheVariants as open_fault
+use Rattle.streams.specs.declared.named_file.OpenFault.{OpenFault}
+use Rattle.streams.specs.declared.named_file.OpenFault.TheVariants as open_fault
 
 -- a session ended with this status, whatever its files were; their names, why they were not opened, and their bytes are known by functions of
 -- numbers

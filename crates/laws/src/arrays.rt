@@ -1,6 +1,9 @@
 ghost use Rattle.std.specs.Prelude.{◌≡◌, ℕ, List, [], ◌∷◌, None, Some};
 ghost use Rattle.geometry.specs.History.{Write, WriteNew, Trim, held};
 
+pub(crate) mod histories;
+pub(crate) mod steps;
+
 /// What an array of two sectors holds: the last write replaces, a write of an empty sector replaces nothing, a trim empties, and a call changes no
 /// sector but its own.
 pub fn an_array_after_calls()

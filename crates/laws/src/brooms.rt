@@ -5,6 +5,9 @@ ghost use Rattle.broom.specs.{Restocking.RestockTold, Survey.GainsNothing, Surve
 ghost use Rattle.broom.specs.declared.answer.Drain.TheVariants as drain;
 ghost use Rattle.laws.specs.Brooms.{DidNothing, HadFewest, HasDrained, HasLost, HasNone, HasSpare, a_survey, an_all_live_survey};
 
+pub(crate) mod broom_results;
+pub(crate) mod broom_turns;
+
 /// What a survey counts, and which block is its victim.
 #[tactic(auto, unfolding(geometry::specs::Greedy::greedy_of))]
 pub fn a_survey_and_its_victim()

@@ -7,6 +7,8 @@ ghost use Rattle.host.specs.Told.{MetHolding, MetTold, Refused, Searched, Wrote}
 ghost use Rattle.uses.specs.Standing.{HasNoErase};
 ghost use Rattle.laws.specs.Hosts.{FilledOne, TookNothing};
 
+pub(crate) mod host_results;
+
 /// What a write and a search for a page record.
 pub fn writes_of_hosts()
     // A write that found no block has found each block taken once, in order, and has made no call.

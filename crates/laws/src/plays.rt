@@ -19,6 +19,11 @@ ghost use Rattle.geometry.specs.declared.{map_word.TheConstants.UNMAPPED, pin_wo
 ghost use Rattle.geometry.specs.declared.pin_word.Phase.TheVariants as phase;
 ghost use Rattle.laws.specs.{Tables.an_inspection, Tables.an_owned, Brooms.a_page};
 
+pub(crate) mod played_rounds;
+pub(crate) mod players;
+pub(crate) mod tallies;
+pub(crate) mod turns;
+
 /// What each step of a pass records.
 pub fn steps_of_passes()
     ensures look { (st : Step (Unit {0})) (me after : Sitter)

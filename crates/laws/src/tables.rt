@@ -21,6 +21,10 @@ ghost use Rattle.uses.specs.Standing.{HasNoErase};
 ghost use Rattle.laws.specs.{Brooms.a_page, Limits.a_state};
 ghost use Rattle.laws.specs.Tables.{a_cycle, a_reclaimed, an_inspection, an_open, an_owned, some_blocks};
 
+pub(crate) mod queues;
+pub(crate) mod rules;
+pub(crate) mod volumes;
+
 /// How a seat's blocks are listed, and what its view becomes when it gives them up.
 pub fn blocks_of_a_seat()
     ensures none { owned_list None ≡ [] }

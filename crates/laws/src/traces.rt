@@ -11,6 +11,12 @@ ghost use Rattle.trace.specs.declared.commands.Op.TheVariants as op;
 ghost use Rattle.trace.specs.declared.fault.TraceFaultKind.TheVariants as fault;
 ghost use Rattle.laws.specs.Streams.{Same, fails, passes, stream};
 
+pub(crate) mod deliveries;
+pub(crate) mod lines;
+pub(crate) mod reports;
+pub(crate) mod sessions;
+pub(crate) mod texts;
+
 /// Why a trace is not loaded: it is too big only if it has more bytes than a trace may have, of which one was read.
 pub fn loads_of_a_trace()
     ensures big { (bytes : List ℕ) → length bytes ≡ 268435458

@@ -9,7 +9,12 @@ ghost use Rattle.host.specs.Ready.{IsReady};
 ghost use Rattle.host.specs.Holding.{Holds};
 ghost use Rattle.shared_acceptance.specs.Kept.{IsHome, held_value, Holds-prop};
 
-use crate::calls::{BYTES, Call, Done, number_of, page, read_done};
+pub(crate) mod actor_setup;
+pub(crate) mod calls;
+pub(crate) mod idle_actors;
+pub(crate) mod nested_calls;
+
+use crate::actors::calls::{BYTES, Call, Done, number_of, page, read_done};
 use broom::{Broom, Erase};
 use flash_table::{Gate, NoGate, Pass};
 use geometry::Was;

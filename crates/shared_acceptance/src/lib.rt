@@ -4,72 +4,20 @@
 #![tactic(auto)]
 
 #[cfg(test)]
-mod actor_setup;
-#[cfg(test)]
 mod actors;
-#[cfg(test)]
-mod array_model;
 #[cfg(test)]
 mod assertions;
 #[cfg(test)]
-mod broom_model;
-#[cfg(test)]
-mod broom_queue_rows;
-#[cfg(test)]
-mod broom_rows;
-#[cfg(test)]
 mod caller;
-#[cfg(test)]
-mod calls;
 #[cfg(test)]
 mod closing;
 #[cfg(test)]
-mod drain_next_rows;
-#[cfg(test)]
-mod drawn;
-#[cfg(test)]
-mod draws;
-#[cfg(test)]
-mod erase_beside_a_read;
-#[cfg(test)]
-mod full_queue;
-#[cfg(test)]
-mod host_races;
-#[cfg(test)]
-mod host_rows;
-#[cfg(test)]
-mod idle_actors;
-#[cfg(test)]
-mod many_threads;
-#[cfg(test)]
-mod nested_calls;
+mod models;
 #[cfg(test)]
 mod opening;
 #[cfg(test)]
-mod oracle;
+mod rows;
 #[cfg(test)]
-mod playing_rows;
+mod schedules;
 #[cfg(test)]
-mod queue_rows;
-#[cfg(test)]
-mod queue_threads;
-#[cfg(test)]
-mod queue_users;
-#[cfg(test)]
-mod random_schedules;
-#[cfg(test)]
-mod refusals;
-#[cfg(test)]
-mod row_calls;
-#[cfg(test)]
-mod schedule;
-#[cfg(test)]
-mod sizes;
-#[cfg(test)]
-mod tally;
-#[cfg(test)]
-mod thread_notes;
-#[cfg(test)]
-mod thread_values;
-#[cfg(test)]
-mod words;
+mod threads;

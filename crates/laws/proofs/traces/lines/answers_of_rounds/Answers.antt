@@ -1,0 +1,11 @@
+use Rattle.laws.proofs.{ThreeLines.text_of_three, OneRead.finds_none, ReadBehind.reads_behind}
+use Rattle.laws.proofs.traces.lines.answers_of_rounds.Goals as goal
+
+pub returns-clause-empty : goal.returns-clause-empty
+returns-clause-empty c = finds_none
+
+pub returns-clause-text : goal.returns-clause-text
+returns-clause-text c x text is = text_of_three x text is
+
+pub returns-clause-behind : goal.returns-clause-behind
+returns-clause-behind c x h = reads_behind x h

@@ -1,0 +1,138 @@
+ghost use Rattle.std.specs.Prelude.{◌≡◌, ◌+◌, ℕ, IfSome, List, Option, [], ◌∷◌, Err, None, Some, codes, false, not, true};
+ghost use Rattle.answers.specs.{Answers.end_text, Outcome.ExplainsRun, declared.fault.RunFault.RunFault};
+ghost use Rattle.answers.specs.Streams.{Passage, Sends, SendsBeginning, Stream, stream_of};
+ghost use Rattle.clap.specs.{Words.IsAmong, Words.Text, Words.first_of, Words.kind_of, Words.one_of, declared.error.Error.Error};
+ghost use Rattle.geometry.specs.{Geometry.hosts_of, Geometry.numbers_of, declared.fault.GeometryFault.GeometryFault, declared.geometry.Geometry.Geometry};
+ghost use Rattle.geometry.specs.Limits.{first_fault, numbers};
+ghost use Rattle.player.specs.CommandLine.{AreOptionsOf, IsNumberIn, faults_given, numbers_given, rows_given, rows_named};
+ghost use Rattle.player.specs.Session.{AppendsSome, AsksClap, HasFailedToOpen, IsIdle, IsLogBy, IsOpenedAs, IsRefused, IsRefusedAs, IsTextFor, LeavesLogBy};
+ghost use Rattle.player.specs.{Session.LosesFile, Session.TellsFile, Session.filing, Session.name_given, Telling.TellsStop};
+ghost use Rattle.player.specs.declared.command_line.Options.{Options};
+ghost use Rattle.player.specs.declared.run_files.FileStop.TheVariants as file_stop;
+ghost use Rattle.player.specs.declared.run_files.RunFile.TheVariants as run_file;
+ghost use Rattle.player.specs.declared.stop.Stop.TheVariants as stop;
+ghost use Rattle.runs.specs.{Brooms.IsBroomLogOf, Outputs.IsLastLineOf, Outputs.IsOutputByWorkers, Outputs.IsOutputOf};
+ghost use Rattle.streams.specs.{Watched.failures_of, Watched.inner_of, declared.named_file.OpenFault.OpenFault, declared.watched.Watched.Watched};
+ghost use Rattle.streams.specs.declared.named_file.OpenFault.TheVariants as open_fault;
+ghost use Rattle.laws.specs.Sessions.{EndsBy, EndsWith, Gives, PlaysAll, Reports, in_use, named_b, system_refused, untold, untold_bytes, untold_name};
+ghost use Rattle.laws.specs.Streams.{Same, passes};
+
+/// What the status of a session says of what was read and written.
+pub fn ends_of_a_session()
+    ensures quiet { (w : List Text) (i o e : Passage) → EndsWith 0 w i o e → e.after ≡ e.before }
+    ensures well { (w : List Text) (i o e : Passage)
+        → EndsWith 0 w i o e → o.after.failures ≡ o.before.failures }
+    ensures words { (w : List Text) (i o e : Passage) → EndsWith 2 w i o e
+        → (i.after ≡ i.before) × (o.after ≡ o.before) }
+    ensures trace { (w : List Text) (i o e : Passage) → EndsWith 3 w i o e → o.after ≡ o.before }
+    ensures memory { (e : Passage) → TellsStop stop.Memory e
+        → e.after.failures ≡ e.before.failures → Sends e (codes "memory: refused\n") }
+    ensures played { (w : List Text) (i o e : Passage)
+        → EndsWith 0 w i o e → faults_given w ≡ [] → PlaysAll w i o }
+    ensures which { (f : GeometryFault) (w : List Text) (i o e : Passage)
+        → EndsBy (Err (stop.Geometry f)) w i o e → (given : Options)
+        × AreOptionsOf w given × (first_fault (numbers_given given) ≡ Some f)
+        × (faults_given w ≡ []) × IsIdle i o
+        × TellsStop (stop.Geometry f) e }
+    ensures stopped { (f : RunFault) (w : List Text) (i o e : Passage)
+        → EndsBy (Err (stop.Run f)) w i o e → (given : Options) × (g : Geometry)
+        × AreOptionsOf w given × (numbers_of g ≡ numbers_given given)
+        × (faults_given w ≡ []) × ExplainsRun (IsTextFor given) g i o f
+        × TellsStop (stop.Run f) e }
+    ensures helped { (w : List Text) (i o e : Passage)
+        → EndsWith 0 w i o e → ¬ (faults_given w ≡ []) → (k : Error)
+        × IsAmong (kind_of k) (faults_given w) × AsksClap (kind_of k)
+        × (i.after ≡ i.before) × (t : List ℕ) × Sends o t }
+    ensures help_failed { (w : List Text) (i o e : Passage) → EndsBy (Err stop.Help) w i o e
+        → (k : Error) × IsAmong (kind_of k) (faults_given w)
+        × AsksClap (kind_of k) × (i.after ≡ i.before) × AppendsSome o }
+    ensures refused { (w : List Text) → IsRefused w → (k : Error)
+        × IsAmong (kind_of k) (faults_given w) × (¬ AsksClap (kind_of k)) }
+    ensures memory_part { (e : Passage) → TellsStop stop.Memory e
+        → SendsBeginning e (codes "memory: refused\n") }
+    ensures unwritten { (w : List Text) (i o e : Passage)
+        → EndsWith 5 w i o e → o.after.failures ≡ o.before.failures }
+    ensures other { (s : ℕ) (w : List Text) (i o e : Passage) → EndsWith (6 + s) w i o e → ⊥ }
+{}
+
+/// What is known of why a file could not be opened decides how a session reports it.
+pub fn refusals_of_files()
+    ensures in_use { (¬ Reports run_file.Wear file_stop.NotOpened in_use)
+        × (¬ Reports run_file.Collections file_stop.NotOpened in_use) }
+    ensures refused { (¬ Reports run_file.Wear file_stop.NotItsOwn system_refused)
+        × (¬ Reports run_file.Collections file_stop.NotItsOwn system_refused) }
+    ensures known { (a : Watched ℕ) → (¬ IsRefusedAs in_use a open_fault.Refused)
+        × IsRefusedAs in_use a open_fault.InUse }
+    ensures unknown { (a : Watched ℕ) (fault : OpenFault) → IsRefusedAs untold a fault }
+    ensures fails { (a : Watched ℕ) (fault : OpenFault)
+        → ¬ HasFailedToOpen fault (filing untold_name untold untold_bytes a a) }
+{}
+
+/// What a session writes to the files that the options name, and to those that they don't.
+pub fn files_of_a_session()
+    ensures unnamed { (i : Stream) (a b : Watched ℕ)
+        → TellsFile None Same i (filing untold_name untold untold_bytes a b)
+        → failures_of b ≡ failures_of a }
+    ensures none_lost { (i : Stream) (a b : Watched ℕ)
+        → ¬ LosesFile None Same i (filing untold_name untold untold_bytes a b) }
+    ensures named { (i : Stream) (a b : Watched ℕ)
+        → TellsFile (Some (codes "a")) Same i (filing untold_name untold untold_bytes a b)
+        → failures_of b ≡ failures_of a }
+    ensures lost { (i : Stream) (a : Watched ℕ)
+        → ¬ LosesFile (Some (codes "a")) Same i (filing untold_name untold untold_bytes a a) }
+    ensures other_name { (i : Stream) (a b : Watched ℕ)
+        → ¬ TellsFile (Some (codes "a")) Same i (filing named_b untold untold_bytes a b) }
+    ensures other_lost { (i : Stream) (a b : Watched ℕ)
+        → ¬ LosesFile (Some (codes "a")) Same i (filing named_b untold untold_bytes a b) }
+    ensures opened { (n : ℕ → Option Text) (b : ℕ → Option (List ℕ)) (a : Watched ℕ) (t : Text)
+        → (h : IsOpenedAs n b a t)
+        → (stream_of b h.opened ≡ stream_of b a)
+        × IfSome (n (inner_of h.opened)) (λ known. known ≡ t) }
+    ensures left { (f : RunFault) (g : Geometry) (i : Stream)
+        → ¬ LeavesLogBy 1 f true g i (passes [] (2 ∷ [])) }
+    ensures limit { (g : Geometry) (bytes text : List ℕ)
+        → IsLogBy 1 7 g bytes text → IsBroomLogOf 7 g bytes text }
+{}
+
+/// What the words of a command line give for each option: the number that they write for it or its default, the names of the files, and whether
+/// the answers are left out; which device these describe, and what is then written to the output.
+pub fn options_of_a_session()
+    ensures defaults { (w : List Text) (given : Options) → rows_named w ≡ [] → AreOptionsOf w given
+        → (numbers_given given ≡ numbers 1 64 64 64 3072 1000 0 0)
+        × (given.patience ≡ 1000000) × (given.drains ≡ 1) }
+    ensures device { (w : List Text) (given : Options) (t : Text) → AreOptionsOf w given
+        → (Gives w (codes "luns") t → IsNumberIn 0 4294967295 t (numbers_given given).luns)
+        × (Gives w (codes "blocks") t → IsNumberIn 0 4294967295 t (numbers_given given).blocks)
+        × (Gives w (codes "pages") t → IsNumberIn 0 4294967295 t (numbers_given given).pages)
+        × (Gives w (codes "words") t → IsNumberIn 0 4294967295 t (numbers_given given).words)
+        × (Gives w (codes "sectors") t → IsNumberIn 0 4294967295 t (numbers_given given).sectors)
+        × (Gives w (codes "endurance") t
+        → IsNumberIn 0 4294967295 t (numbers_given given).endurance) }
+    ensures threads { (w : List Text) (given : Options) (t : Text) → AreOptionsOf w given
+        → (Gives w (codes "workers") t → IsNumberIn 0 4294967295 t (numbers_given given).hosts)
+        × (Gives w (codes "brooms") t → IsNumberIn 0 4294967295 t (numbers_given given).brooms)
+        × (Gives w (codes "patience") t → IsNumberIn 1 1000000000 t given.patience)
+        × (Gives w (codes "drains") t → IsNumberIn 1 4096 t given.drains) }
+    ensures files { (w : List Text) (given : Options) → AreOptionsOf w given
+        → (name_given run_file.Wear given ≡ first_of (codes "wear") (rows_given w))
+        × (name_given run_file.Collections given ≡ first_of (codes "collections") (rows_given w)) }
+    ensures quiet { (w : List Text) (given : Options) → AreOptionsOf w given
+        → (one_of (codes "quiet") (rows_given w) ≡ None → given.quiet ≡ false)
+        × (one_of (codes "quiet") (rows_given w) ≡ Some (codes "true") → given.quiet ≡ true)
+        × (one_of (codes "quiet") (rows_given w) ≡ Some (codes "false") → given.quiet ≡ false) }
+    ensures all_written { (w : List Text) (given : Options) → AreOptionsOf w given
+        → (one_of (codes "all-written") (rows_given w) ≡ None → given.all_written ≡ false)
+        × (one_of (codes "all-written") (rows_given w) ≡ Some (codes "true")
+        → given.all_written ≡ true)
+        × (one_of (codes "all-written") (rows_given w) ≡ Some (codes "false")
+        → given.all_written ≡ false) }
+    ensures one_thread { (given : Options) (g : Geometry) (b t : List ℕ)
+        → hosts_of g ≡ 0 → IsTextFor given g b t → IsOutputOf (not given.quiet) g b t }
+    ensures by_workers { (given : Options) (g : Geometry) (b t : List ℕ)
+        → hosts_of g ≡ 2 → IsTextFor given g b t
+        → IsOutputByWorkers (not given.quiet) g b t }
+    ensures quiet_text { (g : Geometry) (b t : List ℕ)
+        → IsOutputOf false g b t → IsLastLineOf g b t }
+    ensures quiet_workers { (g : Geometry) (b t : List ℕ)
+        → IsOutputByWorkers false g b t → t ≡ end_text }
+{}

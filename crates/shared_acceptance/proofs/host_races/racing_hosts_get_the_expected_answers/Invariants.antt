@@ -1,5 +1,0 @@
-use Rattle.std.proofs.Common.{Some}
-use Rattle.shared_acceptance.proofs.host_races.racing_hosts_get_the_expected_answers.Given as goal
-
-abbrev pub ghosts-run_race : goal.ghosts-run_race
-ghosts-run_race g a = record { home = Some a.volume.now }
