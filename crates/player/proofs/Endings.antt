@@ -2,8 +2,8 @@
 use Rattle.std.proofs.Common.{◌≡◌, ◌≢◌, ◌∙◌, ℕ, zero, suc, Bool, true, false, List, None, Some, Option, refl, inl, inr, ap, subst, sym}
 use Rattle.std.specs.Prelude.{⊤, MatchOption, Result, Ok, Err, OnErr, OnOk, is_some, option_map}
 use Rattle.geometry.specs.{Geometry.hosts_of, declared.geometry.Geometry.Geometry}
-use Rattle.trace.specs.declared.named_file.OpenFault.{OpenFault}
-use Rattle.trace.specs.declared.named_file.OpenFault.TheVariants as open_fault
+use Rattle.streams.specs.declared.named_file.OpenFault.{OpenFault}
+use Rattle.streams.specs.declared.named_file.OpenFault.TheVariants as open_fault
 use Rattle.answers.specs.{Streams.Passage, Streams.Stream, declared.delivery.OutputFailed.OutputFailed, declared.fault.RunFault.RunFault}
 use Rattle.clap.specs.{Words.HasKind, Words.IsAmong, Words.Kinds, Words.Text, Words.kind_of, declared.error.Error.Error}
 use Rattle.clap.specs.declared.error.kind.ErrorKind.{ErrorKind}

@@ -5,12 +5,13 @@ use Rattle.clap.specs.{Words.IsAmong, Words.Text, Words.kind_of, declared.error.
 use Rattle.clap.specs.declared.error.kind.ErrorKind.TheVariants as kind
 use Rattle.geometry.specs.{Geometry.hosts_of, Geometry.numbers_of, Limits.first_fault, declared.geometry.Geometry.Geometry}
 use Rattle.geometry.specs.declared.fault.GeometryFault.{GeometryFault}
-use Rattle.trace.specs.declared.{fault.TraceFaultKind.TraceFaultKind, named_file.OpenFault.OpenFault, watched.Watched.Watched}
-use Rattle.trace.specs.Watched.{inner_of}
+use Rattle.trace.specs.declared.fault.TraceFaultKind.{TraceFaultKind}
+use Rattle.streams.specs.declared.{named_file.OpenFault.OpenFault, watched.Watched.Watched}
+use Rattle.streams.specs.Watched.{inner_of}
 use Rattle.trace.specs.declared.fault.TraceFaultKind.TheVariants as fault
 use Rattle.answers.specs.{Outcome.ExplainsRun, declared.fault.RunFault.RunFault, declared.delivery.OutputFailed.OutputFailed}
 use Rattle.answers.specs.Streams.{Passage, Sends, SendsBeginning, Stream, Tells, TellsPart, over, stream_of}
-use Rattle.trace.specs.declared.named_file.OpenFault.TheVariants as open_fault
+use Rattle.streams.specs.declared.named_file.OpenFault.TheVariants as open_fault
 use Rattle.answers.specs.declared.fault.RunFault.TheVariants as run
 use Rattle.runs.specs.{Brooms.IsBroomLogOf, Collections.IsLogOf, ByWorkers.WasPlayed, ByWorkers.answers_played, ByWorkers.commands_played, Files.LeavesLog}
 use Rattle.runs.specs.{Outputs.IsOutputByWorkers, Outputs.IsOutputOf, Refusals.IsRefusedCount, Refusals.refused_by_workers, Wear.IsWearOf}

@@ -1,6 +1,6 @@
 ghost use Rattle.std.specs.Prelude.{◌≡◌, ◌≢◌, Some, is_some, map, option_map, true, IfErr, IfOk, OnErr, OnOk};
 ghost use Rattle.geometry.specs.{Geometry.hosts_of, Geometry.numbers_of, Limits.first_fault};
-ghost use Rattle.trace.specs.declared.named_file.OpenFault.{OpenFault};
+ghost use Rattle.streams.specs.declared.named_file.OpenFault.{OpenFault};
 ghost use Rattle.answers.specs.Streams.{over, stream_of};
 ghost use Rattle.player.specs.{CommandLine.numbers_given, Session.outcome_of, Session.stop_of_open};
 ghost use Rattle.player.specs.Session.{AnswersClap, EndsOn, EndsSession, Explains, HasFailedToOpen, IsOpened, OpensFiles, counted_refusals, filing, filings};

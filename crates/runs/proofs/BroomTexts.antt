@@ -6,7 +6,7 @@ use Rattle.geometry.specs.{History.Begins, declared.geometry.Geometry.Geometry}
 use Rattle.trace.specs.{Trace.commands_of, declared.commands.Command.Command}
 use Rattle.answers.specs.{Answers.broom_names, Delivery.IsUnderWay}
 use Rattle.answers.proofs.{Deliveries.IsUnderWay-more, Deliveries.IsUnderWay-trans, Texts.flat_map_begins, Texts.flat_map_more}
-use Rattle.workers.specs.{Served.AllHaveServed, declared.collector_end.CollectorEnd.CollectorEnd}
+use Rattle.workers.specs.{Served.AllHaveServed, declared.collector.collector_end.CollectorEnd.CollectorEnd}
 use Rattle.runs.specs.Brooms.{IsBroomLogOf, brooms_before, brooms_text, end_line, line_of_broom}
 
 pub brooms_none : (ends : List CollectorEnd) → brooms_before ends 0 ≡ broom_names

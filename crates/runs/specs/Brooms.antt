@@ -4,7 +4,7 @@ use Rattle.std.specs.{Option.option_map_or, List.flat_map, List.range_with_len}
 use Rattle.geometry.specs.declared.geometry.Geometry.{Geometry}
 use Rattle.trace.specs.{Trace.commands_of, declared.commands.Command.Command}
 use Rattle.answers.specs.{Answers.broom_line, Answers.broom_names, declared.broom_line.BroomLine.BroomLine}
-use Rattle.workers.specs.{Served.AllHaveServed, declared.collector_end.CollectorEnd.CollectorEnd, declared.tally.Tally.Tally}
+use Rattle.workers.specs.{Served.AllHaveServed, declared.collector.collector_end.CollectorEnd.CollectorEnd, declared.collector.tally.Tally.Tally}
 
 -- what a line has for a broom: its number, and each of its counts
 abbrev pub counts_of : ℕ → Tally → BroomLine

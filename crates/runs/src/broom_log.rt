@@ -7,7 +7,7 @@ use answers::{BroomLine, Lines, OutputFailed};
 use geometry::Geometry;
 use std::alloc::{AllocError, Global};
 use std::io::Write;
-use trace::Watched;
+use streams::Watched;
 use workers::{CollectorEnd, Tally};
 
 /// Room for a log, if one is wanted.

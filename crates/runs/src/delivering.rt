@@ -15,7 +15,8 @@ use geometry::Geometry;
 use rounds::{Answers, Cursor, Kind};
 use std::alloc::{AllocError, Global};
 use std::io::Write;
-use trace::{Command, Commands, Op, Watched};
+use streams::Watched;
+use trace::{Command, Commands, Op};
 
 impl Delivery {
     /// The room for a run on a device of this geometry.

@@ -2,7 +2,7 @@ ghost use Rattle.std.specs.Prelude.{◌≡◌, ◌≢◌, ◌+◌, ◌*◌, ◌<
 ghost use Rattle.std.specs.List.{fold};
 ghost use Rattle.geometry.specs.{Geometry.blocks_of, Geometry.page_bytes_of, Geometry.sectors_of, History.step, Sectors.sector_at};
 ghost use Rattle.ftl_one.specs.OneFtl.{geometry_of, array_of, stock_of};
-ghost use Rattle.trace.specs.Watched.{failures_of};
+ghost use Rattle.streams.specs.Watched.{failures_of};
 ghost use Rattle.trace.specs.declared.commands.Op.TheVariants as ops;
 ghost use Rattle.answers.specs.{Answers.calls_of, Answers.found_text, Answers.line_text, Answers.wear_names, Lines.page_digits_of, Lines.waiting_of};
 ghost use Rattle.answers.specs.{Playable.IsPlayable, declared.line.TheConstants.PIECE_BYTES};
@@ -15,7 +15,8 @@ use ftl_one::OneFtl;
 use geometry::Geometry;
 use std::alloc::{AllocError, Global};
 use std::io::Write;
-use trace::{Command, Op, Watched};
+use streams::Watched;
+use trace::{Command, Op};
 
 /// The room for a run: a page, and the lines that wait to be written; and how many writes were refused.
 #[derive(Drop)]

@@ -1,5 +1,5 @@
 use answers::OutputFailed;
-use trace::Watched;
+use streams::Watched;
 
 /// The files that a run writes in addition to its answers.
 #[derive(Drop)]

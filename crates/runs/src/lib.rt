@@ -22,7 +22,8 @@ pub use files::{RunFiles, RunOptions, Wanted, Written};
 pub use many_threads::{run_by_workers, run_shared};
 pub use one_thread::{run, run_with_files};
 pub use played_by_workers::PlayedByWorkers;
-pub use trace::{TraceFault, TraceFaultKind, Watched};
+pub use streams::Watched;
+pub use trace::{TraceFault, TraceFaultKind};
 pub use workers::{
     Answer, Answers, Command, Commands, Gate, Geometry, GeometryFault, Kind, NoGate, Op, Pass,
     Point, RunEnd, Volume, play,

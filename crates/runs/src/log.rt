@@ -8,7 +8,8 @@ use ftl_one::{Collection, OneFtl};
 use geometry::Geometry;
 use std::alloc::{AllocError, Global};
 use std::io::Write;
-use trace::{Op, Watched};
+use streams::Watched;
+use trace::Op;
 
 /// The log of the collections of a run.
 #[derive(Drop)]

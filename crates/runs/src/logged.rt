@@ -10,7 +10,8 @@ use crate::desk::Desk;
 use crate::log::Log;
 use ftl_one::{Collection, OneFtl};
 use std::io::Write;
-use trace::{Command, Watched};
+use streams::Watched;
+use trace::Command;
 
 /// Does a command, adds its answer line to those that wait if it is wanted, and records in the log the collection that it made.
 #[inline(always)]

@@ -1,7 +1,7 @@
 ghost use Rattle.std.specs.Prelude.{◌≡◌, ◌+◌, ◌<◌, length, IfErr, IfOk, OnErr, OnOk};
 ghost use Rattle.std.specs.Io.KnownBytes.{IsAtEnd};
 ghost use Rattle.geometry.specs.Geometry.{brooms_of, hosts_of};
-ghost use Rattle.trace.specs.Watched.{failures_of, inner_of};
+ghost use Rattle.streams.specs.Watched.{failures_of, inner_of};
 ghost use Rattle.answers.specs.{Outcome.ExplainsRun, Streams.Tells, Streams.over, Streams.stream_of};
 ghost use Rattle.runs.specs.{Brooms.IsBroomLogOf, ByWorkers.WasPlayed, Files.EndsFile, Outputs.ExplainsEnd, Outputs.IsOutputByWorkers, Texts.IsTextOf};
 
@@ -17,7 +17,7 @@ use std::io::{self, Read, Write};
 use std::sync::{Arc, Wait};
 use std::thread::Threads;
 use std::time::Clock;
-use trace::Watched;
+use streams::Watched;
 use workers::{RoundFault, play_commands};
 
 // The most threads of a round: a worker for each host, and the brooms.

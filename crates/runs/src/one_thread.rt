@@ -2,7 +2,7 @@ ghost use Rattle.std.specs.Prelude.{◌≡◌, ◌+◌, [], length, vec_len, All
 ghost use Rattle.std.specs.Io.KnownBytes.{IsAtEnd};
 ghost use Rattle.geometry.specs.{Geometry.hosts_of, Geometry.page_bytes_of, Geometry.sectors_of, History.after};
 ghost use Rattle.ftl_one.specs.{OneFtl.geometry_of, OneFtl.array_of, OneFtl.stock_of, Stock.opening};
-ghost use Rattle.trace.specs.Watched.{failures_of, inner_of};
+ghost use Rattle.streams.specs.Watched.{failures_of, inner_of};
 ghost use Rattle.answers.specs.{Answers.collection_names, Lines.waiting_of, Outcome.ExplainsRun, Playable.IsPlayable};
 ghost use Rattle.answers.specs.Streams.{Tells, WritesOut, over, stream_of};
 ghost use Rattle.runs.specs.{Collections.IsLogOf, Collections.log_text, Files.EndsFile, Files.LeavesLog, Files.LeavesText, Wear.IsStockOf, Wear.IsWearOf};
@@ -19,7 +19,8 @@ use ftl_one::OneFtl;
 use geometry::Geometry;
 use std::alloc::Global;
 use std::io::{self, Read, Write};
-use trace::{Commands, Watched};
+use streams::Watched;
+use trace::Commands;
 
 /// Plays a trace on a device for one thread, and writes its answers and the totals.
 ///

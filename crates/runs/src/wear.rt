@@ -8,7 +8,7 @@ use crate::log::Log;
 use answers::OutputFailed;
 use ftl_one::OneFtl;
 use std::io::Write;
-use trace::Watched;
+use streams::Watched;
 
 /// A device after its run, the desk, on which no line waits, and the log of its collections.
 #[derive(Drop)]

@@ -5,7 +5,7 @@ use Rattle.erase_queue.specs.Queue.{limit_of}
 use Rattle.broom.specs.declared.broom.Broom.{Broom}
 use Rattle.volume.specs.{declared.volume.Volume.Volume, Volume.queue_of}
 use Rattle.std.specs.Arc.{arc_value}
-use Rattle.workers.specs.declared.{broom_answer.BroomAnswer.BroomAnswer, collector.Collector.Collector}
+use Rattle.workers.specs.declared.collector.{broom_answer.BroomAnswer.BroomAnswer, Collector.Collector}
 use Rattle.workers.specs.{Tallies.added, Tallies.answer_adds, Tallies.total_of, Tallies.wrapped, Turns.AreTurns, Turns.IsTurn}
 use Rattle.workers.proofs.Counting.{counted_none, counted_one, counted_then, exact_none, exact_one, exact_then, wrapped_sum}
 use Rattle.workers.proofs.{Grown.calls_grown, Listed.calls_listed}

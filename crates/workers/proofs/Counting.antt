@@ -2,7 +2,7 @@
 use Rattle.std.proofs.Common.{◌≡◌, ℕ, ◌+◌, List, [], ◌∷◌, ◌++◌, sym, ap, ◌∙◌, add-zero, arith}
 use Rattle.std.specs.Prelude.{◌%◌, ◌^◌}
 use Rattle.std.proofs.Math.Nat.{mod-add-mod, mod-mod}
-use Rattle.workers.specs.declared.{broom_answer.BroomAnswer.BroomAnswer, tally.Tally.Tally}
+use Rattle.workers.specs.declared.collector.{broom_answer.BroomAnswer.BroomAnswer, tally.Tally.Tally}
 use Rattle.workers.specs.Tallies.{IsCounted, added, answer_adds, nothing_done, total_of, wrapped}
 
 -- a sum modulo m, where its first part is another one modulo m

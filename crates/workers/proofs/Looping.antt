@@ -19,7 +19,7 @@ use Rattle.rounds.specs.{Meetings.AreTied, Meetings.HaveMet, Rows.RoundAnswered,
 use Rattle.rounds.specs.Merging.{is_meet, lines_for, line_count, rows_after, rounds_of}
 use Rattle.rounds.proofs.{Meetings.tied_again, Runs.run_is_text, Planning.places_from-append}
 use Rattle.rounds.proofs.Chains.{flat, flat-append, lines_for-append, line_count-append, rows_count, round_answered, rounds_same, rounds_push, rounds_go_on}
-use Rattle.workers.specs.declared.{round_limits.RoundLimits.RoundLimits, worker.Worker.Worker}
+use Rattle.workers.specs.declared.worker.{round_limits.RoundLimits.RoundLimits, Worker.Worker}
 use Rattle.workers.specs.Workers.{HasPlayed, answered, is_before, round_lines}
 use Rattle.workers.specs.Runs.{RoundPlayed, AreManned, IsDealt, HasBegun, HasEnded, HasRun, answers_of, denied_by, rows_of}
 use Rattle.workers.proofs.{Meeting.ready_at, Cursors.front_is, Manned.played_long, Manned.played_at, Manned.rests_long, Manned.rest_at}

@@ -9,7 +9,7 @@ use Rattle.flash_table.specs.{declared.pass.Pass.Pass, Flash.view_of}
 use Rattle.trace.specs.declared.commands.Command.{Command}
 use Rattle.rounds.specs.{Lines.Said, Playing.Played, Answers.said_in}
 use Rattle.volume.specs.declared.volume.Volume.{Volume}
-use Rattle.workers.specs.declared.{round_limits.RoundLimits.RoundLimits, worker.Worker.Worker}
+use Rattle.workers.specs.declared.worker.{round_limits.RoundLimits.RoundLimits, Worker.Worker}
 use Rattle.workers.specs.Meetings.{AreSeated, Rest, passes_of, rest_of}
 use Rattle.workers.specs.Workers.{HasPlayed, IsIdle, answered, round_lines}
 use Rattle.workers.specs.{Tasks.HavePlayed, Runs.AreManned, Playable.HasAnswered, Playable.added, Playable.lines_at}

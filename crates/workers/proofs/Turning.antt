@@ -5,12 +5,12 @@ use Rattle.std.specs.{Prelude.◌||◌, List.flat_map, List.list_any}
 use mathlib.Core.Bool.{true≢false}
 use Rattle.std.proofs.lemmas.List.{length-append, Folds.list_any-append, Concat.flat_map-append}
 use Rattle.broom.specs.{contracts.answer.DrainPartialEq.TheImpl.eq-value, declared.answer.Drain.Drain, declared.answer.Erase.Erase}
-use Rattle.workers.specs.declared.{broom_answer.BroomAnswer.BroomAnswer, collector.Collector.Collector}
+use Rattle.workers.specs.declared.collector.{broom_answer.BroomAnswer.BroomAnswer, Collector.Collector}
 use Rattle.workers.specs.Collecting.{HasCollectedBy, HasFollowed, HasSearched, HasTakenTurn}
 use Rattle.workers.specs.Turns.{Follows, GoesOn, TurnDrain, by_last_survey, by_new_survey, found_no_spare, has_drained, has_erased, has_gained, is_last}
 use Rattle.workers.proofs.Collected.{collected_by_then}
 use Rattle.broom.specs.declared.answer.Drain.TheVariants as drain
-use Rattle.workers.specs.declared.broom_answer.BroomAnswer.TheVariants as by
+use Rattle.workers.specs.declared.collector.broom_answer.BroomAnswer.TheVariants as by
 
 -- the drain behind which another one comes
 abbrev last_of : TurnDrain → List TurnDrain → TurnDrain

@@ -11,8 +11,8 @@ use Rattle.broom.specs.Ready.{view_of_broom}
 use Rattle.broom.specs.Restocking.{RestockTold}
 use Rattle.broom.specs.Told.{KeepsSurvey}
 use Rattle.volume.specs.Volume.{queue_of}
-use Rattle.workers.specs.declared.broom_answer.BroomAnswer.{BroomAnswer}
-use Rattle.workers.specs.declared.broom_answer.BroomAnswer.TheVariants as by
+use Rattle.workers.specs.declared.collector.broom_answer.BroomAnswer.{BroomAnswer}
+use Rattle.workers.specs.declared.collector.broom_answer.BroomAnswer.TheVariants as by
 use Rattle.workers.specs.declared.collector.Collector.{Collector}
 use Rattle.workers.specs.Growing.{GrowsBy, HasGrown, busy_in, stale_in}
 use Rattle.workers.specs.Tallies.{IsCounted, added, total_of, wrapped}

@@ -5,7 +5,7 @@ use Rattle.broom.specs.Ends.{folded_place, folded_view}
 use Rattle.broom.specs.Handing.{LeftAt}
 use Rattle.broom.specs.Ready.{blocks_of_broom, view_of_broom}
 use Rattle.workers.specs.declared.collector.Collector.{Collector}
-use Rattle.workers.specs.declared.collector_end.CollectorEnd.{CollectorEnd}
+use Rattle.workers.specs.declared.collector.collector_end.CollectorEnd.{CollectorEnd}
 use Rattle.workers.specs.Collecting.{limit_at}
 
 -- A broom was given up, and its tally kept. The blocks that it had are closed. What it had set aside was put into the queue, or the queue

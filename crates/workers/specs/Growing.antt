@@ -1,7 +1,7 @@
 -- What a broom knows to have done, as its calls are counted.
 use Rattle.std.specs.Prelude.{◌≡◌, ℕ, ◌+◌, List, ◌++◌, length}
 use Rattle.flash_rule.specs.declared.view.View.{View}
-use Rattle.workers.specs.declared.tally.Tally.{Tally}
+use Rattle.workers.specs.declared.collector.tally.Tally.{Tally}
 
 -- the list has this many entries more
 abbrev pub GrowsBy : {X : Type 0} → ℕ → List X → List X → Type 0

@@ -13,8 +13,8 @@ use Rattle.volume.specs.declared.volume.Volume.{Volume}
 use Rattle.volume.specs.Brooms.{IsUnused}
 use Rattle.volume.specs.Volume.{flash_of}
 use Rattle.workers.specs.declared.collector.Collector.{Collector}
-use Rattle.workers.specs.declared.collector_end.CollectorEnd.{CollectorEnd}
-use Rattle.workers.specs.declared.tally.Tally.{Tally}
+use Rattle.workers.specs.declared.collector.collector_end.CollectorEnd.{CollectorEnd}
+use Rattle.workers.specs.declared.collector.tally.Tally.{Tally}
 use Rattle.workers.specs.Collecting.{HasCollected, limit_at, listed_by_erases}
 use Rattle.workers.specs.Folding.{HasFolded}
 use Rattle.workers.specs.Growing.{busy_in, stale_in}

@@ -10,7 +10,7 @@ use Rattle.rounds.specs.Answers.{said_in}
 use Rattle.volume.specs.declared.volume.Volume.{Volume}
 use Rattle.rounds.specs.Plans.{places_for}
 use Rattle.workers.specs.declared.worker.Worker.{Worker}
-use Rattle.workers.specs.declared.share.Share.{Share}
+use Rattle.workers.specs.declared.worker.share.Share.{Share}
 use Rattle.workers.specs.Dealing.{IsFit}
 
 -- the commands of a trace, and the indexes of the share's lines among them

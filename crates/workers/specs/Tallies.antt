@@ -5,9 +5,9 @@ use Rattle.broom.specs.declared.answer.Drain.{Drain}
 use Rattle.broom.specs.declared.answer.Drain.TheVariants as drain
 use Rattle.broom.specs.declared.answer.Erase.{Erase}
 use Rattle.broom.specs.declared.answer.Erase.TheVariants as erase
-use Rattle.workers.specs.declared.broom_answer.BroomAnswer.{BroomAnswer}
-use Rattle.workers.specs.declared.broom_answer.BroomAnswer.TheVariants as by
-use Rattle.workers.specs.declared.tally.Tally.{Tally}
+use Rattle.workers.specs.declared.collector.broom_answer.BroomAnswer.{BroomAnswer}
+use Rattle.workers.specs.declared.collector.broom_answer.BroomAnswer.TheVariants as by
+use Rattle.workers.specs.declared.collector.tally.Tally.{Tally}
 
 -- nothing was done
 abbrev pub nothing_done : Tally

@@ -3,10 +3,10 @@ use Rattle.std.specs.Prelude.{◌≡◌, ◌+◌, ◌≤◌, ◌++◌, List, [],
 use Rattle.std.specs.VecDeque.{deque_capacity, deque_len}
 use Rattle.std.specs.declared.collections.VecDeque.{VecDeque}
 use Rattle.std.specs.Global.{Global}
-use Rattle.workers.specs.declared.round_limits.RoundLimits.{RoundLimits}
+use Rattle.workers.specs.declared.worker.round_limits.RoundLimits.{RoundLimits}
 use Rattle.workers.specs.declared.worker.Worker.{Worker}
-use Rattle.workers.specs.declared.tasks.Task.{Task}
-use Rattle.workers.specs.declared.tasks.Task.TheVariants.{Idle, Playing}
+use Rattle.workers.specs.declared.worker.tasks.Task.{Task}
+use Rattle.workers.specs.declared.worker.tasks.Task.TheVariants.{Idle, Playing}
 use Rattle.workers.specs.Workers.{HasPlayed}
 
 -- a worker, and the limits of its round

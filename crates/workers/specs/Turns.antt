@@ -5,8 +5,8 @@ use Rattle.broom.specs.declared.answer.Drain.{Drain}
 use Rattle.broom.specs.declared.answer.Drain.TheVariants as drain
 use Rattle.broom.specs.declared.answer.Erase.{Erase}
 use Rattle.broom.specs.declared.answer.Erase.TheVariants as erase
-use Rattle.workers.specs.declared.broom_answer.BroomAnswer.{BroomAnswer}
-use Rattle.workers.specs.declared.broom_answer.BroomAnswer.TheVariants as by
+use Rattle.workers.specs.declared.collector.broom_answer.BroomAnswer.{BroomAnswer}
+use Rattle.workers.specs.declared.collector.broom_answer.BroomAnswer.TheVariants as by
 
 -- whether no other drain by the same survey follows a drain with this result: there was nothing to gain, or no spare
 abbrev pub is_last : Drain → Bool

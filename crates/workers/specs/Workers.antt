@@ -10,7 +10,7 @@ use Rattle.rounds.specs.Answers.{said_in}
 use Rattle.rounds.specs.declared.answer_list.Answers.{Answers}
 use Rattle.rounds.specs.Playing.{Played}
 use Rattle.workers.specs.Playable.{HasAnswered, added, lines_at}
-use Rattle.workers.specs.declared.round_limits.RoundLimits.{RoundLimits}
+use Rattle.workers.specs.declared.worker.round_limits.RoundLimits.{RoundLimits}
 use Rattle.workers.specs.declared.worker.Worker.{Worker}
 
 -- the answers of a worker's lines so far

@@ -9,8 +9,14 @@ ghost use Rattle.broom.specs.Ready.{blocks_of_broom, view_of_broom};
 ghost use Rattle.volume.specs.Volume.{queue_of};
 ghost use Rattle.volume.specs.Brooms.{IsBroomReady, IsBroomReady-prop};
 
-use crate::collector_end::CollectorEnd;
-use crate::tally::Tally;
+pub(crate) mod broom_answer;
+pub(crate) mod broom_thread;
+pub(crate) mod collecting;
+pub(crate) mod collector_end;
+pub(crate) mod tally;
+
+use crate::collector::collector_end::CollectorEnd;
+use crate::collector::tally::Tally;
 use broom::Broom;
 use std::alloc::Global;
 use std::sync::{Arc, Wait};

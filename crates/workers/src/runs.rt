@@ -6,11 +6,14 @@ ghost use Rattle.workers.specs.Runs.{RoundPlayed, AreManned, EndsRun};
 ghost use Rattle.workers.specs.Tasks.{HavePlayed};
 ghost use Rattle.workers.specs.Workers.{IsIdle};
 
+pub(crate) mod commands;
+pub(crate) mod run_end;
+
 use crate::fault::RoundFault;
-use crate::meetings::meet_all;
-use crate::round_limits::RoundLimits;
 use crate::team::{Team, play_workers};
 use crate::worker::Worker;
+use crate::worker::meetings::meet_all;
+use crate::worker::round_limits::RoundLimits;
 use flash_table::Gate;
 use std::sync::Wait;
 use std::thread::Threads;

@@ -6,12 +6,17 @@ ghost use Rattle.workers.specs.Collecting.{HaveCollected};
 ghost use Rattle.workers.specs.BroomThreads.{given_to};
 ghost use Rattle.workers.specs.Tasks.{asked, HaveGone, HaveSetOut, WerePlayed, HavePlayed};
 
-use crate::broom_thread::{BroomThread, join_collector, start_collector};
+pub(crate) mod dealing;
+pub(crate) mod leaving;
+pub(crate) mod opening;
+pub(crate) mod unseated;
+
 use crate::collector::Collector;
+use crate::collector::broom_thread::{BroomThread, join_collector, start_collector};
 use crate::fault::RoundFault;
-use crate::round_limits::RoundLimits;
-use crate::tasks::{Task, join_worker, start_worker};
 use crate::worker::Worker;
+use crate::worker::round_limits::RoundLimits;
+use crate::worker::tasks::{Task, join_worker, start_worker};
 use flash_table::Gate;
 use std::alloc::{AllocError, Global};
 use std::collections::VecDeque;

@@ -3,6 +3,13 @@ ghost use Rattle.std.specs.Prelude.{◌≡◌};
 ghost use Rattle.std.specs.Arc.{arc_value};
 ghost use Rattle.workers.specs.Able.{IsAble, IsAble-prop};
 
+pub(crate) mod meetings;
+pub(crate) mod playing;
+pub(crate) mod plays;
+pub(crate) mod round_limits;
+pub(crate) mod share;
+pub(crate) mod tasks;
+
 use flash_table::Pass;
 use rounds::Answers;
 use std::alloc::Global;

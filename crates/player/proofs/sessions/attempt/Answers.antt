@@ -27,11 +27,3 @@ returns-in-Err-device g c = (
   (refl, refl),
   (refl, refl),
 )
-
-pub returns-in-Err : goal.returns-in-Err
-returns-in-Err g c =
-    from_refusal _ c.in-Err.error
-    (over g.R.Read.remaining c.args.reader.now c.args.reader.now)
-    (over g.W.Write.contents c.args.writer.now c.refuse.new.writer)
-    (filings g.F.NamedFile.opened_as g.F.NamedFile.refused_as g.F.Write.contents c.args.files.now c.args.files.now)
-    c.in-Err.ensures.outcome refl (refl, refl) c.refuse.result c.refuse.ensures

@@ -7,9 +7,6 @@ use Rattle.player.proofs.RunTexts.{one_left, one_log, one_run, one_text, one_why
 use Rattle.player.specs.declared.refusal.Refusal.TheVariants as refusal
 use Rattle.player.proofs.sessions.play_alone.Goals as goal
 
-pub returns-in-Err : goal.returns-in-Err
-returns-in-Err g c = not_opened _ _ _ _ _ _ c.in-Err.ensures (refl, refl)
-
 pub returns-in-Ok : goal.returns-in-Ok
 returns-in-Ok g c =
     let geo = c.args.geometry.now in
@@ -38,23 +35,3 @@ returns-in-Ok g c =
       run = one_run given geo start _ files.collections.stream c.in-Ok.written.refused c.requires told.refused;
     })
     log wear (sym c.if_counted-count.ensures) (sym (ap refusal_by c.requires)))
-
-pub returns-in-Err-run_with_files : goal.returns-in-Err-run_with_files
-returns-in-Err-run_with_files g c =
-    let geo = c.args.geometry.now in
-    let given = c.args.given in
-    let opens = c.in_default.ensures in
-    let told = c.in-Err-run_with_files.ensures in
-    let fault = c.in-Err-run_with_files.fault in
-    let stream = stream_of g.F.Write.contents in
-    let mid = c.open_files.new.files in (
-      one_why given geo fault
-          (over g.R.Read.remaining c.args.reader.now c.run_with_files.new.reader)
-          (over g.W.Write.contents c.args.writer.now c.run_with_files.new.writer)
-          c.requires told.why,
-      files_left fault c.is_some.result geo given (stream_of g.R.Read.remaining c.args.reader.now)
-          (filings g.F.NamedFile.opened_as g.F.NamedFile.refused_as g.F.Write.contents c.args.files.now c.run_with_files.new.files)
-          (stream mid.wear) (stream mid.collections) opens.0.1 opens.1.1 c.is_some.ensures told.no_wear
-          (one_left geo fault c.is_some.result (stream_of g.R.Read.remaining c.args.reader.now)
-          (over g.F.Write.contents mid.collections c.run_with_files.new.files.collections) c.requires told.log_left),
-    )

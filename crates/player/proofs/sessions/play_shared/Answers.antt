@@ -9,13 +9,6 @@ use Rattle.player.proofs.RunTexts.{shared_left, shared_log, shared_refusal, shar
 use Rattle.player.specs.declared.refusal.Refusal.TheVariants as refusal
 use Rattle.player.proofs.sessions.play_shared.Goals as goal
 
-pub returns-then-is_some : goal.returns-then-is_some
-returns-then-is_some g c =
-    (c.requires, refl, is_named (λ n. n.now) c.args.given.wear (sym c.is_some.ensures ∙ c.if-is_some.true), (refl, refl), (refl, refl))
-
-pub returns-in-Err : goal.returns-in-Err
-returns-in-Err g c = not_opened _ _ _ _ _ _ c.in-Err.ensures (refl, refl)
-
 pub returns-in-Ok : goal.returns-in-Ok
 returns-in-Ok g c =
     let geo = c.args.geometry.now in
@@ -48,25 +41,3 @@ returns-in-Ok g c =
           (record { before = stream mid.collections; after = files.collections.stream.after }) c.in-Ok.played) c.is_some-2.ensures told.played));
     })
     log wear (sym c.count_if_wanted-count.ensures) (shared_refusal (hosts_of geo) c.requires))
-
-pub returns-in-Err-run_by_workers : goal.returns-in-Err-run_by_workers
-returns-in-Err-run_by_workers g c =
-    let geo = c.args.geometry.now in
-    let given = c.args.given in
-    let opens = c.in_default.ensures in
-    let told = c.in-Err-run_by_workers.ensures in
-    let fault = c.in-Err-run_by_workers.fault in
-    let start = stream_of g.R.Read.remaining c.args.reader.now in
-    let stream = stream_of g.F.Write.contents in
-    let mid = c.open_files.new.files in
-    let new = record mid { collections = c.run_by_workers.new.file } in (
-      shared_why given geo fault
-          (over g.R.Read.remaining c.args.reader.now c.run_by_workers.new.reader)
-          (over g.W.Write.contents c.args.writer.now c.run_by_workers.new.writer) c.requires told.why,
-      files_left fault c.is_some-2.result geo given start (filings g.F.NamedFile.opened_as g.F.NamedFile.refused_as g.F.Write.contents c.args.files.now new)
-          (stream mid.wear) (stream mid.collections) opens.0.1 opens.1.1 c.is_some-2.ensures refl
-          (shared_left (hosts_of geo) geo fault c.is_some-2.result start (over g.F.Write.contents mid.collections new.collections) c.requires told.no_log),
-    )
-
-pub count_if_wanted-count-requires : goal.count_if_wanted-count-requires
-count_if_wanted-count-requires g c = c.in-Ok.ensures.played.answered

@@ -4,6 +4,3 @@ use Rattle.player.proofs.sessions.session.Goals as goal
 pub returns-in-Err-clause-ending : goal.returns-in-Err-clause-ending
 returns-in-Err-clause-ending g c =
     record { ending = Err c.in-Err.stop; status_is = omega (arith, c.tell.ensures.status); why = c.in-Err.ensures; told = c.tell.ensures.reported }
-
-pub returns-in-Err-clause-quiet : goal.returns-in-Err-clause-quiet
-returns-in-Err-clause-quiet g c = search rules

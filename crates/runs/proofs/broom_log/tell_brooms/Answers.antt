@@ -1,5 +1,5 @@
 use Rattle.std.proofs.Common.{◌≡◌, ◌++◌, ◌∙◌, ap, length, arith, subst}
-use Rattle.trace.specs.Watched.{inner_of}
+use Rattle.streams.specs.Watched.{inner_of}
 use Rattle.answers.specs.{Answers.broom_line, Delivery.IsUnderWay, Lines.waiting_of, Streams.stream_of}
 use Rattle.answers.proofs.Deliveries.{WritesOut-rest, WritesOut-stopped}
 use Rattle.runs.{specs.Brooms.brooms_before, specs.Brooms.brooms_text, proofs.BroomTexts.brooms_begins, proofs.BroomTexts.brooms_turn}

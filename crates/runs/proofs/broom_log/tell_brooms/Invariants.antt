@@ -1,5 +1,5 @@
 use Rattle.std.proofs.Common.{◌≡◌}
-use Rattle.trace.specs.Watched.{failures_of, inner_of}
+use Rattle.streams.specs.Watched.{failures_of, inner_of}
 use Rattle.answers.specs.{Delivery.IsUnderWay, Lines.waiting_of}
 use Rattle.runs.specs.Brooms.{brooms_before}
 use Rattle.runs.proofs.broom_log.tell_brooms.Given as goal

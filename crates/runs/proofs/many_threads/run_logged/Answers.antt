@@ -1,13 +1,14 @@
 use Rattle.std.proofs.{Common.◌≡◌, Common.◌∙◌, Common.Bool, Common.List, Common.refl, Common.subst, Common.sym, Common.arith, lemmas.Grind.common_steps}
 use Rattle.std.{proofs.lemmas.List.reverse-reverse, specs.List.All}
-use Rattle.trace.specs.{Watched.inner_of, declared.commands.Command.Command}
+use Rattle.streams.specs.Watched.{inner_of}
+use Rattle.trace.specs.declared.commands.Command.{Command}
 use Rattle.answers.specs.{Playable.IsPlayable, Streams.Sends, Streams.over, Streams.stream_of}
 use Rattle.rounds.specs.{Rows.answers_by, Answers.page_size_of, declared.answer_list.Answers.Answers}
 use Rattle.geometry.specs.Geometry.{page_bytes_of}
 use Rattle.runs.specs.{Delivering.digits_in, Outputs.written_by_workers, Brooms.IsBroomLogOf, Brooms.brooms_text, Files.EndsText}
 use Rattle.runs.proofs.{BroomTexts.brooms_right, LogTexts.ends_file}
 use Rattle.runs.proofs.Told.{all_digits, enough_answers, part_sent, renamed, renamed_meaning, some_meaning, text_sent}
-use Rattle.workers.specs.{declared.collector_end.CollectorEnd.CollectorEnd, Served.AllHaveServed}
+use Rattle.workers.specs.{declared.collector.collector_end.CollectorEnd.CollectorEnd, Served.AllHaveServed}
 use Rattle.runs.proofs.many_threads.run_logged.Goals as goal
 
 pub write_out-requires-clause-answers : goal.write_out-requires-clause-answers

@@ -1,7 +1,7 @@
 use Rattle.std.proofs.Common.{◌≡◌, ◌∙◌, ap, arith, subst}
 use Rattle.geometry.specs.Geometry.{blocks_of}
 use Rattle.ftl_one.specs.OneFtl.{geometry_of, stock_of}
-use Rattle.trace.specs.Watched.{inner_of}
+use Rattle.streams.specs.Watched.{inner_of}
 use Rattle.answers.specs.{Delivery.IsUnderWay, Lines.waiting_of, Streams.stream_of}
 use Rattle.answers.proofs.Deliveries.{WritesOut-rest, WritesOut-stopped}
 use Rattle.runs.{specs.Wear.wear_before, specs.Wear.wear_text, proofs.WearTexts.wear_begins, proofs.WearTexts.wear_turn}

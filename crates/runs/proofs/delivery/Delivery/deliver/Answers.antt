@@ -1,7 +1,7 @@
 use Rattle.std.proofs.Common.{◌+◌, List, length, vec_len, refl, get_or, drop, sym, ap, ◌∙◌, arith, subst}
 use Rattle.std.proofs.lemmas.{Grind.common_steps, List.length-map}
 use Rattle.answers.{specs.Lines.waiting_of, specs.Streams.stream_of, proofs.Deliveries.WritesOut-rest, proofs.Deliveries.WritesOut-stopped}
-use Rattle.trace.specs.Watched.{inner_of}
+use Rattle.streams.specs.Watched.{inner_of}
 use Rattle.rounds.specs.{Rows.answers_by, Answers.place_of, declared.answer_list.Cursor.Cursor}
 use Rattle.runs.specs.Delivering.{AreAt, digits_in, passed_in, text_of, HasDigits}
 use Rattle.runs.proofs.Deliveries.{delivery_turn, delivery_whole, text_before, text_begins}

@@ -1,5 +1,5 @@
 use Rattle.std.proofs.Common.{refl}
-use Rattle.workers.specs.declared.broom_answer.BroomAnswer.TheVariants as by
+use Rattle.workers.specs.declared.collector.broom_answer.BroomAnswer.TheVariants as by
 use Rattle.workers.proofs.Collected.{collected_one}
 use Rattle.workers.proofs.collector.Collector.restock.Goals as goal
 

@@ -1,9 +1,6 @@
 use Rattle.workers.proofs.Turning.{searched_dead, searched_found}
 use Rattle.workers.proofs.collector.Collector.search.Goals as goal
 
-pub returns-then-restock : goal.returns-then-restock
-returns-then-restock g c = searched_found c.args.self.now c.restock.new.self c.restock.result c.if-restock.true c.restock.ensures
-
 pub returns : goal.returns
 returns g c =
     searched_dead c.args.self.now c.restock.new.self c.drain_dead-drain.new.self c.restock.result c.drain_dead-drain.result c.has_drained.result

@@ -21,9 +21,3 @@ loop-made-preserved g c =
     next_drain c.args.self.now c.loop-made.self c.drain_next-drain.new.self c.follow.new.self c.loop-made._made c.loop-made.drain c.drain_next-drain.result
     c.drain_next-drain.ensures.0 c.loop-made.gained c.follow.result c.if-follow.gained c.loop-made.invariant
     (sym c.is_last.ensures ∙ c.if-is_last.false) (omega (arith, drains, low)) c.drain_next-drain.ensures.1 c.follow.ensures now
-
-pub returns-after-loop-made : goal.returns-after-loop-made
-returns-after-loop-made g c = turn_done c.args.self.now c.loop-made.self c.loop-made._made c.loop-made.drain c.loop-made.gained c.loop-made.invariant
-
-pub returns-then-is_last : goal.returns-then-is_last
-returns-then-is_last g c = turn_done c.args.self.now c.loop-made.self c.loop-made._made c.loop-made.drain c.loop-made.gained c.loop-made.invariant

@@ -2,7 +2,6 @@ use Rattle.std.proofs.Common.{◌≡◌, ℕ, ◌<◌, ◌≤◌, All, List, len
 use Rattle.std.proofs.lemmas.List.{with_items_is}
 use Rattle.std.specs.{Arc.arc_value, Vec.with_items, List.slice_range}
 use Rattle.flash_table.specs.Flash.{view_of, geometry_of}
-use Rattle.geometry.specs.Geometry.{page_bytes_of}
 use Rattle.host.specs.Ready.{IsReady}
 use Rattle.trace.specs.declared.commands.Command.{Command}
 use Rattle.rounds.specs.{Answers.HasSpaceFor, Playing.Played}
@@ -12,11 +11,6 @@ use Rattle.workers.proofs.{Cursors.All-part, Able.able_again, Able.range_is, Abl
 use Rattle.workers.proofs.worker.Worker.play_before.{Given.Over, Goals.After-deref-4}
 use Rattle.workers.proofs.worker.Worker.play_before.Goals as goal
 
-pub past-to-requires : goal.past-to-requires
-past-to-requires g c =
-    let P : List ℕ × ℕ → Type 0 = λ x. x.1 ≤ length x.0 in
-    subst P (λ i. (sym c.deref.ensures.value i, sym c.len-answered.ensures i)) c.args.self.able.within
-
 -- the places that are played are those of the round
 places_are : (g : Over) (c : After-deref-4 g)
     → slice_range c.deref-4.result.now c.len-answered.result c.past-to.result ≡ round_places c.args.limits.end c.args.self
@@ -24,24 +18,6 @@ places_are g c =
     let past = c.past-to.ensures in
     range_is c.args.limits.end c.args.self c.deref.result.now c.deref-4.result.now c.len-answered.result c.past-to.result c.deref.ensures.value
     c.deref-4.ensures.value c.len-answered.ensures past.later past.within past.before past.behind
-
-pub play_at-requires-clause-pass : goal.play_at-requires-clause-pass
-play_at-requires-clause-pass g c = subst (λ (v : Volume). IsReady (flash_of v) c.args.self.pass) (sym c.deref-2.ensures) c.args.self.able.ready
-
-pub play_at-requires-clause-there : goal.play_at-requires-clause-there
-play_at-requires-clause-there g c =
-    let worker = c.args.self in
-    let P : List Command × List ℕ → Type 0 = λ x. All (λ p. p < length x.0) x.1 in
-    subst P (λ i. (sym c.deref-3.ensures i, sym (places_are g (goal.at.play_at-requires-clause-there g c).After-deref-4) i))
-    (All-part (λ p. p < length (arc_value worker.commands)) worker.places.items (answered worker) (round_size c.args.limits.end worker) worker.able.there)
-
-pub play_at-requires-clause-buffer : goal.play_at-requires-clause-buffer
-play_at-requires-clause-buffer g c =
-    ap (length {A = ℕ}) c.deref_mut.ensures.value
-    ∙ (c.args.self.able.paged ∙ ap (λ (v : Volume). page_bytes_of (geometry_of (flash_of v))) (sym c.deref-2.ensures))
-
-pub play_at-requires-clause-page : goal.play_at-requires-clause-page
-play_at-requires-clause-page g c = c.args.self.able.page ∙ ap (λ (v : Volume). page_bytes_of (geometry_of (flash_of v))) (sym c.deref-2.ensures)
 
 pub play_at-requires-clause-lines : goal.play_at-requires-clause-lines
 play_at-requires-clause-lines g c =
