@@ -2,7 +2,7 @@
 use Rattle.std.proofs.Common.{◌≡◌, ℕ, ◌<◌, Bool, false, true, All, List, [], ◌∷◌, ◌++◌, length, Option, None, Some, IfSome, MatchOption, refl, sym, ap, ◌∙◌}
 use Rattle.std.proofs.Common.{subst, arith, get_or}
 use Rattle.std.proofs.lemmas.List.{get_or_past, length-map, FromFn.get_or-map-range_with_len}
-use Rattle.geometry.proofs.{GreedyLemmas.greedy_of-closed, Histories.Begins-refl}
+use Rattle.geometry.proofs.{Choosing.greedy_of-closed, Histories.Begins-refl}
 use mathlib.Core.Logic.{dite}
 use native.Mathlib.Decide.{dec_lt}
 use Rattle.geometry.specs.{Geometry.blocks_of, Limits.Numbers, declared.pin_word.PinWord.PinWord}

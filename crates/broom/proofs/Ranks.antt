@@ -6,7 +6,7 @@ use Rattle.std.proofs.lemmas.List.{get_or_default, get_or_past, length_push, Sor
 use mathlib.Core.Logic.{dite}
 use native.Mathlib.Decide.{dec_lt, ℕ_discrete}
 use Rattle.geometry.specs.Greedy.{greedy_of, IsClosed, IsGreedy}
-use Rattle.geometry.proofs.GreedyLemmas.{greedy_of-best, greedy_of-none}
+use Rattle.geometry.proofs.Choosing.{greedy_of-best, greedy_of-none}
 use Rattle.broom.specs.declared.ranking.{Ranking.Ranking, TheConstants.ONE_PAGE}
 use Rattle.broom.specs.Ranking.{key_of, IsKey, IsRanked, Ranks}
 

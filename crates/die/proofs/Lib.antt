@@ -1,3 +1,3 @@
-pub mod SlotLemmas
-pub mod BlockLemmas
-pub mod DieLemmas
+pub mod Cells
+pub mod Blocks
+pub mod Dies

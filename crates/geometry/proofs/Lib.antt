@@ -1,4 +1,4 @@
 pub mod Histories
 mod PageWords
 pub mod PinBits
-pub mod GreedyLemmas
+pub mod Choosing

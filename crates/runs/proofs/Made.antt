@@ -3,8 +3,8 @@ use Rattle.std.proofs.Common.{◌≡◌, ℕ, ◌+◌, Bool, true, false, cond, 
 use Rattle.std.{specs.Prelude.unwrap_or, specs.Option.option_and_then, specs.Option.option_map_or, proofs.lemmas.Bool.Decides.nat_tests}
 use Rattle.geometry.specs.{Geometry.endurance_of, Geometry.pages_of, History.Trim, History.Write, History.WriteNew, declared.geometry.Geometry.Geometry}
 use Rattle.ftl_one.specs.{Collections.collection_between, Collections.collection_due, Stock.Stock, Stock.has_page, Stock.next, Stock.ready, Stock.write_of}
-use Rattle.ftl_one.{specs.declared.collection.Collection.Collection, proofs.CollectionLemmas.between_nothing, proofs.CollectionLemmas.write-makes}
-use Rattle.ftl_one.proofs.{Current.next_empty, Current.next_written, LawLemmas.map-erases, LawLemmas.nothing_same, LawLemmas.write-programs}
+use Rattle.ftl_one.{specs.declared.collection.Collection.Collection, proofs.Collections.between_nothing, proofs.Collections.write-makes}
+use Rattle.ftl_one.proofs.{Current.next_empty, Current.next_written, Laws.map-erases, Laws.nothing_same, Laws.write-programs}
 use Rattle.trace.specs.declared.commands.{Command.Command, Op.Op}
 use Rattle.trace.specs.declared.commands.Op.TheVariants as op
 use Rattle.answers.specs.Answers.{call_by}

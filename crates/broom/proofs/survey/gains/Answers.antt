@@ -1,7 +1,7 @@
 use Rattle.std.proofs.Common.{◌≡◌, ℕ, Option, Some, IfSome, sym, ap, ◌∙◌, subst, arith, get_or}
 use Rattle.std.proofs.lemmas.{Grind.common_steps, List.get_or_default}
 use Rattle.geometry.specs.{Geometry.pages_of, Limits.Numbers}
-use Rattle.geometry.proofs.GreedyLemmas.{greedy_of-closed}
+use Rattle.geometry.proofs.Choosing.{greedy_of-closed}
 use Rattle.broom.specs.{Ready.view_of_broom, Told.next_of, Told.counts_kept}
 use Rattle.broom.proofs.{Choosing.next_low, survey.gains.Goals.In-Some}
 use Rattle.broom.proofs.survey.gains.Goals as goal

@@ -1,5 +1,5 @@
 use Rattle.std.proofs.Common.{refl}
-use Rattle.ftl_one.proofs.FewestLemmas.{IsLeast-more}
+use Rattle.ftl_one.proofs.Choosing.{IsLeast-more}
 use Rattle.ftl_one.proofs.fewest.least_of.Goals as goal
 
 pub loop-i-preserved : goal.loop-i-preserved

@@ -1,6 +1,6 @@
 use Rattle.std.proofs.Common.{◌≡◌, ◌∙◌, ◌-◌, ℕ, List, length, take, drop, sym, ap, arith, length-drop}
 use Rattle.std.{specs.List.position, proofs.lemmas.List.take_all}
-use Rattle.ftl_one.{specs.declared.role.Role.Role, specs.Stock.is_free, proofs.FtlLemmas.position_from, proofs.FtlLemmas.position_from-none}
+use Rattle.ftl_one.{specs.declared.role.Role.Role, specs.Stock.is_free, proofs.Layers.position_from, proofs.Layers.position_from-none}
 use Rattle.ftl_one.proofs.roles.lowest_free.Goals as goal
 
 -- the roles from a place on

@@ -1,5 +1,5 @@
 use Rattle.std.proofs.Common.{◌≡◌, ℕ, length, subst, arith}
-use Rattle.geometry.proofs.GreedyLemmas.{BestBelow, greedy_of-all}
+use Rattle.geometry.proofs.Choosing.{BestBelow, greedy_of-all}
 use Rattle.geometry.proofs.victim.greedy.Goals as goal
 
 pub returns-clause-value : goal.returns-clause-value

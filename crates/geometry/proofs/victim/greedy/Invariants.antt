@@ -1,4 +1,4 @@
-use Rattle.geometry.proofs.GreedyLemmas.{BestBelow}
+use Rattle.geometry.proofs.Choosing.{BestBelow}
 use Rattle.geometry.proofs.victim.greedy.Given as goal
 
 abbrev pub invariant-loop-i : goal.invariant-loop-i

@@ -1,4 +1,4 @@
-use Rattle.geometry.proofs.GreedyLemmas.{greedy_of-closed, greedy_of-least}
+use Rattle.geometry.proofs.Choosing.{greedy_of-closed, greedy_of-least}
 use Rattle.broom.specs.Survey.{closed_of, counts_of}
 use Rattle.laws.proofs.SurveyRows.{as_long}
 use Rattle.laws.proofs.brooms.a_drain_and_its_survey.Goals as goal

@@ -1,6 +1,6 @@
 use Rattle.std.proofs.Common.{◌≡◌, ℕ, zero, suc, Bool, true, false, List, [], ◌∷◌, length, refl, sym, ap, ◌∙◌, subst, length-set}
 use Rattle.std.{specs.Prelude.slice_index_or, specs.Prelude.slice_set, proofs.lemmas.Bool.false≢true}
-use Rattle.geometry.proofs.GreedyLemmas.{greedy_of-closed}
+use Rattle.geometry.proofs.Choosing.{greedy_of-closed}
 use Rattle.broom.specs.{Ready.marks_of, Survey.closed_of, Told.counts_kept, declared.broom.Broom.Broom}
 use Rattle.laws.proofs.SurveyRows.{as_long}
 use Rattle.laws.proofs.brooms.marks_of_a_survey.Goals as goal

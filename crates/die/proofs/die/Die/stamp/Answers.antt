@@ -1,5 +1,5 @@
 use Rattle.std.proofs.{Common.◌∙◌, Common.ℕ, Common.get_or, Common.ap, Common.sym, Common.arith, lemmas.List.get_or_read}
-use Rattle.die.{specs.Pages.Page, specs.Storage.stored, proofs.DieLemmas.pages_within, proofs.DieLemmas.page-stored}
+use Rattle.die.{specs.Pages.Page, specs.Storage.stored, proofs.Dies.pages_within, proofs.Dies.page-stored}
 use Rattle.die.proofs.die.Die.stamp.Goals as goal
 
 pub place_of-requires-clause-page : goal.place_of-requires-clause-page

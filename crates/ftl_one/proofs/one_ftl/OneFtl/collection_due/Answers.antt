@@ -1,8 +1,8 @@
 use Rattle.std.proofs.Common.{◌∙◌, false, None, Some, sym, ap, refl}
 use Rattle.std.specs.{Prelude.option_map, List.position}
 use Rattle.ftl_one.specs.{Stock.free_of, Stock.is_free, Stock.spare_of, OneFtl.geometry_of, OneFtl.stock_of}
-use Rattle.ftl_one.{specs.Collections.collection_into, proofs.FtlLemmas.open_of-stock, proofs.FtlLemmas.free_of-stock, proofs.FtlLemmas.spare_of-stock}
-use Rattle.ftl_one.proofs.CollectionLemmas.{due_free, due_is, due_open, none_of}
+use Rattle.ftl_one.{specs.Collections.collection_into, proofs.Layers.open_of-stock, proofs.Layers.free_of-stock, proofs.Layers.spare_of-stock}
+use Rattle.ftl_one.proofs.Collections.{due_free, due_is, due_open, none_of}
 use Rattle.ftl_one.proofs.one_ftl.OneFtl.collection_due.Goals as goal
 
 pub returns-then-is_some : goal.returns-then-is_some

@@ -1,5 +1,5 @@
 use Rattle.std.proofs.Common.{◌∙◌, sym, ap}
-use Rattle.ftl_one.{specs.OneFtl.geometry_of, specs.Stock.Block, proofs.FtlLemmas.block_at-stock}
+use Rattle.ftl_one.{specs.OneFtl.geometry_of, specs.Stock.Block, proofs.Layers.block_at-stock}
 use Rattle.ftl_one.proofs.one_ftl.OneFtl.erases.Goals as goal
 
 pub returns : goal.returns

@@ -1,6 +1,6 @@
 use Rattle.std.proofs.{Common.◌≡◌, Common.◌∙◌, Common.get_or, Common.sym, Common.ap, Common.arith, lemmas.Grind.common_steps}
 use Rattle.ftl_one.specs.{OneFtl.geometry_of, OneFtl.stock_of, Store.counts_of, Laws.block_at, Stock.live_of}
-use Rattle.ftl_one.proofs.{StoreLemmas.count-entries_of, FtlLemmas.block_at-stock}
+use Rattle.ftl_one.proofs.{Stores.count-entries_of, Layers.block_at-stock}
 use Rattle.ftl_one.proofs.one_ftl.OneFtl.live.Goals as goal
 
 pub returns : goal.returns

@@ -2,7 +2,7 @@ use Rattle.std.proofs.Common.{◌≡◌, ◌∙◌, ℕ, Option, None, Some, sym
 use Rattle.std.specs.List.{position}
 use Rattle.geometry.specs.Geometry.{endurance_of}
 use Rattle.ftl_one.specs.{OneFtl.geometry_of, Stock.Stock, Stock.is_free, Stock.open_of, Stock.free_of, Stock.spare_of, Stock.ready, Stock.ready_by}
-use Rattle.ftl_one.{specs.OneFtl.stock_of, proofs.FtlLemmas.open_of-stock, proofs.FtlLemmas.free_of-stock, proofs.FtlLemmas.spare_of-stock}
+use Rattle.ftl_one.{specs.OneFtl.stock_of, proofs.Layers.open_of-stock, proofs.Layers.free_of-stock, proofs.Layers.spare_of-stock}
 use Rattle.ftl_one.proofs.one_ftl.OneFtl.make_ready.Goals as goal
 
 -- what the stock is ready for, by what is open, free and spare

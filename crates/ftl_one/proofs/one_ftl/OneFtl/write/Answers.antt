@@ -2,7 +2,7 @@ use Rattle.std.proofs.Common.{◌≡◌, inl, inr, ◌∙◌, ℕ, List, Option,
 use Rattle.std.specs.Option.{option_and_then}
 use Rattle.geometry.specs.{declared.geometry.Geometry.Geometry, Geometry.pages_of, Geometry.endurance_of, History.Write}
 use Rattle.ftl_one.specs.{Stock.Stock, Stock.next, Stock.ready, Stock.write_of, OneFtl.geometry_of, OneFtl.stock_of, Laws.ErasesNothing}
-use Rattle.ftl_one.proofs.{FtlLemmas.no_spare, CollectionLemmas.write-makes, LawLemmas.nothing_same, LawLemmas.write-does}
+use Rattle.ftl_one.proofs.{Layers.no_spare, Collections.write-makes, Laws.nothing_same, Laws.write-does}
 use Rattle.ftl_one.proofs.one_ftl.OneFtl.write.Goals as goal
 use Rattle.ftl_one.proofs.one_ftl.OneFtl.write.Goals.{After-write_into}
 

@@ -3,10 +3,10 @@ use Rattle.std.proofs.{Common.arith, Common.length-set, Common.get_or-set_same, 
 use Rattle.std.proofs.lemmas.Bool.{eqb-true, eqb-false}
 use Rattle.geometry.specs.{declared.geometry.Geometry.Geometry, Geometry.blocks_of, Geometry.pages_of, Geometry.hosts_of}
 use Rattle.ftl_one.specs.{declared.role.Role.Role, Lawful.IsLawful, Lawful.role_in, Blocks.blocks_in, Blocks.weight, OneFtl.geometry_of, OneFtl.stock_of}
-use Rattle.ftl_one.{specs.declared.role.Role.TheVariants.Closed, specs.declared.role.Role.TheVariants.Retired, proofs.StoreLemmas.entries_within}
+use Rattle.ftl_one.{specs.declared.role.Role.TheVariants.Closed, specs.declared.role.Role.TheVariants.Retired, proofs.Stores.entries_within}
 use Rattle.ftl_one.specs.Stock.{Stock, Block, write_of, write_into, forget, change_at, with_page, closed_if_full, Entry, forgotten}
-use Rattle.ftl_one.proofs.LawfulLemmas.{lawful-put, lawful-close, open≢spare, closed≢spare, spare-kept}
-use Rattle.ftl_one.proofs.FtlLemmas.{blocks-put, weight-put, length-blocks, open_found, open_room, total_small, free-kept}
+use Rattle.ftl_one.proofs.Lawful.{lawful-put, lawful-close, open≢spare, closed≢spare, spare-kept}
+use Rattle.ftl_one.proofs.Layers.{blocks-put, weight-put, length-blocks, open_found, open_room, total_small, free-kept}
 use Rattle.ftl_one.specs.Store as pages
 use Rattle.ftl_one.proofs.one_ftl.OneFtl.write_into.Goals as goal
 use Rattle.ftl_one.proofs.one_ftl.OneFtl.write_into.Goals.{After-put-was, After-is_full}

@@ -1,6 +1,6 @@
 use Rattle.std.proofs.Common.{◌∙◌, ◌<◌, length, sym, arith}
-use Rattle.ftl_one.{specs.Store.entries_of, proofs.StoreLemmas.length-entries_of}
-use Rattle.ftl_one.proofs.ClearLemmas.{ClearedTo-dead, ClearedTo-live, ClearedTo-room, ClearedTo-all}
+use Rattle.ftl_one.{specs.Store.entries_of, proofs.Stores.length-entries_of}
+use Rattle.ftl_one.proofs.Clearing.{ClearedTo-dead, ClearedTo-live, ClearedTo-room, ClearedTo-all}
 use Rattle.ftl_one.proofs.store.Store.clear.Goals as goal
 use Rattle.ftl_one.proofs.store.Store.clear.Goals.{then-is_live, else-is_live}
 

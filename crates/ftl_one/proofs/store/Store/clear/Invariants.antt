@@ -1,4 +1,4 @@
-use Rattle.ftl_one.proofs.ClearLemmas.{ClearedTo}
+use Rattle.ftl_one.proofs.Clearing.{ClearedTo}
 use Rattle.ftl_one.proofs.store.Store.clear.Given as goal
 
 abbrev pub invariant-loop-page : goal.invariant-loop-page

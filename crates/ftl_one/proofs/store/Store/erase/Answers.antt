@@ -1,9 +1,9 @@
 use Rattle.std.proofs.Common.{◌≡◌, ◌∙◌, ℕ, ◌+◌, Bool, true, false, cond, eqb, List, sym, ap, refl, subst}
 use Rattle.geometry.specs.{declared.geometry.Geometry.Geometry, Geometry.blocks_of, Geometry.page_bytes_of, Geometry.endurance_of, Geometry.sectors_of}
 use Rattle.die.specs.{Die.geometry_of as die_geometry_of, Die.block_of, Pages.Block, Pages.erased}
-use Rattle.ftl_one.{specs.Stock.Entry, specs.Entries.IsMapped, specs.Entries.entries_in, specs.Entries.sectors_in, proofs.StoreLemmas.usable_block}
+use Rattle.ftl_one.{specs.Stock.Entry, specs.Entries.IsMapped, specs.Entries.entries_in, specs.Entries.sectors_in, proofs.Stores.usable_block}
 use Rattle.ftl_one.specs.Store.{array_of, entries_of, erases_of, retired_of}
-use Rattle.ftl_one.proofs.MapLemmas.{Becomes, mapped-erase, entries-erase, sectors-erase}
+use Rattle.ftl_one.proofs.Maps.{Becomes, mapped-erase, entries-erase, sectors-erase}
 use Rattle.ftl_one.proofs.store.Store.erase.Goals as goal
 
 pub erase-requires : goal.erase-requires

@@ -3,8 +3,8 @@ use Rattle.std.{specs.Vec.with_items, proofs.lemmas.List.get_or_read}
 use Rattle.geometry.specs.{declared.page_addr.PageAddr.PageAddr, Geometry.blocks_of, Geometry.page_bytes_of, Geometry.sectors_of}
 use Rattle.die.specs.Die.{geometry_of as die_geometry_of, block_of}
 use Rattle.ftl_one.specs.{Entries.Recounts, Entries.IsMapped, Entries.sectors_in, Entries.entries_in, Store.array_of, Store.entries_of}
-use Rattle.ftl_one.proofs.MapLemmas.{mapped-forget, entries-forget, sectors-set}
-use Rattle.ftl_one.proofs.StoreLemmas.{named_within, named_counted, was-named, recounted}
+use Rattle.ftl_one.proofs.Maps.{mapped-forget, entries-forget, sectors-set}
+use Rattle.ftl_one.proofs.Stores.{named_within, named_counted, was-named, recounted}
 use Rattle.ftl_one.proofs.store.Store.forget.Goals as goal
 use Rattle.ftl_one.proofs.store.Store.forget.Goals.{After-page-was, After-recount}
 

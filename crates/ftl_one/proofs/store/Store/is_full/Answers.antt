@@ -1,6 +1,6 @@
 use Rattle.std.proofs.Common.{◌∙◌, ℕ, eqb, length, ap, sym}
 use Rattle.geometry.specs.Geometry.{pages_of}
-use Rattle.ftl_one.{specs.Store.entries_of, proofs.StoreLemmas.length-entries_of}
+use Rattle.ftl_one.{specs.Store.entries_of, proofs.Stores.length-entries_of}
 use Rattle.ftl_one.proofs.store.Store.is_full.Goals as goal
 
 pub returns : goal.returns

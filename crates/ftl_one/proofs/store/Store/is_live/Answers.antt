@@ -3,7 +3,7 @@ use Rattle.std.{proofs.lemmas.List.get_or_read, specs.Option.option_eq}
 use Rattle.geometry.specs.{contracts.page_addr.PageAddrPartialEq.TheImpl.eq-value, declared.page_addr.PageAddr.PageAddr}
 use Rattle.die.specs.{Die.block_of, Pages.page_at}
 use Rattle.ftl_one.specs.{Stock.Entry, Entries.is_page}
-use Rattle.ftl_one.proofs.StoreLemmas.{size_of, programmed_page, length-entries_of, get_or-entries_of}
+use Rattle.ftl_one.proofs.Stores.{size_of, programmed_page, length-entries_of, get_or-entries_of}
 use Rattle.ftl_one.proofs.store.Store.is_live.Goals as goal
 
 pub stamp-requires : goal.stamp-requires

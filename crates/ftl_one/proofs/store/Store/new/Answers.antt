@@ -5,7 +5,7 @@ use Rattle.geometry.specs.{declared.geometry.Geometry.Geometry, declared.page_ad
 use Rattle.geometry.specs.Geometry.{blocks_of, page_bytes_of, sectors_of}
 use Rattle.die.specs.{Die.geometry_of as die_geometry_of, Die.block_of, Pages.Block, Pages.new_block}
 use Rattle.ftl_one.specs.Entries.{IsMapped, entries_in, sectors_in, value_in, live_count}
-use Rattle.ftl_one.{specs.Store.array_of, specs.Store.entries_of, specs.Store.erases_of, specs.Store.retired_of, proofs.EntryLemmas.length-entries}
+use Rattle.ftl_one.{specs.Store.array_of, specs.Store.entries_of, specs.Store.erases_of, specs.Store.retired_of, proofs.Entries.length-entries}
 use Rattle.ftl_one.proofs.store.Store.new.Goals as goal
 use Rattle.ftl_one.proofs.store.Store.new.Goals.{In_ok-vec-3}
 

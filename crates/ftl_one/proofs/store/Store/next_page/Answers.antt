@@ -1,5 +1,5 @@
 use Rattle.std.proofs.Common.{◌∙◌, sym}
-use Rattle.ftl_one.proofs.StoreLemmas.{length-entries_of}
+use Rattle.ftl_one.proofs.Stores.{length-entries_of}
 use Rattle.ftl_one.proofs.store.Store.next_page.Goals as goal
 
 pub returns-clause-page : goal.returns-clause-page

@@ -2,7 +2,7 @@ use Rattle.std.proofs.Common.{◌≡◌, ◌∙◌, get_or, Option, None, Some, 
 use Rattle.std.{proofs.lemmas.List.get_or_read, specs.Option.option_map}
 use Rattle.geometry.specs.declared.page_addr.PageAddr.{PageAddr}
 use Rattle.die.specs.Die.{block_of}
-use Rattle.ftl_one.{specs.Entries.value_in, specs.Store.array_of, proofs.MapLemmas.sector-at, proofs.StoreLemmas.size_of}
+use Rattle.ftl_one.{specs.Entries.value_in, specs.Store.array_of, proofs.Maps.sector-at, proofs.Stores.size_of}
 use Rattle.ftl_one.proofs.store.Store.page.Goals as goal
 use Rattle.ftl_one.proofs.store.Store.page.Goals.{After-index}
 

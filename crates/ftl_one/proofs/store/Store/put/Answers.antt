@@ -2,9 +2,9 @@ use Rattle.std.proofs.Common.{◌≡◌, ◌∙◌, ℕ, List, get_or, set, Opti
 use Rattle.std.{specs.Vec.with_items, proofs.lemmas.List.get_or_read}
 use Rattle.geometry.specs.{declared.page_addr.PageAddr.PageAddr, Geometry.blocks_of, Geometry.page_bytes_of, Geometry.sectors_of}
 use Rattle.die.specs.{Die.geometry_of as die_geometry_of, Die.block_of, Die.IsNext, Pages.Page}
-use Rattle.ftl_one.{specs.Stock.Entry, specs.Store.retired_of, proofs.StoreLemmas.put-others, proofs.StoreLemmas.put-erases, proofs.StoreLemmas.put-retired}
+use Rattle.ftl_one.{specs.Stock.Entry, specs.Store.retired_of, proofs.Stores.put-others, proofs.Stores.put-erases, proofs.Stores.put-retired}
 use Rattle.ftl_one.specs.{Entries.Recounts, Entries.IsMapped, Entries.sectors_in, Entries.entries_in, Store.array_of, Store.entries_of, Store.erases_of}
-use Rattle.ftl_one.proofs.StoreLemmas.{next_of_block, count_small, named_within, named_counted, was-named, recounted, put-mapped, put-sectors, put-changed}
+use Rattle.ftl_one.proofs.Stores.{next_of_block, count_small, named_within, named_counted, was-named, recounted, put-mapped, put-sectors, put-changed}
 use Rattle.ftl_one.proofs.store.Store.put.Goals as goal
 use Rattle.ftl_one.proofs.store.Store.put.Goals.{After-next_page-at, After-page-was, After-recount}
 

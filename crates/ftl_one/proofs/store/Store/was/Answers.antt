@@ -1,5 +1,5 @@
 use Rattle.std.proofs.{Common.◌∙◌, Common.None, Common.ap, Common.arith, lemmas.List.get_or_read}
-use Rattle.ftl_one.{specs.Entries.was_by, proofs.StoreLemmas.was-named}
+use Rattle.ftl_one.{specs.Entries.was_by, proofs.Stores.was-named}
 use Rattle.ftl_one.proofs.store.Store.was.Goals as goal
 
 pub returns : goal.returns

@@ -4,12 +4,12 @@ use Rattle.std.proofs.{Common.ap, Common.◌∙◌, Common.refl, Common.subst, C
 use Rattle.std.{specs.Option.IfSome, specs.Option.option_map, specs.Vec.with_items, proofs.lemmas.Bool.cases_eq}
 use Rattle.geometry.specs.{declared.geometry.Geometry.Geometry, declared.page_addr.PageAddr.PageAddr, Sectors.sector_at, Sectors.was_of}
 use Rattle.geometry.specs.Geometry.{blocks_of, pages_of, page_bytes_of, sectors_of}
-use Rattle.die.{specs.declared.die.Die.Die, specs.Pages.Block, specs.Pages.Page, specs.Pages.page_at, specs.Pages.programmed, proofs.DieLemmas.pages_within}
+use Rattle.die.{specs.declared.die.Die.Die, specs.Pages.Block, specs.Pages.Page, specs.Pages.page_at, specs.Pages.programmed, proofs.Dies.pages_within}
 use Rattle.die.specs.Die.{geometry_of as die_geometry_of, block_of, ChangesBlock, IsUsable, IsProgrammed, IsNext}
-use Rattle.ftl_one.{specs.declared.store.Store.Store, proofs.EntryLemmas.length-entries, proofs.EntryLemmas.get_or-entries}
+use Rattle.ftl_one.{specs.declared.store.Store.Store, proofs.Entries.length-entries, proofs.Entries.get_or-entries}
 use Rattle.ftl_one.specs.{Stock.Entry, Stock.forgotten, Store.geometry_of, Store.array_of, Store.entries_of, Store.erases_of, Store.retired_of, Store.HasRoom}
 use Rattle.ftl_one.specs.Entries.{entry_of, entries_in, live_count, Recounts, IsMapped, sectors_in, value_in, was_by}
-use Rattle.ftl_one.proofs.MapLemmas.{Becomes, was_here, sector-at, length-sectors, mapped-put, entries-put, entries-put_other, sectors-put}
+use Rattle.ftl_one.proofs.Maps.{Becomes, was_here, sector-at, length-sectors, mapped-put, entries-put, entries-put_other, sectors-put}
 
 -- the bytes of a page of the store
 abbrev pub size_of : Store → ℕ

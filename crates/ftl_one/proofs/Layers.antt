@@ -7,15 +7,15 @@ use Rattle.std.proofs.lemmas.List.Sums.{sum_by-cons, sum_by-set, prefix_len_pass
 use Rattle.std.proofs.lemmas.{Bool.false≢true, Bool.cases_eq, Bool.cases_lt, Bool.lt-ltb, Bool.le-ltb, Bool.not-true, Bool.eq-eqb, Bool.ne_eqb, Nat.mul-le}
 use Rattle.geometry.specs.{Geometry.blocks_of, Geometry.pages_of, Geometry.endurance_of, Greedy.greedy_of}
 use Rattle.geometry.specs.declared.limits.TheConstants.{MAX_BLOCKS, MAX_ENDURANCE, MAX_PAGES}
-use Rattle.die.proofs.DieLemmas.{erases-block}
+use Rattle.die.proofs.Dies.{erases-block}
 use Rattle.ftl_one.specs.declared.role.Role.{Role, TheVariants.Free, TheVariants.Open, TheVariants.Closed, TheVariants.Spare, TheVariants.Retired}
 use Rattle.ftl_one.specs.{declared.store.Store.Store, Lawful.role_in, Blocks.block_in, Blocks.blocks_in, Blocks.weight, Laws.HasRetired, Laws.block_at}
-use Rattle.ftl_one.{specs.declared.one_ftl.OneFtl.OneFtl, specs.OneFtl.stock_of, proofs.BlocksLemmas.spare_of-blocks, proofs.BlocksLemmas.victim_of-blocks}
+use Rattle.ftl_one.{specs.declared.one_ftl.OneFtl.OneFtl, specs.OneFtl.stock_of, proofs.Blocks.spare_of-blocks, proofs.Blocks.victim_of-blocks}
 use Rattle.ftl_one.specs.Stock.{Block, Entry, is_open, is_free, is_spare, is_closed, open_of, free_of, spare_of, live_of, victim_of, change_at, unused, forget}
 use Rattle.ftl_one.specs.Stock.{forgotten, with_page, closed_if_full, filled, emptied, live_entries, is_retired}
 use Rattle.ftl_one.specs.Store.{geometry_of, entries_of, erases_of, retired_of, counts_of, KeepsBlocks, Puts, Clears, Erases, HasRoom}
-use Rattle.ftl_one.proofs.BlocksLemmas.{table, length-table, get_or-table, table_is, table-change, table-map, position_alone, open_of-blocks, free_of-blocks}
-use Rattle.ftl_one.proofs.{LawfulLemmas.inside, LawfulLemmas.open≢retired, LawfulLemmas.spare≢retired, StoreLemmas.entries_within}
+use Rattle.ftl_one.proofs.Blocks.{table, length-table, get_or-table, table_is, table-change, table-map, position_alone, open_of-blocks, free_of-blocks}
+use Rattle.ftl_one.proofs.{Lawful.inside, Lawful.open≢retired, Lawful.spare≢retired, Stores.entries_within}
 
 -- a role by its test
 pub free_by : (r : Role) → is_free r ≡ true → r ≡ Free

@@ -6,8 +6,8 @@ use Rattle.die.specs.{declared.die.Die.Die, Die.geometry_of as die_geometry_of, 
 use Rattle.die.specs.Pages.{Page, page_at, programmed}
 use Rattle.ftl_one.specs.{declared.store.Store.Store, Stock.Entry, Stock.forgotten, Entries.entries_in, Entries.Recounts, Entries.sectors_in}
 use Rattle.ftl_one.specs.Store.{geometry_of, array_of, entries_of, live_at, sector_of}
-use Rattle.ftl_one.proofs.{EntryLemmas.is_page-same, EntryLemmas.forgotten_here, MapLemmas.set_as_is, MapLemmas.sector-at, MapLemmas.not_here}
-use Rattle.ftl_one.proofs.StoreLemmas.{size_of, length-entries_of, get_or-entries_of, put-changed, put-others, put-sectors}
+use Rattle.ftl_one.proofs.{Entries.is_page-same, Entries.forgotten_here, Maps.set_as_is, Maps.sector-at, Maps.not_here}
+use Rattle.ftl_one.proofs.Stores.{size_of, length-entries_of, get_or-entries_of, put-changed, put-others, put-sectors}
 
 -- the page at an address
 abbrev pub page_of : Store → PageAddr → Page

@@ -5,7 +5,7 @@ use Rattle.std.{specs.List.range_with_len, proofs.lemmas.List.get_or_push, proof
 use Rattle.std.proofs.lemmas.List.{length-map, same_lists, FromFn.length-map-range_with_len, FromFn.get_or-map-range_with_len, FromFn.map-range_with_len_more}
 use Rattle.std.proofs.lemmas.Bool.{false≢true, eqb-true, eq-eqb, ne_eqb, and_from, and_parts, and_left, and_right, cases_eq}
 use Rattle.geometry.specs.declared.page_addr.PageAddr.{PageAddr}
-use Rattle.die.{specs.Pages.Block, specs.Pages.Page, specs.Pages.page_at, specs.Pages.programmed, specs.Pages.erased_page, proofs.BlockLemmas.map_range_same}
+use Rattle.die.{specs.Pages.Block, specs.Pages.Page, specs.Pages.page_at, specs.Pages.programmed, specs.Pages.erased_page, proofs.Blocks.map_range_same}
 use Rattle.ftl_one.specs.{Stock.Entry, Stock.forgotten, Entries.is_page, Entries.names, Entries.entry_of, Entries.entries_in}
 
 pub length-entries : (n : ℕ) (current : List (Option PageAddr)) (b : ℕ) (block : Block) → length (entries_in n current b block) ≡ length block.pages

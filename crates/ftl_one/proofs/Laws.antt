@@ -4,11 +4,11 @@ use Rattle.std.proofs.Common.{◌≡◌, ◌≢◌, ◌⊎◌, inl, inr, ℕ, �
 use Rattle.std.proofs.Common.{refl, subst, arith, length-set, get_or-set_same, get_or-set_other}
 use Rattle.std.specs.Option.{option_and_then}
 use Rattle.std.proofs.lemmas.{List.length-map, List.get_or-map, List.get_or_past, Bool.false≢true, Bool.cases_eq, Bool.cases_lt, List.Quantifiers.position-Some}
-use Rattle.geometry.proofs.GreedyLemmas.{greedy_of-closed, greedy_of-least}
+use Rattle.geometry.proofs.Choosing.{greedy_of-closed, greedy_of-least}
 use Rattle.ftl_one.specs.declared.role.Role.{Role, TheVariants.Open, TheVariants.Closed, TheVariants.Spare, TheVariants.Retired}
 use Rattle.ftl_one.specs.Stock.{Stock, Block, unused, live_of, is_closed, is_spare, open_of, free_of, spare_of, victim_of, forget, with_page, closed_if_full}
 use Rattle.ftl_one.specs.Stock.{change_at, filled, emptied, opened, collected, collect, ready_by, ready, write_into, write_of}
-use Rattle.ftl_one.{specs.Laws.block_at, specs.Laws.ErasesNothing, specs.Laws.Collects, proofs.FtlLemmas.closed_by, proofs.FtlLemmas.spare_by}
+use Rattle.ftl_one.{specs.Laws.block_at, specs.Laws.ErasesNothing, specs.Laws.Collects, proofs.Layers.closed_by, proofs.Layers.spare_by}
 
 -- a change of one block, place by place
 pub change-here : (xs : List Block) (b : ℕ) (h : Block → Block) → b < length xs

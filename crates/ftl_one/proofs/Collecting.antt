@@ -3,14 +3,14 @@ use Rattle.std.proofs.Common.{◌≡◌, ◌≢◌, inl, inr, ℕ, zero, suc, �
 use Rattle.std.proofs.Common.{is_some, sym, ap, ◌∙◌, subst, arith, length-append}
 use Rattle.std.proofs.lemmas.List.{length-map, get_or-map, get_or_past, Sums.sum_by-cons, Sums.count_by-le-length, Sums.length-filter}
 use Rattle.std.proofs.lemmas.Bool.{false≢true, cases_lt}
-use Rattle.geometry.{specs.Geometry.blocks_of, specs.Geometry.pages_of, specs.Greedy.IsGreedy, specs.Greedy.IsClosed, proofs.GreedyLemmas.greedy_of-best}
+use Rattle.geometry.{specs.Geometry.blocks_of, specs.Geometry.pages_of, specs.Greedy.IsGreedy, specs.Greedy.IsClosed, proofs.Choosing.greedy_of-best}
 use Rattle.ftl_one.specs.declared.role.Role.{Role, TheVariants.Open, TheVariants.Closed, TheVariants.Spare, TheVariants.Retired}
 use Rattle.ftl_one.specs.{declared.store.Store.Store, declared.one_ftl.OneFtl.OneFtl, Entries.live_count, Fewest.IsFewest, OneFtl.stock_of}
 use Rattle.ftl_one.specs.Stock.{Entry, live_entries, is_free, is_closed, open_of, free_of, spare_of, victim_of, is_retired}
 use Rattle.ftl_one.specs.Store.{geometry_of, entries_of, retired_of, counts_of, HasRoomFor, Clears, Erases}
-use Rattle.ftl_one.{specs.Lawful.IsLawful, specs.Lawful.role_in, specs.Lawful.has_pages, proofs.StoreLemmas.entries_within, proofs.StoreLemmas.count-entries_of}
-use Rattle.ftl_one.proofs.LawfulLemmas.{closed_else, lawful-collect, closed≢spare}
-use Rattle.ftl_one.proofs.FtlLemmas.{none_found, closed_by, open_of-stock, free_of-stock, spare_found, victim_of-stock}
+use Rattle.ftl_one.{specs.Lawful.IsLawful, specs.Lawful.role_in, specs.Lawful.has_pages, proofs.Stores.entries_within, proofs.Stores.count-entries_of}
+use Rattle.ftl_one.proofs.Lawful.{closed_else, lawful-collect, closed≢spare}
+use Rattle.ftl_one.proofs.Layers.{none_found, closed_by, open_of-stock, free_of-stock, spare_found, victim_of-stock}
 
 -- a sum of terms that are at least m, but for one
 sum_all : (xs : List ℕ) (m : ℕ) → ((k : ℕ) → k < length xs → m ≤ get_or xs k 0) → length xs * m ≤ sum xs

@@ -7,10 +7,10 @@ use Rattle.std.proofs.lemmas.Bool.{false≢true, cases_lt, Decides.nat_tests}
 use Rattle.geometry.specs.{Geometry.endurance_of, Geometry.pages_of, declared.geometry.Geometry.Geometry}
 use Rattle.ftl_one.specs.declared.{collection.Collection.Collection, role.Role.TheVariants.Retired, role.Role.TheVariants.Spare}
 use Rattle.ftl_one.specs.Collections.{collection_between, collection_due, collection_into, collection_of, copybacks_into, due_by, erased_between, was_erased}
-use Rattle.ftl_one.{specs.Laws.block_at, specs.Laws.Collects, specs.Laws.ErasesNothing, proofs.LawLemmas.victim_low, proofs.LawLemmas.written}
+use Rattle.ftl_one.{specs.Laws.block_at, specs.Laws.Collects, specs.Laws.ErasesNothing, proofs.Laws.victim_low, proofs.Laws.written}
 use Rattle.ftl_one.specs.Stock.{Block, Stock, change_at, closed_if_full, collect, collected, emptied, filled, forget, free_of, is_open, is_retired, live_of}
 use Rattle.ftl_one.specs.Stock.{open_of, opened, ready, ready_by, spare_of, unused, victim_of, with_page, write_into, write_of}
-use Rattle.ftl_one.proofs.LawLemmas.{Collects-then, ErasesNothing-then, change-here, change-there, collects, nothing_opened, same_some, none_some, victim_apart}
+use Rattle.ftl_one.proofs.Laws.{Collects-then, ErasesNothing-then, change-here, change-there, collects, nothing_opened, same_some, none_some, victim_apart}
 
 -- the first place of a range that passes a test
 first_place : (p : ℕ → Bool) (n v : ℕ) → v ≤ n → ((k : ℕ) → k < v → p k ≡ false) → (v < n → p v ≡ true) → position_or_len p (range_with_len 0 n) ≡ v

@@ -7,8 +7,8 @@ use Rattle.geometry.specs.{declared.page_addr.PageAddr.PageAddr, Sectors.Sector}
 use Rattle.die.specs.Pages.{Block, Page, page_at, programmed, erased}
 use Rattle.ftl_one.specs.Stock.{Entry, forgotten}
 use Rattle.ftl_one.specs.Entries.{is_page, names, entry_of, entries_in, live_count, lies, Recounts, IsCurrent, IsMapped, value_in, sectors_in}
-use Rattle.ftl_one.proofs.EntryLemmas.{length-entries, get_or-entries, entries-remapped, entries-programmed, forgotten_elsewhere, forgotten_here}
-use Rattle.ftl_one.proofs.EntryLemmas.{page_at-programmed, page_at-last, is_page-block, is_page-page, is_page-at, names-set_same}
+use Rattle.ftl_one.proofs.Entries.{length-entries, get_or-entries, entries-remapped, entries-programmed, forgotten_elsewhere, forgotten_here}
+use Rattle.ftl_one.proofs.Entries.{page_at-programmed, page_at-last, is_page-block, is_page-page, is_page-at, names-set_same}
 
 -- a list with an element put where it stands already
 pub set_as_is : {X : Type 0} (xs : List X) (i : ℕ) (x d : X) → get_or xs i d ≡ x → set xs i x ≡ xs

@@ -5,7 +5,7 @@ use Rattle.std.proofs.lemmas.List.{length-replicate, get_or-replicate, get_or_ap
 use Rattle.geometry.specs.{declared.geometry.Geometry.Geometry, Geometry.blocks_of}
 use Rattle.ftl_one.specs.declared.role.Role.{Role, TheVariants.Free, TheVariants.Open, TheVariants.Closed, TheVariants.Spare, TheVariants.Retired}
 use Rattle.ftl_one.specs.{declared.store.Store.Store, Stock.Block, Stock.Entry, Stock.unused, Store.entries_of, Store.IsNew, Blocks.block_in, Blocks.blocks_in}
-use Rattle.ftl_one.{specs.Stock.is_retired, specs.Lawful.IsLawful, specs.Lawful.KnowsSpare, specs.Lawful.role_in, proofs.BlocksLemmas.table_is}
+use Rattle.ftl_one.{specs.Stock.is_retired, specs.Lawful.IsLawful, specs.Lawful.KnowsSpare, specs.Lawful.role_in, proofs.Blocks.table_is}
 
 -- the roles of a new layer with n free blocks
 abbrev pub roles_new : ℕ → List Role

@@ -6,7 +6,7 @@ use Rattle.geometry.specs.declared.{geometry.Geometry.Geometry, page_addr.PageAd
 use Rattle.geometry.specs.Geometry.{blocks_of, pages_of, page_bytes_of, endurance_of}
 use Rattle.die.specs.{declared.block_state.BlockState.BlockState, declared.die.Die.Die, Die.block_of, Die.ChangesBlock, Die.IsUsable, Die.IsNext, Sound.IsSound}
 use Rattle.die.specs.{Pages.Page, Pages.Block, Pages.programmed, Pages.erased, Pages.page_at, Storage.stored, Storage.block_in, Slots.PutsSlot, Sound.unused}
-use Rattle.die.proofs.BlockLemmas.{length-pages, page_at-stored, Adds, others-added, block-added, block_in-same}
+use Rattle.die.proofs.Blocks.{length-pages, page_at-stored, Adds, others-added, block-added, block_in-same}
 
 -- the state that the die keeps of a block
 abbrev pub state_of : Die → ℕ → BlockState

@@ -6,7 +6,7 @@ use Rattle.std.proofs.lemmas.{List.length-map, List.get_or-map, List.Sums.positi
 use Rattle.std.proofs.lemmas.List.FromFn.{length-map-range_with_len, get_or-map-range_with_len, fill_by_all}
 use Rattle.geometry.specs.{Geometry.blocks_of, Greedy.greedy_of}
 use Rattle.ftl_one.specs.{declared.role.Role.Role, Entries.live_count, Store.geometry_of, Store.entries_of, Store.counts_of, Blocks.block_in, Blocks.blocks_in}
-use Rattle.ftl_one.{specs.declared.role.Role.TheVariants.Retired, specs.declared.store.Store.Store, specs.Lawful.role_in, proofs.StoreLemmas.count-entries_of}
+use Rattle.ftl_one.{specs.declared.role.Role.TheVariants.Retired, specs.declared.store.Store.Store, specs.Lawful.role_in, proofs.Stores.count-entries_of}
 use Rattle.ftl_one.specs.Stock.{Block, is_open, is_free, is_spare, is_closed, open_of, free_of, spare_of, live_of, victim_of, change_at, unused}
 
 -- a list made from a function
