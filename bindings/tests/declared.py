@@ -79,10 +79,10 @@ def print_checks(header, text, own, handles, exported):
 def main(root):
     root = Path(root)
     declared = (root / "bindings/include/mintlintel.h").read_text()
-    text = "\n".join(source.read_text() for source in sorted((root / "crates/exports/src").glob("*.rt")))
+    text = "\n".join(source.read_text() for source in sorted((root / "crates/exports/src").glob("**/*.rt")))
     codes = constants(root / "crates/exports/src/codes.rt")
     limits = constants(root / "crates/geometry/src/limits.rt")
-    phases = constants(root / "crates/exports/src/phases.rt")
+    phases = constants(root / "crates/exports/src/shared/phases.rt")
     own = {**codes, **phases, **{name: number for name, number in limits.items() if name not in NOT_OF_C}}
     durable = re.findall(r"MINTLINTEL_(\w+) = (\d+)", (root / "bindings/include/mintlintel_durable.h").read_text())
     if found := sorted(others(root, {**codes, **{name: int(number) for name, number in durable}})):

@@ -38,12 +38,12 @@ volume/closing.rt | retire_all | while let Some(pass) = passes.next() | the host
 volume/opening.rt | fold_seats | while let Some(seat) = seats.next() | the brooms
 volume/opening.rt | fold_all | while let Some(broom) = brooms.pop() | the brooms
 volume/opening.rt | make_brooms | while let Some(seat) = seats.next() | the brooms
-exports/opening.rt | close_all | for handle in handles.iter_mut() | the handles
-exports/opening.rt | retire_passes | while let Some(pass) = passes.pop() | the hosts
-exports/opening.rt | retire_brooms | while let Some(broom) = brooms.pop() | the brooms
-exports/opening.rt | seat_hosts | while let Some(pass) = passes.pop() | the hosts
-exports/opening.rt | seat_brooms | while let Some(broom) = brooms.pop() | the brooms
-exports/opening.rt | are_closed | for handle in handles.iter() | the handles
+exports/shared/opening.rt | close_all | for handle in handles.iter_mut() | the handles
+exports/shared/opening.rt | retire_passes | while let Some(pass) = passes.pop() | the hosts
+exports/shared/opening.rt | retire_brooms | while let Some(broom) = brooms.pop() | the brooms
+exports/shared/opening.rt | seat_hosts | while let Some(pass) = passes.pop() | the hosts
+exports/shared/opening.rt | seat_brooms | while let Some(broom) = brooms.pop() | the brooms
+exports/shared/opening.rt | are_closed | for handle in handles.iter() | the handles
 """.strip().splitlines()
 # The calls of other crates and of closures, each line with why they end. None of them takes a function or an iterator, or looks at a word without a step.
 CALLS = """

@@ -9,7 +9,7 @@ use Rattle.broom.specs.Loading.{StateLoaded, erases_in}
 use Rattle.broom.specs.declared.block_counts.BlockCounts.{BlockCounts}
 use Rattle.broom.specs.declared.broom.Broom.{Broom}
 use Rattle.exports.specs.declared.codes.TheConstants.{DONE, EXHAUSTED, NO_SUCH_BLOCK}
-use Rattle.exports.specs.declared.phases.TheConstants.{PHASE_FREE, PHASE_OPEN, PHASE_CLOSED, PHASE_VICTIM, PHASE_DRAINED, PHASE_ERASING, PHASE_RETIRED}
+use Rattle.exports.specs.declared.shared.phases.TheConstants.{PHASE_FREE, PHASE_OPEN, PHASE_CLOSED, PHASE_VICTIM, PHASE_DRAINED, PHASE_ERASING, PHASE_RETIRED}
 use Rattle.exports.specs.declared.reports.CountsReport.{CountsReport}
 use Rattle.exports.specs.declared.reports.StateReport.{StateReport}
 

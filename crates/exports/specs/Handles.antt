@@ -3,8 +3,8 @@ use Rattle.std.specs.Prelude.{Option}
 use Rattle.std.specs.Borrow.{Lends, MutBor, Fml}
 use Rattle.handles.specs.declared.handle.Handle.{Handle as Typed}
 use Rattle.handles.specs.contracts.handle.Handle as typed_handles
-use Rattle.exports.specs.declared.seat.Seat.{Seat}
-use Rattle.exports.specs.contracts.seat.Seat as seats
+use Rattle.exports.specs.declared.handle.seat.Seat.{Seat}
+use Rattle.exports.specs.contracts.handle.seat.Seat as seats
 use Rattle.exports.specs.declared.handle.Handle.{Handle}
 use Rattle.exports.specs.contracts.handle.Handle.{the_row}
 

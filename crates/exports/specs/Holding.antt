@@ -12,10 +12,10 @@ use Rattle.host.specs.Holding.{Found, pass_of, page_of}
 use Rattle.volume.specs.Volume.{flash_of}
 use Rattle.volume.specs.declared.volume.Volume.{Volume}
 use Rattle.exports.specs.declared.reports.PageReport.{PageReport}
-use Rattle.exports.specs.declared.seat.Host.{Host}
-use Rattle.exports.specs.declared.seat.Holder.{Holder}
-use Rattle.exports.specs.declared.seat.Seat.{Seat}
-use Rattle.exports.specs.declared.seat.Seat.TheVariants as seat
+use Rattle.exports.specs.declared.handle.seat.Host.{Host}
+use Rattle.exports.specs.declared.handle.seat.Holder.{Holder}
+use Rattle.exports.specs.declared.handle.seat.Seat.{Seat}
+use Rattle.exports.specs.declared.handle.seat.Seat.TheVariants as seat
 use Rattle.exports.specs.Codes.{was_code}
 use Rattle.exports.specs.declared.codes.TheConstants.{DONE, WRITTEN, CLOSED, NO_SECTOR, NOT_A_PAGE, WRONG_KIND, NO_SUCH_BLOCK}
 use Rattle.exports.specs.Holds.{held_value}

@@ -14,8 +14,8 @@ use Rattle.ftl_one.specs.OneFtl.{geometry_of, array_of, stock_of}
 use Rattle.ftl_one.specs.Stock.{Stock, Block, next, opening, live_of, is_retired}
 use Rattle.ftl_one.specs.Laws.{block_at}
 use Rattle.exports.specs.declared.handle.Handle.{Handle}
-use Rattle.exports.specs.declared.seat.Seat.{Seat}
-use Rattle.exports.specs.declared.seat.Seat.TheVariants as seat
+use Rattle.exports.specs.declared.handle.seat.Seat.{Seat}
+use Rattle.exports.specs.declared.handle.seat.Seat.TheVariants as seat
 use Rattle.exports.specs.declared.reports.Totals.{Totals}
 use Rattle.exports.specs.declared.reports.BlockReport.{BlockReport}
 use Rattle.exports.specs.declared.reports.NumbersReport.{NumbersReport}

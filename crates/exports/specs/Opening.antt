@@ -10,8 +10,8 @@ use Rattle.volume.specs.Brooms.{IsFresh, IsUnused}
 use Rattle.volume.specs.Volume.{flash_of, queue_of}
 use Rattle.volume.specs.declared.volume.Volume.{Volume}
 use Rattle.exports.specs.declared.handle.Handle.{Handle}
-use Rattle.exports.specs.declared.seat.Seat.{Seat}
-use Rattle.exports.specs.declared.seat.Seat.TheVariants as seat
+use Rattle.exports.specs.declared.handle.seat.Seat.{Seat}
+use Rattle.exports.specs.declared.handle.seat.Seat.TheVariants as seat
 use Rattle.exports.specs.Codes.{fault_code}
 use Rattle.exports.specs.declared.codes.TheConstants.{DONE, NO_MEMORY, ALREADY_OPEN, BAD_SEATS}
 use Rattle.exports.specs.Handles.{seat_of}

@@ -19,11 +19,11 @@ use Rattle.volume.specs.Correct.{Asked, Answer, Does, Replaced}
 use Rattle.flash_table.specs.Steps.{HasCalled, HasNumber}
 use Rattle.host.specs.Told.{Refused, Wrote, WroteNew}
 use Rattle.host.specs.Holding.{pass_of}
-use Rattle.exports.specs.declared.seat.Holder.{Holder}
-use Rattle.exports.specs.declared.seat.Host.{Host}
-use Rattle.exports.specs.declared.seat.Sweeper.{Sweeper}
-use Rattle.exports.specs.declared.seat.Seat.{Seat}
-use Rattle.exports.specs.declared.seat.Seat.TheVariants as seat
+use Rattle.exports.specs.declared.handle.seat.Holder.{Holder}
+use Rattle.exports.specs.declared.handle.seat.Host.{Host}
+use Rattle.exports.specs.declared.handle.seat.Sweeper.{Sweeper}
+use Rattle.exports.specs.declared.handle.seat.Seat.{Seat}
+use Rattle.exports.specs.declared.handle.seat.Seat.TheVariants as seat
 use Rattle.exports.specs.declared.reports.NumbersReport.{NumbersReport}
 use Rattle.exports.specs.Codes.{was_code, was_by, as_number, erase_code, erase_by}
 use Rattle.exports.specs.declared.codes.TheConstants.{DONE, WRITTEN, CLOSED, NO_SECTOR, NOT_A_PAGE, NO_BLOCK, WRONG_KIND, NO_SUCH_BLOCK}

@@ -2,8 +2,11 @@
 ghost use Rattle.std.specs.Prelude.{◌≡◌};
 ghost use Rattle.handles.specs.Kept.{SaysWhetherOpen};
 
-use crate::seat::Seat;
-use crate::slot::Slot;
+pub(crate) mod seat;
+pub(crate) mod slot;
+
+use crate::handle::seat::Seat;
+use crate::handle::slot::Slot;
 use handles::may_go;
 
 /// A handle: closed, which is all zero bytes, or open, with a seat.

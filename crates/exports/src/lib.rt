@@ -1,33 +1,24 @@
 //! The calls of C: a device for one thread, and a device that threads share, behind handles of two words.
 #![tactic(auto)]
 
-mod block_calls;
 mod codes;
 mod handle;
-mod holder_calls;
-mod host_calls;
 mod laws;
-mod layer;
 mod one;
-mod opening;
-mod phases;
 mod reports;
-mod seat;
 mod shared;
-mod slot;
-mod sweeper_calls;
 
 pub use handle::Handle;
+pub use handle::seat::{Holder, Host, Seat, Sweeper};
 pub use one::{
     mintlintel_one_block, mintlintel_one_close, mintlintel_one_counts, mintlintel_one_numbers,
     mintlintel_one_open, mintlintel_one_read, mintlintel_one_trim, mintlintel_one_write,
     mintlintel_one_write_new,
 };
-pub use opening::mintlintel_shared_open;
 pub use reports::{
     BlockReport, CountsReport, NumbersReport, PageReport, StateReport, TallyReport, Totals,
 };
-pub use seat::{Holder, Host, Seat, Sweeper};
+pub use shared::opening::mintlintel_shared_open;
 pub use shared::{
     mintlintel_broom_block, mintlintel_broom_counts, mintlintel_broom_drain,
     mintlintel_broom_drain_dead, mintlintel_broom_drain_next, mintlintel_broom_erase,

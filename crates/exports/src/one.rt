@@ -5,11 +5,12 @@ ghost use Rattle.exports.specs.Handles.{seat_of};
 ghost use Rattle.exports.specs.One.{state_of, on_state, code_on, filled_on, write_on, write_new_on, trim_on, read_on};
 ghost use Rattle.exports.specs.One.{buffer_on, totals_on, reported, block_on, report_on, open_code, IsFreshIn};
 
+pub(crate) mod layer;
+
 use crate::codes::{ALREADY_OPEN, DONE, NO_MEMORY, WRONG_KIND, code_of_fault};
 use crate::handle::Handle;
-use crate::layer;
+use crate::handle::seat::Seat;
 use crate::reports::{BlockReport, NumbersReport, Totals};
-use crate::seat::Seat;
 use ftl_one::{Geometry, OneFtl};
 use std::alloc::Global;
 

@@ -27,13 +27,20 @@ ghost use Rattle.exports.specs.Shared.{look_code, write_code, trim_code, erased_
 ghost use Rattle.exports.specs.Shared.{Drains, HasWrittenNew, HasTrimmed, WriteEnds, by_sweeper};
 ghost use Rattle.volume.specs.Correct.{Read, Look, Write, WriteNew, Trim, Found, IsWritten, Replaced};
 
+pub(crate) mod block_calls;
+pub(crate) mod holder_calls;
+pub(crate) mod host_calls;
+pub(crate) mod opening;
+pub(crate) mod phases;
+pub(crate) mod sweeper_calls;
+
 use crate::codes::{
     CLOSED, DONE, NO_BLOCK, NO_SECTOR, NO_SUCH_BLOCK, NOT_A_PAGE, WRITTEN, WRONG_KIND,
 };
 use crate::handle::Handle;
-use crate::layer;
+use crate::handle::seat::Seat;
+use crate::one::layer;
 use crate::reports::{CountsReport, Drained, NumbersReport, PageReport, StateReport, TallyReport};
-use crate::seat::Seat;
 use std::alloc::Global;
 use std::mem;
 

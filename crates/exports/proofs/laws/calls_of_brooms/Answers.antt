@@ -1,9 +1,9 @@
 use Rattle.std.proofs.Common.{◌≡◌, refl, Option, None, Some}
 use Rattle.broom.specs.declared.broom.Broom.{Broom}
 use Rattle.volume.specs.declared.volume.Volume.{Volume}
-use Rattle.exports.specs.declared.seat.Seat.{Seat}
-use Rattle.exports.specs.declared.seat.Seat.TheVariants as seat
-use Rattle.exports.specs.declared.seat.Sweeper.{Sweeper}
+use Rattle.exports.specs.declared.handle.seat.Seat.{Seat}
+use Rattle.exports.specs.declared.handle.seat.Seat.TheVariants as seat
+use Rattle.exports.specs.declared.handle.seat.Sweeper.{Sweeper}
 use Rattle.exports.specs.Shared.{BroomCalled, sweeper_volume}
 use Rattle.exports.proofs.laws.calls_of_brooms.Goals as goal
 

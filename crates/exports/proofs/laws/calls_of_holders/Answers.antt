@@ -6,10 +6,10 @@ use Rattle.host.specs.declared.holding.Held.{Held}
 use Rattle.host.specs.declared.holding.Holding.TheVariants as holding
 use Rattle.volume.specs.Volume.{flash_of}
 use Rattle.volume.specs.declared.volume.Volume.{Volume}
-use Rattle.exports.specs.declared.seat.Holder.{Holder}
-use Rattle.exports.specs.declared.seat.Host.{Host}
-use Rattle.exports.specs.declared.seat.Seat.{Seat}
-use Rattle.exports.specs.declared.seat.Seat.TheVariants as seat
+use Rattle.exports.specs.declared.handle.seat.Holder.{Holder}
+use Rattle.exports.specs.declared.handle.seat.Host.{Host}
+use Rattle.exports.specs.declared.handle.seat.Seat.{Seat}
+use Rattle.exports.specs.declared.handle.seat.Seat.TheVariants as seat
 use Rattle.exports.specs.Holding.{HoldCalled, HolderCalled, ReleaseCalled}
 use Rattle.exports.specs.Shared.{holder_volume, host_volume}
 use Rattle.exports.proofs.laws.calls_of_holders.Goals as goal

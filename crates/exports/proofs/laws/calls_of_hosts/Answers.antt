@@ -1,8 +1,8 @@
 use Rattle.std.proofs.Common.{◌≡◌, refl, Option, None, Some}
 use Rattle.flash_table.specs.declared.pass.Pass.{Pass}
-use Rattle.exports.specs.declared.seat.Host.{Host}
-use Rattle.exports.specs.declared.seat.Seat.{Seat}
-use Rattle.exports.specs.declared.seat.Seat.TheVariants as seat
+use Rattle.exports.specs.declared.handle.seat.Host.{Host}
+use Rattle.exports.specs.declared.handle.seat.Seat.{Seat}
+use Rattle.exports.specs.declared.handle.seat.Seat.TheVariants as seat
 use Rattle.exports.specs.Shared.{HostCalled, host_volume}
 use Rattle.exports.proofs.laws.calls_of_hosts.Goals as goal
 use Rattle.volume.specs.declared.volume.Volume.{Volume}

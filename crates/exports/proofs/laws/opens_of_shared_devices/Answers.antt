@@ -6,10 +6,10 @@ use Rattle.flash_table.specs.declared.pass.Pass.{Pass}
 use Rattle.volume.specs.Brooms.{IsFresh}
 use Rattle.volume.specs.Volume.{flash_of, queue_of}
 use Rattle.volume.specs.declared.volume.Volume.{Volume}
-use Rattle.exports.specs.declared.seat.Host.{Host}
-use Rattle.exports.specs.declared.seat.Seat.{Seat}
-use Rattle.exports.specs.declared.seat.Seat.TheVariants as seat
-use Rattle.exports.specs.declared.seat.Sweeper.{Sweeper}
+use Rattle.exports.specs.declared.handle.seat.Host.{Host}
+use Rattle.exports.specs.declared.handle.seat.Seat.{Seat}
+use Rattle.exports.specs.declared.handle.seat.Seat.TheVariants as seat
+use Rattle.exports.specs.declared.handle.seat.Sweeper.{Sweeper}
 use Rattle.exports.specs.Handles.{seat_of}
 use Rattle.exports.specs.Opening.{IsBroomIn, IsPassIn}
 use Rattle.exports.specs.Shared.{host_volume, sweeper_volume}

@@ -7,7 +7,7 @@ use Rattle.handles.proofs.Lending.{MutRef, mut_vals, mut_Tells, plain, mut_ref_t
 use Rattle.handles.proofs.Lending.{ends_at, after, lent, lends_as}
 use Rattle.handles.specs.contracts.handle.Handle as typed
 use Rattle.exports.specs.Handles.{typed_of, handle_of}
-use Rattle.exports.specs.contracts.seat.Seat as seats
+use Rattle.exports.specs.contracts.handle.seat.Seat as seats
 use Rattle.exports.specs.contracts.handle.Handle.{the_row as R}
 use Rattle.exports.specs.contracts.handle.Handle.typed as f
 use Rattle.exports.proofs.handle.Handle.typed.Statement.{statement}

@@ -2,8 +2,8 @@
 ghost use Rattle.std.specs.Prelude.{Option};
 ghost use Rattle.std.specs.Coded.{coded_option};
 ghost use Rattle.handles.specs.Kept.{kept};
-ghost use Rattle.exports.specs.declared.seat.Seat.{Seat};
-ghost use Rattle.exports.specs.contracts.seat.Seat.{the_row};
+ghost use Rattle.exports.specs.declared.handle.seat.Seat.{Seat};
+ghost use Rattle.exports.specs.contracts.handle.seat.Seat.{the_row};
 
 use std::marker::Model;
 

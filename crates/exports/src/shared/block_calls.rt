@@ -12,9 +12,9 @@ ghost use Rattle.exports.specs.Shared.{numbers_of, sweeper_volume};
 ghost use Rattle.exports.specs.Tallies.{tally_of};
 
 use crate::codes::{DONE, EXHAUSTED, NO_SUCH_BLOCK};
-use crate::phases::number_of;
+use crate::handle::seat::Sweeper;
 use crate::reports::{CountsReport, StateReport, TallyReport};
-use crate::seat::Sweeper;
+use crate::shared::phases::number_of;
 use volume::{Geometry, Phase};
 
 impl Sweeper {

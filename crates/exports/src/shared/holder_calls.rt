@@ -8,8 +8,8 @@ ghost use Rattle.exports.specs.Holding.{copy_code, copied, word_code, word_read,
 ghost use Rattle.exports.specs.Shared.{holder_volume};
 
 use crate::codes::{DONE, NO_SUCH_BLOCK, NOT_A_PAGE, WRITTEN};
+use crate::handle::seat::Holder;
 use crate::reports::PageReport;
-use crate::seat::Holder;
 
 impl Holder {
     // The page that is held, into a buffer.

@@ -8,7 +8,7 @@ ghost use Rattle.exports.specs.Shared.{host_volume, read_code, read_buffer, look
 ghost use Rattle.exports.specs.Shared.{HasTrimmed, HasWritten, HasWrittenNew, IsStep, WriteEnds};
 
 use crate::codes::{DONE, NO_BLOCK, NO_SECTOR, NOT_A_PAGE, WRITTEN, code_of};
-use crate::seat::Host;
+use crate::handle::seat::Host;
 use volume::{Got, NewFault};
 
 impl Host {

@@ -13,8 +13,8 @@ ghost use Rattle.exports.specs.Tallies.{empty_tally, with_drain, with_erase};
 use crate::codes::{
     DONE, KEPT, LOST, NO_SPARE, NO_SUCH_BLOCK, NOTHING_TO_GAIN, PINNED, RETIRED, STALE,
 };
+use crate::handle::seat::Sweeper;
 use crate::reports::{Drained, TallyReport};
-use crate::seat::Sweeper;
 use volume::{Drain, Erase, NoGate};
 
 impl Sweeper {

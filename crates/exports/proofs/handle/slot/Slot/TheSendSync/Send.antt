@@ -1,7 +1,7 @@
 use denote.Param.Send.{IsSend, owning_send, sendable}
 use Rattle.handles.proofs.Crossing.{kept_keyless}
-use Rattle.exports.specs.contracts.seat.Seat as seats
-use Rattle.exports.specs.contracts.slot.Slot.{the_row, the_type}
+use Rattle.exports.specs.contracts.handle.seat.Seat as seats
+use Rattle.exports.specs.contracts.handle.slot.Slot.{the_row, the_type}
 use Rattle.exports.proofs.seat.Seat.TheSendSync.{the_send}
 
 pub send : IsSend the_row

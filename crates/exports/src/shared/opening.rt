@@ -14,8 +14,8 @@ ghost use Rattle.exports.specs.Opening.{IsFreshBroom, AreFresh, capped, shared_o
 
 use crate::codes::{ALREADY_OPEN, BAD_SEATS, DONE, NO_MEMORY, code_of_fault};
 use crate::handle::Handle;
+use crate::handle::seat::{Host, Seat, Sweeper};
 use crate::reports::TallyReport;
-use crate::seat::{Host, Seat, Sweeper};
 use geometry::{MAX_BROOMS, MAX_HOSTS};
 use std::alloc::Global;
 use std::sync::Arc;
