@@ -1,5 +1,5 @@
 use Rattle.exports.proofs.Dealing.{AreClosedTo}
-use Rattle.exports.proofs.opening.are_closed.Given as goal
+use Rattle.exports.proofs.shared.opening.are_closed.Given as goal
 
 abbrev pub invariant-loop-handle : goal.invariant-loop-handle
 invariant-loop-handle l = AreClosedTo l.handle-index l.handles

@@ -1,7 +1,7 @@
 use Rattle.std.proofs.Common.{◌∙◌, ap, refl}
 use Rattle.exports.specs.Shared.{numbers_of}
 use Rattle.exports.proofs.Dealing.{now_fresh}
-use Rattle.exports.proofs.opening.deal.Goals as goal
+use Rattle.exports.proofs.shared.opening.deal.Goals as goal
 
 pub returns-clause-fresh : goal.returns-clause-fresh
 returns-clause-fresh c _ =

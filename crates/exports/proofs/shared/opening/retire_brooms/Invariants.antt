@@ -1,6 +1,6 @@
 use Rattle.std.proofs.Common.{All}
 use Rattle.volume.specs.Brooms.{IsBroomReady}
-use Rattle.exports.proofs.opening.retire_brooms.Given as goal
+use Rattle.exports.proofs.shared.opening.retire_brooms.Given as goal
 
 abbrev pub invariant-loop-broom : goal.invariant-loop-broom
 invariant-loop-broom l = All (IsBroomReady l.volume) l.brooms.items

@@ -3,7 +3,7 @@ use Rattle.std.specs.Arc.{arc_value}
 use Rattle.volume.specs.Brooms.{IsBroomReady}
 use Rattle.exports.specs.Opening.{IsFirstBroom, IsFreshBroom}
 use Rattle.exports.proofs.Dealing.{DealsOn}
-use Rattle.exports.proofs.opening.seat_brooms.Given as goal
+use Rattle.exports.proofs.shared.opening.seat_brooms.Given as goal
 
 abbrev pub invariant-loop-broom : goal.invariant-loop-broom
 invariant-loop-broom l = DealsOn (IsBroomReady (arc_value l.volume)) (IsFirstBroom (arc_value l.volume))

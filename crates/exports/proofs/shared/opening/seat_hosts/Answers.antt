@@ -4,7 +4,7 @@ use Rattle.host.specs.Ready.{IsReady}
 use Rattle.volume.specs.Volume.{flash_of}
 use Rattle.exports.specs.Opening.{IsFirstPass, IsFreshHost}
 use Rattle.exports.proofs.Dealing.{fewer, taken_first, deal_goes_on}
-use Rattle.exports.proofs.opening.seat_hosts.Goals as goal
+use Rattle.exports.proofs.shared.opening.seat_hosts.Goals as goal
 
 pub loop-pass-preserved : goal.loop-pass-preserved
 loop-pass-preserved c =

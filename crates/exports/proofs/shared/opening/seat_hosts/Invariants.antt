@@ -4,7 +4,7 @@ use Rattle.host.specs.Ready.{IsReady}
 use Rattle.volume.specs.Volume.{flash_of}
 use Rattle.exports.specs.Opening.{IsFirstPass, IsFreshHost}
 use Rattle.exports.proofs.Dealing.{DealsOn}
-use Rattle.exports.proofs.opening.seat_hosts.Given as goal
+use Rattle.exports.proofs.shared.opening.seat_hosts.Given as goal
 
 abbrev pub invariant-loop-pass : goal.invariant-loop-pass
 invariant-loop-pass l = DealsOn (IsReady (flash_of (arc_value l.volume))) (IsFirstPass (arc_value l.volume))

@@ -5,7 +5,7 @@ use Rattle.flash_table.specs.Steps.{HasCalled}
 use Rattle.exports.proofs.Told.{was_back}
 use Rattle.exports.specs.Codes.{was_by}
 use Rattle.exports.specs.Shared.{HasTrimmed}
-use Rattle.exports.proofs.seat.Host.trim.Goals as goal
+use Rattle.exports.proofs.handle.seat.Host.trim.Goals as goal
 
 pub returns-clause-called : goal.returns-clause-called
 unfolding HasTrimmed

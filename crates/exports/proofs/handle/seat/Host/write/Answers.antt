@@ -7,7 +7,7 @@ use Rattle.volume.specs.declared.volume.Volume.{Volume}
 use Rattle.exports.proofs.Told.{was_back}
 use Rattle.exports.specs.Codes.{was_by}
 use Rattle.exports.specs.Shared.{HasWritten, IsStep, host_volume}
-use Rattle.exports.proofs.seat.Host.write.Goals as goal
+use Rattle.exports.proofs.handle.seat.Host.write.Goals as goal
 
 pub returns-in-Ok-clause-wrote : goal.returns-in-Ok-clause-wrote
 unfolding HasWritten IsStep

@@ -2,7 +2,7 @@ use denote.Param.Send.{IsSend, owning_send, sendable}
 use Rattle.handles.proofs.Crossing.{kept_keyless}
 use Rattle.exports.specs.contracts.handle.seat.Seat as seats
 use Rattle.exports.specs.contracts.handle.slot.Slot.{the_row, the_type}
-use Rattle.exports.proofs.seat.Seat.TheSendSync.{the_send}
+use Rattle.exports.proofs.handle.seat.Seat.TheSendSync.{the_send}
 
 pub send : IsSend the_row
 send = owning_send the_type (search sendable, tt) (λ d. kept_keyless seats.the_row the_send d.at d.seat) (λ k x w. tt)
