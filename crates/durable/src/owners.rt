@@ -1,7 +1,8 @@
 ghost use Rattle.std.specs.Prelude.{◌≡◌, ◌<◌, ◌^◌, length, None, Some, IfSome, slice_index_or};
+ghost use Rattle.packed_map.specs.Entries.{IsPackable};
 
 use crate::extent::Extent;
-use crate::hints::{ALONE, Hints, NO_SECTOR, STRIDE};
+use crate::hints::Hints;
 use crate::ranking::Counts;
 use geometry::PageAddr;
 use packed_map::PackedMap;
@@ -10,7 +11,7 @@ use std::alloc::{AllocError, Global};
 // How far from a page's hint a sector is looked for if the page was programmed for several.
 const REACH: u32 = 4096;
 
-/// A sector that each page has, as far as it is known. The map says which of the sectors with the page's hint it is.
+/// A sector that each page has, as far as it is known. The map says which of the sectors of the page's hint it is.
 #[derive(Drop)]
 pub struct Owners {
     pages: u32,
@@ -33,7 +34,7 @@ impl Owners {
         let count = (blocks as usize).saturating_mul(pages as usize);
         let mut owners = Owners {
             pages,
-            hints: Hints::new(alloc, count)?,
+            hints: Hints::new(alloc, count, map.len())?,
             live: vec![in alloc; 0; pages as usize + 1]?,
             left: 0,
         };
@@ -47,40 +48,43 @@ impl Owners {
 
     /// A page was programmed for these sectors.
     pub fn programmed(&mut self, at: PageAddr, extent: Extent) {
-        let mark = if extent.count > 1 { 0 } else { ALONE };
-        self.set(at, extent.first % STRIDE | mark);
+        let page = self.index(at);
+        self.hints.set(page, extent.first, extent.count <= 1);
     }
 
     /// A sector was copied from a page to another.
     pub fn copied(&mut self, map: &PackedMap, sector: u32, from: PageAddr, to: PageAddr) {
         self.left = self.left.saturating_sub(1);
-        if self.get(from) & ALONE == 0 {
+        if !self.hints.get(self.index(from)).is_alone {
             if let Some(other) = near(map, from, sector) {
                 self.put(self.left, other);
                 self.left = self.left.saturating_add(1);
             }
         }
-        self.set(to, sector % STRIDE | ALONE);
+        let page = self.index(to);
+        self.hints.set(page, sector, true);
     }
 
     /// Looks for the live sectors of the block with the fewest, beside one. Which pages are live can't be foreseen, so no branch depends on it.
-    pub fn look_through(&mut self, map: &PackedMap, counts: &Counts, avoided: u32) {
+    pub fn look_through(&mut self, map: &PackedMap, counts: &Counts, avoided: u32)
+        requires { length map.now.items < 2 ^ 32 }
+    {
         let block = counts.fewest(avoided);
         self.left = 0;
         if (block as usize) >= counts.len() || counts.get(block) == 0 {
             return;
         }
-        let rounds = rounds(map);
+        let size = self.hints.size();
         let first = self.index(PageAddr { block, page: 0 });
         let mut left = 0;
         for page in (0..self.pages).rev() {
             let at = PageAddr { block, page };
             let hint = self.hints.get(first.wrapping_add(page as usize));
-            if hint & ALONE != 0 {
-                let (sector, count) = owner(map, rounds, at, hint);
+            if hint.is_alone {
+                let (sector, count) = owner(map, at, hint.first, size);
                 self.put(left, sector);
                 left = left.wrapping_add(count as usize);
-            } else if let Some(sector) = near(map, at, hint) {
+            } else if let Some(sector) = near(map, at, hint.first) {
                 self.put(left, sector);
                 left = left.wrapping_add(1);
             }
@@ -116,18 +120,9 @@ impl Owners {
 
     // A page has one sector more.
     fn share(&mut self, at: PageAddr, sector: u32) {
-        let is_shared = self.get(at) != NO_SECTOR;
-        let mark = if is_shared { 0 } else { ALONE };
-        self.set(at, sector % STRIDE | mark);
-    }
-
-    fn get(&self, at: PageAddr) -> u32 {
-        self.hints.get(self.index(at))
-    }
-
-    fn set(&mut self, at: PageAddr, hint: u32) {
         let page = self.index(at);
-        self.hints.set(page, hint);
+        let is_alone = !self.hints.is_known(page);
+        self.hints.set(page, sector, is_alone);
     }
 
     fn index(&self, at: PageAddr) -> usize {
@@ -137,26 +132,25 @@ impl Owners {
     }
 }
 
-// How many sectors at most have the same hint.
-fn rounds(map: &PackedMap) -> u32 {
-    u32::try_from(map.len()).unwrap_or(u32::MAX) / STRIDE + 1
-}
-
-// The sector with a hint in a round.
-fn in_round(hint: u32, round: u32) -> u32 {
-    (hint % STRIDE).wrapping_add(round.wrapping_mul(STRIDE))
-}
-
-// The sector with this hint that has a page, and 1; or 0 and 0.
-fn owner(map: &PackedMap, rounds: u32, at: PageAddr, hint: u32) -> (u32, u32) {
+// The sector that has a page, of so many from a first one on, and 1; or a number and 0.
+fn owner(map: &PackedMap, at: PageAddr, first: u32, size: u32) -> (u32, u32)
+    requires few { length map.now.items < 2 ^ 32 }
+    requires packable { IsPackable (Some at) }
+{
+    if size == 1 {
+        return (first, has(map, at, first));
+    }
     let mut found = (0, 0);
-    for round in 0..rounds {
-        let sector = in_round(hint, round);
-        let count = has(map, at, sector);
-        found = (
-            found.0 | sector & 0_u32.wrapping_sub(count),
-            found.1 | count,
-        );
+    let mut from = first as usize;
+    let end = from.saturating_add(size as usize).min(map.len());
+    for _ in 0..size / 256 + 1 {
+        let last = (from / 256 * 256).saturating_add(256).min(end);
+        if from < last {
+            if let Some(sector) = map.find(from, last, at) {
+                found = (sector as u32, 1);
+            }
+            from = last;
+        }
     }
     found
 }
@@ -171,16 +165,13 @@ fn has(map: &PackedMap, at: PageAddr, sector: u32) -> u32 {
     })
 }
 
-// A sector with this hint, or near to one, that has a page.
+// A sector near to one that has a page.
 #[inline(never)]
-fn near(map: &PackedMap, at: PageAddr, hint: u32) -> Option<u32> {
+fn near(map: &PackedMap, at: PageAddr, sector: u32) -> Option<u32> {
     for distance in 0..REACH {
-        for round in 0..rounds(map) {
-            let sector = in_round(hint, round);
-            for other in [sector.wrapping_add(distance), sector.wrapping_sub(distance)] {
-                if has(map, at, other) == 1 {
-                    return Some(other);
-                }
+        for other in [sector.wrapping_add(distance), sector.wrapping_sub(distance)] {
+            if has(map, at, other) == 1 {
+                return Some(other);
             }
         }
     }

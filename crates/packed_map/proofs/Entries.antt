@@ -1,6 +1,7 @@
 -- The bits of entries.
-use Rattle.std.proofs.Common.{zero, suc, ◌∷◌, map, replicate, ◌≡◌, ◌≢◌, ℕ, ◌+◌, ◌-◌, ◌*◌, ◌<◌, ◌/◌, ◌%◌, ◌==◌, None, Some, false, refl, ◌∙◌, ap₂, arith}
+use Rattle.std.proofs.Common.{zero, suc, ◌∷◌, map, replicate, ◌≡◌, ◌≢◌, ℕ, ◌+◌, ◌-◌, ◌*◌, ◌<◌, ◌/◌, ◌%◌, ◌==◌, None, Some, false, refl, sym, ◌∙◌, ap, ap₂, arith}
 use Rattle.std.proofs.lemmas.Bool.Decides.{nat_tests}
+use Rattle.std.proofs.lemmas.Option.{none-some, same_Some}
 use Rattle.geometry.specs.declared.page_addr.PageAddr.{PageAddr}
 use Rattle.packed_map.specs.Entries.{entry_of, page_at}
 
@@ -27,3 +28,16 @@ entry_of_page bits at is block =
 pub map_entry_of-zeros : (n : ℕ) → map entry_of (replicate n 0) ≡ replicate n None
 map_entry_of-zeros zero = refl
 map_entry_of-zeros (suc n) = ap₂ (λ entry rest. entry ∷ rest) entry_of_zero (map_entry_of-zeros n)
+
+abbrev pub place_of : PageAddr → ℕ
+place_of at = at.page / 16384 * 70368744177664 + at.block * 16384 + at.page % 16384
+
+place_of_page : (place : ℕ) → place_of (page_at place) ≡ place
+place_of_page place = omega arith
+
+-- a page has the bits that are packed for it alone
+pub bits_of_page : (bits : ℕ) (at : PageAddr) → entry_of bits ≡ Some at → bits ≡ place_of at + 1
+bits_of_page zero at is = absurd (none-some at (sym entry_of_zero ∙ is))
+bits_of_page (suc place) at is =
+    let same = same_Some (page_at (suc place - 1)) at (sym (entry_of_some (suc place) (λ e. omega (arith, e))) ∙ is) in
+    omega (arith, place_of_page (suc place - 1), ap place_of same)

@@ -190,3 +190,12 @@ resized (Ok value) old new n len is ok size more =
     let rest : n - len ≡ 256 = omega (arith, more) in
     is ∙ ap₂ (λ (xs : List ℕ) (m : ℕ). xs ++ replicate {A = ℕ} m 0) all rest
 resized (Err e) old new n len is ok size more = absurd (false≢true ok)
+
+-- what is kept for an index is found from another one of its group
+pub kept_beside : (places kept : List ℕ) (n first i place : ℕ) → first ≤ i → i < first / 256 * 256 + 256 → i < n → place ≡ get_or places (first / 256) 0
+    → get_or kept (place * 256 + first % 256 + (i - first)) 0 ≡ get_or (grouped_numbers places kept n) i 0
+kept_beside places kept n first i place le group lt is =
+    let same : first / 256 ≡ i / 256 = omega (arith, le, group) in
+    let there : place ≡ get_or places (i / 256) 0 = is ∙ ap (λ (g : ℕ). get_or places g 0) same in
+    let at : place * 256 + first % 256 + (i - first) ≡ get_or places (i / 256) 0 * 256 + i % 256 = omega (arith, le, group, there) in
+    ap (λ (k : ℕ). get_or kept k 0) at ∙ sym (numbers_get places kept n i lt)

@@ -1,3 +1,4 @@
 pub mod Entries
+pub mod Finding
 pub mod Groups
 pub mod Halves

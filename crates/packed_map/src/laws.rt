@@ -1,6 +1,7 @@
 //! Laws of the definitions. Each function has no code: its clauses say on small values where a definition holds and where not.
 ghost use Rattle.std.specs.Prelude.{◌≡◌, ℕ, List, [], ◌∷◌, replicate, None, Some};
 ghost use Rattle.packed_map.specs.Entries.{entry_of, IsPackable};
+ghost use Rattle.packed_map.specs.Finding.{Finds};
 ghost use Rattle.packed_map.specs.Groups.{grouped_numbers, AreGrouped};
 ghost use Rattle.packed_map.specs.Halves.{joined};
 
@@ -24,6 +25,19 @@ pub fn limits_of_entries()
     ensures none { IsPackable None }
     ensures greatest { IsPackable (Some (record { block = 4294967295; page = 4294967294 })) }
     ensures last { ¬ IsPackable (Some (record { block = 4294967295; page = 4294967295 })) }
+{}
+
+/// What a search finds, and when it finds nothing.
+pub fn searches()
+    ensures first { Finds (λ i. i ≡ 3) 3 5 (Some 3) }
+    ensures last { Finds (λ i. i ≡ 4) 3 5 (Some 4) }
+    ensures other { ¬ Finds (λ i. i ≡ 4) 3 5 (Some 3) }
+    ensures below { ¬ Finds (λ i. i ≡ 2) 3 5 (Some 2) }
+    ensures end { ¬ Finds (λ i. i ≡ 5) 3 5 (Some 5) }
+    ensures nothing_below { Finds (λ i. i ≡ 2) 3 5 None }
+    ensures nothing_above { Finds (λ i. i ≡ 5) 3 5 None }
+    ensures overlooked { ¬ Finds (λ i. i ≡ 3) 3 5 None }
+    ensures overlooked_last { ¬ Finds (λ i. i ≡ 4) 3 5 None }
 {}
 
 /// Where the numbers of groups are, and which groups are kept.

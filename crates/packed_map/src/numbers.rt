@@ -1,4 +1,5 @@
-ghost use Rattle.std.specs.Prelude.{◌≡◌, ◌<◌, ◌^◌, length, replicate, slice_set, slice_index_or, IfOk};
+ghost use Rattle.std.specs.Prelude.{◌≡◌, ◌<◌, ◌≤◌, ◌+◌, ◌*◌, ◌/◌, ◌^◌, length, replicate, slice_set, slice_index_or, IfOk};
+ghost use Rattle.packed_map.specs.Finding.{Finds};
 
 use crate::words::SparseWords;
 use std::alloc::{AllocError, Global};
@@ -49,6 +50,33 @@ impl SparseNumbers {
         ensures { result ≡ slice_index_or self.now index 0 }
     {
         u64::from(self.high.get(index)) * HALF + u64::from(self.low.get(index))
+    }
+
+    /// One of these indices, all in one group of 256, at which a number stands.
+    pub fn find(&self, first: usize, end: usize, number: u64) -> Option<usize>
+        requires within { (first < end) × (end ≤ length self.now) }
+        requires group { end ≤ first / 256 * 256 + 256 }
+        ensures { Finds (λ i. slice_index_or self.now i 0 ≡ number) first end result }
+    {
+        match self.low.find(first, end, (number % HALF) as u32) {
+            Some(i) if self.get(i) == number => Some(i),
+            Some(_) => self.find_whole(first, end, number),
+            None => None,
+        }
+    }
+
+    // The same, where low halves are equal and high ones aren't.
+    #[inline(never)]
+    fn find_whole(&self, first: usize, end: usize, number: u64) -> Option<usize>
+        requires within { (first < end) × (end ≤ length self.now) }
+        ensures { Finds (λ i. slice_index_or self.now i 0 ≡ number) first end result }
+    {
+        for i in first..end {
+            if self.get(i) == number {
+                return Some(i);
+            }
+        }
+        None
     }
 
     /// Sets the number at an index.

@@ -1,5 +1,6 @@
-ghost use Rattle.std.specs.Prelude.{◌≡◌, ◌<◌, length, replicate, slice_set, slice_index_or, None, IfOk};
+ghost use Rattle.std.specs.Prelude.{◌≡◌, ◌<◌, ◌≤◌, ◌+◌, ◌*◌, ◌/◌, length, replicate, slice_set, slice_index_or, None, Some, IfOk};
 ghost use Rattle.packed_map.specs.Entries.{IsPackable};
+ghost use Rattle.packed_map.specs.Finding.{Finds};
 
 use crate::entry::{pack, unpack};
 use crate::numbers::SparseNumbers;
@@ -47,6 +48,16 @@ impl PackedMap {
         ensures packable { IsPackable result }
     {
         unpack(self.entries.get(sector))
+    }
+
+    /// One of these sectors that has a page. They are in one group of 256, which is 0 to 255, 256 to 511 and so on.
+    pub fn find(&self, first: usize, end: usize, at: PageAddr) -> Option<usize>
+        requires within { (first < end) × (end ≤ length self.now.items) }
+        requires group { end ≤ first / 256 * 256 + 256 }
+        requires packable { IsPackable (Some at) }
+        ensures { Finds (λ s. slice_index_or self.now.items s None ≡ Some at) first end result }
+    {
+        self.entries.find(first, end, pack(Some(at)))
     }
 
     /// Maps a sector to a page, or to none.

@@ -1,11 +1,15 @@
-ghost use Rattle.std.specs.Prelude.{◌≡◌, ◌≢◌, ◌<◌, ◌≤◌, ◌+◌, ◌*◌, ◌/◌, ◌^◌, ℕ, length, replicate, slice_set, slice_index_or, vec_capacity, IfOk};
+ghost use Rattle.std.specs.Prelude.{◌≡◌, ◌≢◌, ◌<◌, ◌≤◌, ◌+◌, ◌*◌, ◌/◌, ◌%◌, ◌^◌, ℕ, length, replicate, slice_set, slice_index_or, vec_capacity, IfOk};
 ghost use Rattle.packed_map.specs.Groups.{number_at, AreGrouped};
+ghost use Rattle.packed_map.specs.Finding.{Finds};
 
 use std::alloc::{AllocError, Global};
 use std::marker::Model;
 
 /// How many numbers a group has.
 const GROUP: usize = 256;
+
+// How many numbers of 32 bits there are.
+const WORDS: u64 = 4_294_967_296;
 
 /// Numbers of 32 bits, in groups of 256. Those groups in which each number is 0 take no memory but a place.
 #[derive(Drop)]
@@ -67,6 +71,22 @@ impl SparseWords {
             return 0;
         }
         self.kept[self.places[index / GROUP] as usize * GROUP + index % GROUP]
+    }
+
+    /// The last of these indices at which a number stands. All of them are in one group.
+    pub fn find(&self, first: usize, end: usize, number: u32) -> Option<usize>
+        requires within { (first < end) × (end ≤ length self.now) }
+        requires group { end ≤ first / 256 * 256 + 256 }
+        ensures { Finds (λ i. slice_index_or self.now i 0 % 4294967296 ≡ number) first end result }
+    {
+        let start = self.places[first / GROUP] as usize * GROUP + first % GROUP;
+        let mut found = None;
+        for i in first..end {
+            if u64::from(self.kept[start + (i - first)]) % WORDS == u64::from(number) {
+                found = Some(i);
+            }
+        }
+        found
     }
 
     /// Sets the number at an index.
