@@ -1,10 +1,10 @@
-/* The core of a device of 64 GiB: its memory, and that it finds the sectors of a block, where several have the same hint, without a search of them all. */
+/* The core of large devices: its memory, and that it finds the sectors of a block, where a hint stands for several, without a search of them all. */
 #include "mintlintel_durable.h"
 #include "testing.h"
 #include <time.h>
 #include <unistd.h>
 
-enum { BLOCKS = 65536, PAGES = 256, SECTORS = BLOCKS * PAGES / 4 * 3, WRITES = 1000000, MOST_SECONDS = 100 };
+enum { PAGES = 256, WRITES = 1000000, MOST_SECONDS = 100 };
 
 static struct mintlintel_core core;
 
@@ -26,24 +26,31 @@ static void write_one(uint32_t sector)
     } while (command.kind != 1);
 }
 
-int main(void)
+static void use(uint32_t blocks, uint32_t percent)
 {
+    uint32_t all = blocks * PAGES, sectors = all / 100 * percent;
     uint64_t draws = 1;
     long before = resident();
     clock_t start = clock();
-    CHECK(mintlintel_core_open(&core, BLOCKS, PAGES, SECTORS) == MINTLINTEL_DONE);
-    for (long page = 0; page < BLOCKS * PAGES; page++)
+    CHECK(mintlintel_core_open(&core, blocks, PAGES, sectors) == MINTLINTEL_DONE);
+    for (uint32_t page = 0; page < all; page++)
         CHECK(mintlintel_core_note(&core, 0, 0, 0, 0) == MINTLINTEL_DONE);
     CHECK(mintlintel_core_finish(&core) == MINTLINTEL_DONE);
-    for (uint32_t sector = 0; sector < SECTORS; sector++)
+    for (uint32_t sector = 0; sector < sectors; sector++)
         write_one(sector);
-    for (long i = 0; i < BLOCKS * PAGES - SECTORS + WRITES; i++) {
-        write_one(drawn(&draws) % SECTORS);
+    for (uint32_t i = 0; i < all - sectors + WRITES; i++) {
+        write_one(drawn(&draws) % sectors);
         CHECK(i % 1024 != 0 || (clock() - start) / CLOCKS_PER_SEC < MOST_SECONDS);
     }
     long taken = resident() - before;
-    CHECK(taken < 8l * SECTORS + 16 * BLOCKS);
+    CHECK(taken < 8l * sectors + 16l * blocks);
     mintlintel_core_close(&core);
-    printf("large_core: %.2f bytes a sector, with those of blocks\n", (double)taken / SECTORS);
+    printf("large_core: %u pages, %u %% in use: %.2f bytes a sector, with those of blocks\n", all, percent, (double)taken / sectors);
+}
+
+int main(void)
+{
+    use(65536, 75);
+    use(16384, 51);
     return 0;
 }
