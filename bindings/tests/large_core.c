@@ -51,6 +51,6 @@ static void use(uint32_t blocks, uint32_t percent)
 int main(void)
 {
     use(65536, 75);
-    use(16384, 51);
+    use(16384, 52);
     return 0;
 }
