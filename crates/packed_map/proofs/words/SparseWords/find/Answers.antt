@@ -36,8 +36,8 @@ loop-i-preserved c =
     ∙ ap (λ (xs : List ℕ). get_or xs i 0) c.self.view_is in
     let Holds : ℕ → Type 0 = λ j. get_or self j 0 % 4294967296 ≡ c.args.number in
     elim c.if-from.branch [
-      then-from w ↦ rw w.found-is
-      (found_last Holds c.args.first i c.loop-i.auto.i (omega (arith, is, c.from.ensures, c.from-in-loop-i.ensures, w.if-from.true)))
-    | else-from w ↦ rw w.found-is (found_before Holds c.args.first i c.loop-i.found c.loop-i.invariant
-      (λ e. w.if-from.false (omega (arith, is, c.from.ensures, c.from-in-loop-i.ensures, e))))
+      | then-from w ↦ rw w.found-is
+          (found_last Holds c.args.first i c.loop-i.auto.i (omega (arith, is, c.from.ensures, c.from-in-loop-i.ensures, w.if-from.true)))
+      | else-from w ↦ rw w.found-is (found_before Holds c.args.first i c.loop-i.found c.loop-i.invariant
+          (λ e. w.if-from.false (omega (arith, is, c.from.ensures, c.from-in-loop-i.ensures, e))))
     ]
