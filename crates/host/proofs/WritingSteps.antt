@@ -11,7 +11,7 @@ use Rattle.flash_rule.specs.Plays.{CanPut, CanCount, IsSettled, SettledBut, word
 use Rattle.flash_rule.proofs.{Owning.some_same, PageSteps.words_none, PageSteps.words_here}
 use Rattle.flash_table.specs.{declared.flash.Flash.Flash, declared.pass.Pass.Pass, declared.pass.OpenBlock.OpenBlock, Owning.owned_of, Owning.owned_list}
 use Rattle.flash_table.specs.Flash.{IsPassOf, Denied, view_of, opened_of, geometry_of, device}
-use Rattle.flash_table.proofs.Told.{owned_one}
+use Rattle.flash_table.proofs.PassResults.{owned_one}
 use Rattle.host.specs.Filling.{Filled}
 
 -- ---- the search for a free block

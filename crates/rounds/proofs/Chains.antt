@@ -10,7 +10,8 @@ use Rattle.rounds.specs.{Lines.Said, Rounds.AreInRange, Rounds.PlayedRound, Rows
 use Rattle.rounds.specs.{Orders.made, Orders.InOrder, Orders.LeaveSame, Told.worker_of, Told.sector_of, Told.calls_in, Told.is_right, Told.AreAnswered}
 use Rattle.rounds.{specs.Meetings.AreTied, specs.Meetings.HavePlayed, specs.Meetings.HaveMet, proofs.Runs.run_begins, proofs.Runs.meeting_goes_on}
 use Rattle.rounds.specs.Merging.{is_meet, is_line_of, lines_for, line_count, merge, rows_after, rounds_of, AreSameFor, HaveNoMeeting, AreDisjointCommands}
-use Rattle.rounds.proofs.{Meetings.round_between, Sequential.sequential, Sequential.leaves_same, Told.answered_more, Told.callers_in, Told.targets_in}
+use Rattle.rounds.proofs.{Meetings.round_between, Sequential.sequential, Sequential.leaves_same, AnsweredLines.answered_more}
+use Rattle.rounds.proofs.{AnsweredLines.callers_in, AnsweredLines.targets_in}
 use Rattle.rounds.proofs.Merging.{commands_in-merge, disjoint_lines, lines_in_range, merge-append, merge_same, rounds_of-meet, rounds_of-last}
 
 -- A round that passes have played between the history to which they were tied and the one at which they have met, disjoint or not

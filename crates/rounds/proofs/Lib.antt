@@ -3,7 +3,7 @@ pub mod Playing
 pub mod Sequential
 pub mod Orders
 pub mod Meetings
-pub mod Told
+pub mod AnsweredLines
 pub mod Texts
 pub mod Merging
 pub mod Runs

@@ -1,9 +1,9 @@
 mod Plays
 pub mod WearTexts
 pub mod LogTexts
-pub mod Made
+pub mod DueCollections
 mod Rows
 mod Deliveries
 mod RefusedWrites
-pub mod Told
+pub mod DeliveredAnswers
 pub mod BroomTexts

@@ -14,7 +14,7 @@ use Rattle.volume.specs.{declared.volume.Volume.Volume, Volume.flash_of}
 use Rattle.rounds.specs.{Merging.is_meet, Merging.is_line_of, Merging.lines_for, Plans.ends_of, Plans.items_of, Plans.places_for}
 use Rattle.workers.specs.{declared.worker.Worker.Worker, Dealing.AreDoable, Meetings.IsAt, Meetings.passes_of, Meetings.views_of}
 use Rattle.workers.specs.Shares.{HasPlayedNone, rows_for, with_commands, work_of}
-use Rattle.workers.proofs.{Looping.some_worker, Walking.lines_there, Walking.places_low}
+use Rattle.workers.proofs.{RunStates.some_worker, RoundLines.lines_there, RoundLines.places_low}
 use Rattle.trace.specs.declared.commands.Op.TheVariants as op
 
 -- there is a host, so each worker of a command is one of the hosts

@@ -181,7 +181,7 @@ fn rest(clock: &impl Clock, micros: u64, longest: u64) -> u64 {
 }
 
 // Takes turns until the flag is set, and rests if a turn has gained nothing.
-#[tactic(auto, using(crate::proofs::Collected::collected_none))]
+#[tactic(auto, using(crate::proofs::BroomCalls::collected_none))]
 pub(crate) fn collect<R: Wait + Clock, G: Gate>(
     rt: &R,
     collector: Collector,

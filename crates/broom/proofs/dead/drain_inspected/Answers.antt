@@ -3,7 +3,7 @@ use Rattle.geometry.specs.declared.pin_word.Phase.TheVariants.{Closed, Victim}
 use Rattle.flash_rule.specs.{declared.view.View.View, Views.with_owned, BroomPlays.owned_as}
 use Rattle.flash_table.specs.declared.broom_seat.{BroomBlocks.BroomBlocks, ReclaimedBlock.ReclaimedBlock}
 use Rattle.flash_table.specs.Flash.{broom_view, own_blocks}
-use Rattle.flash_table.proofs.ToldBrooms.{loaded_changed}
+use Rattle.flash_table.proofs.BroomResults.{loaded_changed}
 use Rattle.broom.specs.Ready.{IsRested}
 use Rattle.broom.proofs.DeadBlocks.{blocks_back, drained_dead, load_listed, rested_as, rested_drained}
 use Rattle.broom.proofs.Unmarking.{ready_unmarked}

@@ -4,7 +4,7 @@ use Rattle.flash_rule.specs.{declared.facts.Source.Source, declared.view.View.Vi
 use Rattle.flash_rule.proofs.Owning.{some_same}
 use Rattle.flash_table.specs.{Owning.owned_of, Flash.broom_view, Flash.own_blocks, Flash.geometry_of}
 use Rattle.flash_table.specs.declared.{pass.OpenBlock.OpenBlock, broom_seat.BroomBlocks.BroomBlocks}
-use Rattle.flash_table.proofs.Told.{starts_same}
+use Rattle.flash_table.proofs.PassResults.{starts_same}
 use Rattle.broom.specs.{Ready.HasRoom, Relocating.Copied}
 use Rattle.broom.proofs.Copying.{Filling, filling_none, filling_can, filling_same, filling_more, put_work, filled_can, copied, copied_sweeps}
 use Rattle.broom.proofs.relocation.copy_page.Goals.{In-Some, In-loop-i, After-get_source_word-word, After-loop-i, After-put_copy_word-2}

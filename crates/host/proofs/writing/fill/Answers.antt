@@ -2,7 +2,7 @@ use Rattle.std.proofs.Common.{◌≡◌, ◌<◌, Some, sym, ap, ◌∙◌, subs
 use Rattle.geometry.specs.{Geometry.numbers_of, Geometry.blocks_of, Geometry.pages_of, Geometry.words_of, declared.map_word.MapWord.MapWord}
 use Rattle.flash_rule.specs.Plays.{next_page}
 use Rattle.flash_table.specs.{Owning.owned_of, declared.pass.OpenBlock.OpenBlock, Flash.view_of, Flash.opened_of, Flash.geometry_of}
-use Rattle.flash_table.proofs.Told.{same_block, starts_same}
+use Rattle.flash_table.proofs.PassResults.{same_block, starts_same}
 use Rattle.host.specs.Filling.{Filled}
 use Rattle.host.proofs.WritingSteps.{Filling, filling_none, filling_can, filling_more, word_is, filled_can, filled, put_work}
 use Rattle.host.proofs.writing.fill.Goals.{In-Some, After-loop-i}

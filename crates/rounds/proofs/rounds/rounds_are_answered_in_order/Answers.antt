@@ -1,4 +1,4 @@
-use Rattle.rounds.proofs.{Told.rounds_are_in_order, Texts.order_is_text}
+use Rattle.rounds.proofs.{AnsweredLines.rounds_are_in_order, Texts.order_is_text}
 use Rattle.rounds.proofs.rounds.rounds_are_answered_in_order.Goals as goal
 
 pub returns : goal.returns

@@ -7,7 +7,7 @@ use Rattle.rounds.specs.{Rows.answers_by, Answers.page_size_of, declared.answer_
 use Rattle.geometry.specs.Geometry.{page_bytes_of}
 use Rattle.runs.specs.{Delivering.digits_in, Outputs.written_by_workers, Brooms.IsBroomLogOf, Brooms.brooms_text, Files.EndsText}
 use Rattle.runs.proofs.{BroomTexts.brooms_right, LogTexts.ends_file}
-use Rattle.runs.proofs.Told.{all_digits, enough_answers, part_sent, renamed, renamed_meaning, some_meaning, text_sent}
+use Rattle.runs.proofs.DeliveredAnswers.{all_digits, enough_answers, part_sent, renamed, renamed_meaning, some_meaning, text_sent}
 use Rattle.workers.specs.{declared.collector.collector_end.CollectorEnd.CollectorEnd, Served.AllHaveServed}
 use Rattle.runs.proofs.many_threads.run_logged.Goals as goal
 

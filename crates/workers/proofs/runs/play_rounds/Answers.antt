@@ -1,7 +1,7 @@
 use Rattle.std.proofs.Common.{◌≡◌, ◌+◌, ◌∷◌, suc, drop, get_or, subst, arith}
 use Rattle.std.proofs.{Math.Seq.drop-cons, lemmas.List.drop_all}
-use Rattle.workers.proofs.Looping.{RunState, state_begins, state_next, state_ends}
-use Rattle.workers.proofs.Collected.{all_collected_none, all_collected_then, collected_long}
+use Rattle.workers.proofs.RunStates.{RunState, state_begins, state_next, state_ends}
+use Rattle.workers.proofs.BroomCalls.{all_collected_none, all_collected_then, collected_long}
 use Rattle.workers.proofs.runs.play_rounds.Goals as goal
 
 pub loop-i-init : goal.loop-i-init

@@ -1,7 +1,7 @@
 use Rattle.std.proofs.Common.{◌≡◌, ◌+◌, List, length, drop}
 use Rattle.trace.specs.declared.commands.Command.{Command}
 use Rattle.workers.specs.{Collecting.HaveCollected, Runs.AreManned, Runs.HasBegun}
-use Rattle.workers.proofs.Looping.{RunState}
+use Rattle.workers.proofs.RunStates.{RunState}
 use Rattle.workers.proofs.runs.play_rounds.Given as goal
 
 abbrev pub invariant-loop-i : goal.invariant-loop-i

@@ -1,6 +1,6 @@
 use Rattle.std.proofs.Common.{All, subst}
 use Rattle.workers.specs.Workers.{IsIdle}
-use Rattle.workers.proofs.{Manned.idles_played, Collected.all_collected_none}
+use Rattle.workers.proofs.{PlayedRounds.idles_played, BroomCalls.all_collected_none}
 use Rattle.workers.proofs.runs.play_team.Goals as goal
 
 pub returns-then-have_no_line-clause-played : goal.returns-then-have_no_line-clause-played

@@ -1,4 +1,4 @@
-use Rattle.flash_table.proofs.{Asking.of_broom, Here.home_here}
+use Rattle.flash_table.proofs.{Permissions.of_broom, PassSteps.home_here}
 use Rattle.flash_table.proofs.flash.Flash.broom_come_home.Goals as goal
 
 pub join_seat-requires : goal.join_seat-requires

@@ -1,4 +1,4 @@
-use Rattle.flash_table.proofs.{Asking.of_broom, Here.give_here}
+use Rattle.flash_table.proofs.{Permissions.of_broom, PassSteps.give_here}
 use Rattle.flash_table.proofs.flash.Flash.broom_give_back.Goals as goal
 
 pub split_seat-seat-requires : goal.split_seat-seat-requires

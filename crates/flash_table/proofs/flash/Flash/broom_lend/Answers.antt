@@ -1,4 +1,4 @@
-use Rattle.flash_table.proofs.{Asking.of_broom, Here.lend_here}
+use Rattle.flash_table.proofs.{Permissions.of_broom, PassSteps.lend_here}
 use Rattle.flash_table.proofs.flash.Flash.broom_lend.Goals as goal
 
 pub split_seat-seat-requires : goal.split_seat-seat-requires

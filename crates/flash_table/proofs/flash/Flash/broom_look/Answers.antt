@@ -1,4 +1,4 @@
-use Rattle.flash_table.proofs.{Asking.of_broom, HereBrooms.broom_look_here, ToldBrooms.unpacked}
+use Rattle.flash_table.proofs.{Permissions.of_broom, BroomSteps.broom_look_here, BroomResults.unpacked}
 use Rattle.std.proofs.{Common.subst}
 use Rattle.flash_rule.specs.BroomPlays.{Named}
 use Rattle.flash_table.specs.Flash.{broom_view}

@@ -1,4 +1,4 @@
-use Rattle.flash_table.proofs.{Asking.of_broom, Here.take_in_here}
+use Rattle.flash_table.proofs.{Permissions.of_broom, PassSteps.take_in_here}
 use Rattle.flash_table.proofs.flash.Flash.broom_take_in.Goals as goal
 
 pub join_seat-requires : goal.join_seat-requires

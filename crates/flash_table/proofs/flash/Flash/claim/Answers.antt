@@ -1,9 +1,9 @@
-use Rattle.flash_table.proofs.{Asking.whose, Asking.of_broom, HereBrooms.claim_here, Rows.just_now, Blocks.claimed_just}
+use Rattle.flash_table.proofs.{Permissions.whose, Permissions.of_broom, BroomSteps.claim_here, Rows.just_now, Blocks.claimed_just}
 use Rattle.std.proofs.Common.{◌≡◌, [], ◌∷◌, ◌++◌, ap, sym, ◌∙◌}
 use Rattle.flash_rule.specs.BroomPlays.{Claimed}
 use Rattle.flash_table.specs.{Flash.broom_view}
 use Rattle.flash_table.proofs.flash.Flash.claim.Goals.{After-compare_exchange-found}
-use Rattle.flash_table.proofs.ToldBrooms.{is_a_broom, stays_broom, claim_can, claimed_view}
+use Rattle.flash_table.proofs.BroomResults.{is_a_broom, stays_broom, claim_can, claimed_view}
 use Rattle.flash_table.proofs.flash.Flash.claim.Goals as goal
 
 pub compare_exchange-found-requires : goal.compare_exchange-found-requires

@@ -1,8 +1,8 @@
-use Rattle.flash_table.proofs.{Asking.whose, Asking.of_pass, Here.close_here, flash.Flash.close.Goals.After-fetch_add}
+use Rattle.flash_table.proofs.{Permissions.whose, Permissions.of_pass, PassSteps.close_here, flash.Flash.close.Goals.After-fetch_add}
 use Rattle.std.proofs.Common.{◌≡◌, ap}
 use Rattle.flash_rule.specs.declared.view.View.{View}
 use Rattle.flash_table.specs.{Flash.view_of, Owning.owned_of, GivingUp.closed_pass}
-use Rattle.flash_table.proofs.Told.{stays_pass, close_can, close_view, pass_closed}
+use Rattle.flash_table.proofs.PassResults.{stays_pass, close_can, close_view, pass_closed}
 use Rattle.flash_table.proofs.flash.Flash.close.Goals as goal
 
 pub fetch_add-requires : goal.fetch_add-requires

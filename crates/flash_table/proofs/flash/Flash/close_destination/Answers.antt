@@ -1,7 +1,8 @@
-use Rattle.flash_table.proofs.{Asking.whose, Asking.of_broom, Rows.just_now, Here.close_here, flash.Flash.close_destination.Goals.After-fetch_add}
+use Rattle.flash_table.proofs.{Permissions.whose, Permissions.of_broom, Rows.just_now, PassSteps.close_here}
+use Rattle.flash_table.proofs.{flash.Flash.close_destination.Goals.After-fetch_add}
 use Rattle.std.proofs.Common.{◌≡◌, ap, ◌∙◌}
 use Rattle.flash_table.specs.{Flash.broom_view, GivingUp.left_closed, Owning.owned_of}
-use Rattle.flash_table.proofs.{ToldBrooms.stays_broom, Blocks.closed_just, Told.same_block, Told.close_can, Told.close_view}
+use Rattle.flash_table.proofs.{BroomResults.stays_broom, Blocks.closed_just, PassResults.same_block, PassResults.close_can, PassResults.close_view}
 use Rattle.flash_table.proofs.flash.Flash.close_destination.Goals as goal
 
 pub fetch_add-requires : goal.fetch_add-requires

@@ -1,4 +1,4 @@
-use Rattle.flash_table.proofs.{Asking.of_pass, Here.home_here}
+use Rattle.flash_table.proofs.{Permissions.of_pass, PassSteps.home_here}
 use Rattle.flash_table.proofs.flash.Flash.come_home.Goals as goal
 
 pub join_seat-requires : goal.join_seat-requires

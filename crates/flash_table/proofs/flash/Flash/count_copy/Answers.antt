@@ -1,10 +1,11 @@
-use Rattle.flash_table.proofs.{Asking.whose, Asking.of_broom, Rows.just_now, Here.count_here, Told.same_block, Told.count_can, Told.count_view}
+use Rattle.flash_table.proofs.{Permissions.whose, Permissions.of_broom, Rows.just_now, PassSteps.count_here, PassResults.same_block}
+use Rattle.flash_table.proofs.{PassResults.count_can, PassResults.count_view}
 use Rattle.std.proofs.Common.{◌≡◌, ◌+◌, ◌∷◌, ◌++◌, [], Some, refl, ap, ◌∙◌}
 use Rattle.geometry.specs.TableOrder.{pin_index}
 use Rattle.flash_rule.specs.{declared.facts.Work.Work, Plays.CanCount, Views.with_owned}
 use Rattle.flash_table.specs.{Flash.device, Flash.broom_view, Flash.own_blocks, Owning.owned_of}
 use Rattle.flash_table.specs.declared.{pass.OpenBlock.OpenBlock}
-use Rattle.flash_table.proofs.{ToldBrooms.stays_broom, Blocks.counted_just, flash.Flash.count_copy.Goals.After-fetch_add}
+use Rattle.flash_table.proofs.{BroomResults.stays_broom, Blocks.counted_just, flash.Flash.count_copy.Goals.After-fetch_add}
 use Rattle.flash_table.proofs.flash.Flash.count_copy.Goals as goal
 
 pub fetch_add-requires : goal.fetch_add-requires

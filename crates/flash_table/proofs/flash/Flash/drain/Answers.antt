@@ -1,9 +1,9 @@
-use Rattle.flash_table.proofs.{Asking.whose, Asking.of_broom, HereBrooms.drain_here}
+use Rattle.flash_table.proofs.{Permissions.whose, Permissions.of_broom, BroomSteps.drain_here}
 use Rattle.std.proofs.Common.{◌≡◌, ap, ◌∙◌}
 use Rattle.geometry.specs.declared.pin_word.Phase.TheVariants.{Victim}
 use Rattle.flash_table.specs.{GivingUp.left_drained, Owning.reclaimed_as, Flash.broom_view}
 use Rattle.flash_table.proofs.{Rows.just_now, Blocks.drained_just, flash.Flash.drain.Goals.After-fetch_add}
-use Rattle.flash_table.proofs.ToldBrooms.{stays_broom, draining_same, drain_can, drained_view}
+use Rattle.flash_table.proofs.BroomResults.{stays_broom, draining_same, drain_can, drained_view}
 use Rattle.flash_table.proofs.flash.Flash.drain.Goals as goal
 
 pub fetch_add-requires : goal.fetch_add-requires

@@ -1,9 +1,9 @@
-use Rattle.flash_table.proofs.{Asking.of_broom, HereBrooms.source_here}
+use Rattle.flash_table.proofs.{Permissions.of_broom, BroomSteps.source_here}
 use Rattle.std.proofs.Common.{◌+◌, ◌<◌, ap, sym, ◌∙◌, subst}
 use Rattle.geometry.specs.{TableOrder.page_index, declared.map_word.MapWord.MapWord}
 use Rattle.flash_rule.specs.{declared.facts.Source.Source}
 use Rattle.flash_table.specs.Flash.{device}
-use Rattle.flash_table.proofs.ToldBrooms.{source_same, source_value}
+use Rattle.flash_table.proofs.BroomResults.{source_same, source_value}
 use Rattle.flash_table.proofs.flash.Flash.get_source_word.Goals as goal
 
 pub load-requires : goal.load-requires

@@ -1,10 +1,10 @@
-use Rattle.flash_table.proofs.{Asking.whose, Asking.of_broom, Rows.just_now, HereBrooms.stamp_here, flash.Flash.get_stamp.Goals.After-load}
+use Rattle.flash_table.proofs.{Permissions.whose, Permissions.of_broom, Rows.just_now, BroomSteps.stamp_here, flash.Flash.get_stamp.Goals.After-load}
 use Rattle.std.proofs.Common.{◌≡◌, ◌+◌, ◌<◌, ℕ, ap, ◌∙◌, subst}
 use Rattle.geometry.specs.{Geometry.blocks_of, TableOrder.page_index, declared.pin_word.Phase.TheVariants.Victim}
 use Rattle.flash_rule.specs.BroomPlays.{GotStamp}
 use Rattle.flash_table.specs.{Flash.device, Flash.broom_view, Flash.own_blocks, Flash.geometry_of, Owning.reclaimed_as, Steps.IsOfVictim}
 use Rattle.flash_table.specs.declared.{broom_seat.BroomSeat.BroomSeat, broom_seat.ReclaimedBlock.ReclaimedBlock, flash.Flash.Flash}
-use Rattle.flash_table.proofs.ToldBrooms.{stays_broom, of_draining, draining_same, stamp_can, stamp_view, stamp_changed}
+use Rattle.flash_table.proofs.BroomResults.{stays_broom, of_draining, draining_same, stamp_can, stamp_view, stamp_changed}
 use Rattle.flash_table.specs.declared.broom_seat.Reclaiming.TheVariants as reclaiming
 use Rattle.flash_table.proofs.flash.Flash.get_stamp.Goals as goal
 

@@ -1,7 +1,7 @@
 use Rattle.std.proofs.Common.{◌≡◌, ◌+◌, ℕ, ap}
 use Rattle.geometry.specs.{Geometry.numbers_of, TableOrder.page_index, declared.map_word.MapWord.MapWord}
 use Rattle.flash_table.specs.{declared.flash.Flash.Flash, Flash.geometry_of}
-use Rattle.flash_table.proofs.{Asking.of_pass, Here.get_here, Told.get_value}
+use Rattle.flash_table.proofs.{Permissions.of_pass, PassSteps.get_here, PassResults.get_value}
 use Rattle.flash_table.proofs.flash.Flash.get_word.Goals as goal
 
 -- the word's place, by the place at which the page's words begin

@@ -1,4 +1,4 @@
-use Rattle.flash_table.proofs.{Asking.of_pass, Here.give_here}
+use Rattle.flash_table.proofs.{Permissions.of_pass, PassSteps.give_here}
 use Rattle.flash_table.proofs.flash.Flash.give_back.Goals as goal
 
 pub split_seat-seat-requires : goal.split_seat-seat-requires

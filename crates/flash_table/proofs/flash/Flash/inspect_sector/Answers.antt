@@ -1,6 +1,6 @@
-use Rattle.flash_table.proofs.{Asking.whose, Asking.of_broom, Rows.just_now, HereBrooms.inspect_here}
+use Rattle.flash_table.proofs.{Permissions.whose, Permissions.of_broom, Rows.just_now, BroomSteps.inspect_here}
 use Rattle.std.proofs.Common.{ap}
-use Rattle.flash_table.proofs.ToldBrooms.{is_a_broom, stays_broom, inspected_by, inspected_changed}
+use Rattle.flash_table.proofs.BroomResults.{is_a_broom, stays_broom, inspected_by, inspected_changed}
 use Rattle.flash_table.proofs.flash.Flash.inspect_sector.Goals as goal
 
 pub load-found-requires : goal.load-found-requires

@@ -1,4 +1,4 @@
-use Rattle.flash_table.proofs.{Asking.of_pass, Here.lend_here}
+use Rattle.flash_table.proofs.{Permissions.of_pass, PassSteps.lend_here}
 use Rattle.flash_table.proofs.flash.Flash.lend.Goals as goal
 
 pub split_seat-seat-requires : goal.split_seat-seat-requires

@@ -1,5 +1,5 @@
 use Rattle.std.proofs.{Common.arith, lemmas.Grind.common_steps}
-use Rattle.flash_table.proofs.{Asking.of_pass, Here.look_here}
+use Rattle.flash_table.proofs.{Permissions.of_pass, PassSteps.look_here}
 use Rattle.flash_table.proofs.flash.Flash.look.Goals as goal
 
 pub load-found-requires : goal.load-found-requires

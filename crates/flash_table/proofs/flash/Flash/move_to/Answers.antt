@@ -1,9 +1,10 @@
-use Rattle.flash_table.proofs.{Asking.whose, Asking.of_broom, Rows.just_now, HereBrooms.move_here, flash.Flash.move_to.Goals.After-compare_exchange-found}
+use Rattle.flash_table.proofs.{Permissions.whose, Permissions.of_broom, Rows.just_now, BroomSteps.move_here}
+use Rattle.flash_table.proofs.{flash.Flash.move_to.Goals.After-compare_exchange-found}
 use Rattle.std.proofs.Common.{◌≡◌, ap, sym, ◌∙◌, subst}
 use Rattle.geometry.specs.MapWords.{map_word}
 use Rattle.flash_rule.specs.{declared.facts.Source.Source, BroomPlays.Moved}
 use Rattle.flash_table.specs.Flash.{broom_view}
-use Rattle.flash_table.proofs.ToldBrooms.{stays_broom, source_same, moved_view, found_or_not}
+use Rattle.flash_table.proofs.BroomResults.{stays_broom, source_same, moved_view, found_or_not}
 use Rattle.flash_table.proofs.flash.Flash.move_to.Goals as goal
 
 pub compare_exchange-found-requires : goal.compare_exchange-found-requires

@@ -4,7 +4,7 @@ use Rattle.atomic_table.specs.Table.{Splits, opening}
 use Rattle.std.proofs.Common.{◌≡◌, ℕ, ◌+◌, ◌-◌, ◌<◌, List, [], None, Some, length, sym, refl, ap, ◌∙◌, subst, arith}
 use Rattle.geometry.specs.{Geometry.numbers_of, Limits.Numbers}
 use Rattle.flash_table.specs.{declared.broom_seat.Reclaiming.TheVariants.Nothing, Flash.spare_of}
-use Rattle.flash_table.proofs.Dealing.{deals_next, next_owned, deals_next_broom}
+use Rattle.flash_table.proofs.DealtPasses.{deals_next, next_owned, deals_next_broom}
 use Rattle.flash_table.proofs.flash.Flash.open.Goals as goal
 
 pub of_words-requires : goal.of_words-requires

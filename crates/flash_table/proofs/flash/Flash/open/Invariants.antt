@@ -1,5 +1,5 @@
 use Rattle.std.proofs.Common.{◌≤◌, vec_capacity}
-use Rattle.flash_table.proofs.Dealing.{Deals, DealsBrooms}
+use Rattle.flash_table.proofs.DealtPasses.{Deals, DealsBrooms}
 use Rattle.flash_table.proofs.flash.Flash.open.Given as goal
 
 abbrev pub invariant-loop : goal.invariant-loop

@@ -1,8 +1,8 @@
-use Rattle.flash_table.proofs.{Asking.whose, Asking.of_pass, Here.pin_here, flash.Flash.pin.Goals.After-fetch_add-found}
+use Rattle.flash_table.proofs.{Permissions.whose, Permissions.of_pass, PassSteps.pin_here, flash.Flash.pin.Goals.After-fetch_add-found}
 use Rattle.std.proofs.Common.{◌≡◌, ℕ, List, ap, ◌∙◌}
 use Rattle.flash_rule.specs.{declared.facts.Pin.TheVariants.Candidate, declared.view.View.View, Plays.Pinned}
 use Rattle.flash_table.specs.Flash.{view_of}
-use Rattle.flash_table.proofs.Told.{stays_pass, by_outcome, pin_pinned, pin_yes, pin_no}
+use Rattle.flash_table.proofs.PassResults.{stays_pass, by_outcome, pin_pinned, pin_yes, pin_no}
 use Rattle.flash_table.proofs.flash.Flash.pin.Goals as goal
 
 pub fetch_add-found-requires : goal.fetch_add-found-requires

@@ -1,4 +1,4 @@
-use Rattle.flash_table.proofs.{Asking.whose, Asking.of_pass, Here.new_here, Told.stays_pass, Told.new_changed}
+use Rattle.flash_table.proofs.{Permissions.whose, Permissions.of_pass, PassSteps.new_here, PassResults.stays_pass, PassResults.new_changed}
 use Rattle.std.proofs.Common.{ℕ, List, refl, ap, ◌∙◌}
 use Rattle.geometry.specs.History.{WriteNew}
 use Rattle.flash_rule.specs.{declared.view.View.View, Plays.Placed}

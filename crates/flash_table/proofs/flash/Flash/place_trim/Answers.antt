@@ -1,4 +1,4 @@
-use Rattle.flash_table.proofs.{Asking.whose, Asking.of_pass, Here.trim_here, Told.stays_pass, Told.trim_changed}
+use Rattle.flash_table.proofs.{Permissions.whose, Permissions.of_pass, PassSteps.trim_here, PassResults.stays_pass, PassResults.trim_changed}
 use Rattle.std.proofs.Common.{ap, ◌∙◌}
 use Rattle.flash_rule.specs.declared.view.View.{View}
 use Rattle.flash_rule.proofs.Steps.{called}

@@ -1,4 +1,4 @@
-use Rattle.flash_table.proofs.{Asking.whose, Asking.of_pass, Here.write_here, Told.stays_pass, Told.write_changed}
+use Rattle.flash_table.proofs.{Permissions.whose, Permissions.of_pass, PassSteps.write_here, PassResults.stays_pass, PassResults.write_changed}
 use Rattle.std.proofs.Common.{ℕ, List, ap, ◌∙◌}
 use Rattle.geometry.specs.History.{Write}
 use Rattle.flash_rule.specs.{declared.view.View.View, Plays.Placed}

@@ -1,7 +1,7 @@
-use Rattle.flash_table.proofs.{Asking.of_broom, flash.Flash.put_copy_word.Goals.After-store}
+use Rattle.flash_table.proofs.{Permissions.of_broom, flash.Flash.put_copy_word.Goals.After-store}
 use Rattle.std.proofs.Common.{arith}
 use Rattle.flash_table.specs.{Owning.owned_of}
-use Rattle.flash_table.proofs.{Here.put_here, Here.put_fits, Here.put_place}
+use Rattle.flash_table.proofs.{PassSteps.put_here, PassSteps.put_fits, PassSteps.put_place}
 use Rattle.flash_table.proofs.flash.Flash.put_copy_word.Goals as goal
 
 pub overflow_add-place : goal.overflow_add-place

@@ -1,4 +1,4 @@
-use Rattle.flash_table.proofs.{Asking.whose, Asking.of_pass, Here.put_here, Here.put_fits, Here.put_place}
+use Rattle.flash_table.proofs.{Permissions.whose, Permissions.of_pass, PassSteps.put_here, PassSteps.put_fits, PassSteps.put_place}
 use Rattle.std.proofs.Common.{◌+◌, ap, arith}
 use Rattle.flash_table.specs.{Flash.view_of, Owning.owned_of, Steps.HasPut}
 use Rattle.flash_table.proofs.flash.Flash.put_word.Goals as goal

@@ -1,4 +1,4 @@
-use Rattle.flash_table.proofs.{Asking.of_pass, Here.take_in_here}
+use Rattle.flash_table.proofs.{Permissions.of_pass, PassSteps.take_in_here}
 use Rattle.flash_table.proofs.flash.Flash.take_in.Goals as goal
 
 pub join_seat-requires : goal.join_seat-requires

@@ -4,7 +4,7 @@ use Rattle.geometry.specs.Limits.{Numbers}
 use Rattle.broom.specs.{Handing.DrainOneTold, Ready.view_of_broom}
 use Rattle.volume.specs.{declared.volume.Volume.Volume, Volume.queue_of}
 use Rattle.workers.specs.{Collecting.limit_at, Growing.GrowsBy}
-use Rattle.workers.proofs.{Collected.collected_one, Programmed.survey_fills}
+use Rattle.workers.proofs.{BroomCalls.collected_one, DrainPrograms.survey_fills}
 use Rattle.workers.specs.declared.collector.broom_answer.BroomAnswer.TheVariants as by
 use Rattle.workers.proofs.collector.Collector.drain.Goals as goal
 

@@ -2,7 +2,7 @@ use Rattle.std.proofs.Common.{refl, subst}
 use Rattle.erase_queue.specs.Queue.{limit_of}
 use Rattle.volume.specs.{declared.volume.Volume.Volume, Volume.queue_of}
 use Rattle.workers.specs.Collecting.{CallTold}
-use Rattle.workers.proofs.Collected.{collected_one}
+use Rattle.workers.proofs.BroomCalls.{collected_one}
 use Rattle.workers.specs.declared.collector.broom_answer.BroomAnswer.TheVariants as by
 use Rattle.workers.proofs.collector.Collector.drain_dead.Goals as goal
 

@@ -1,6 +1,6 @@
 use Rattle.std.proofs.Common.{◌∙◌, sym, ap}
 use Rattle.std.specs.Prelude.{◌||◌}
-use Rattle.workers.proofs.Turning.{followed_other, followed_spareless, is_spareless}
+use Rattle.workers.proofs.BroomTurns.{followed_other, followed_spareless, is_spareless}
 use Rattle.workers.specs.Turns.{has_drained, has_erased}
 use Rattle.workers.proofs.collector.Collector.follow.Goals as goal
 

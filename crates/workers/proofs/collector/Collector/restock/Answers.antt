@@ -1,6 +1,6 @@
 use Rattle.std.proofs.Common.{refl}
 use Rattle.workers.specs.declared.collector.broom_answer.BroomAnswer.TheVariants as by
-use Rattle.workers.proofs.Collected.{collected_one}
+use Rattle.workers.proofs.BroomCalls.{collected_one}
 use Rattle.workers.proofs.collector.Collector.restock.Goals as goal
 
 pub returns : goal.returns

@@ -1,4 +1,4 @@
-use Rattle.workers.proofs.Turning.{TurnSoFar}
+use Rattle.workers.proofs.BroomTurns.{TurnSoFar}
 use Rattle.workers.proofs.collector.Collector.turn.Given as goal
 
 abbrev pub invariant-loop-made : goal.invariant-loop-made

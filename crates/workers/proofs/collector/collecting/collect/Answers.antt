@@ -1,4 +1,4 @@
-use Rattle.workers.proofs.Collected.{collected_turn}
+use Rattle.workers.proofs.BroomCalls.{collected_turn}
 use Rattle.workers.proofs.collector.collecting.collect.Goals as goal
 
 pub loop-preserved-then-turn : goal.loop-preserved-then-turn

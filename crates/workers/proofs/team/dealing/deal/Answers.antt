@@ -9,7 +9,7 @@ use Rattle.volume.specs.{declared.volume.Volume.Volume, Volume.flash_of, Brooms.
 use Rattle.rounds.specs.Plans.{ends_of}
 use Rattle.workers.specs.{Meetings.IsAt, Runs.AreManned, Runs.HasBegun, Served.AreAtRunStart, Served.HasCountedNone}
 use Rattle.workers.specs.Shares.{HasFitShare, IsOwner, with_commands, work_in}
-use Rattle.workers.proofs.{Counting.zero_plus, Serving.all_first, Openings.at_first, Openings.row_count, Openings.rows_doable}
+use Rattle.workers.proofs.{TallySums.zero_plus, BroomServices.all_first, Openings.at_first, Openings.row_count, Openings.rows_doable}
 use Rattle.workers.proofs.team.dealing.deal.Goals.{After-seat_collectors}
 use Rattle.workers.proofs.team.dealing.deal.Goals as goal
 

@@ -5,7 +5,7 @@ use Rattle.volume.specs.{declared.volume.Volume.Volume, Volume.flash_of}
 use Rattle.volume.proofs.FreshBrooms.{taken}
 use Rattle.workers.specs.{declared.worker.Worker.Worker, declared.worker.share.Share.Share, Meetings.IsAt}
 use Rattle.workers.specs.Shares.{HasFitShare, HasPlayedNone, IsOwner, work_in, work_of}
-use Rattle.workers.proofs.Dealt.{moved, moved_in, pushed_all}
+use Rattle.workers.proofs.DealtRows.{moved, moved_in, pushed_all}
 use Rattle.workers.proofs.team.dealing.seat_workers.Goals as goal
 
 pub seat-requires-clause-ready : goal.seat-requires-clause-ready

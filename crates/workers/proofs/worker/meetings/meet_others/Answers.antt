@@ -3,7 +3,7 @@ use Rattle.std.proofs.lemmas.List.{get_or_default, length-map}
 use Rattle.volume.specs.Volume.{flash_of}
 use Rattle.volume.proofs.Looks.{begins, met_each}
 use Rattle.workers.specs.{declared.worker.Worker.Worker, Meetings.passes_of}
-use Rattle.workers.proofs.Meeting.{ready_at, all_ready, same_at, all_same_at, meets_more, rests_kept}
+use Rattle.workers.proofs.RoundMeetings.{ready_at, all_ready, same_at, all_same_at, meets_more, rests_kept}
 use Rattle.workers.proofs.worker.meetings.meet_others.Goals as goal
 
 pub loop-other-init : goal.loop-other-init

@@ -5,7 +5,7 @@ use Rattle.flash_table.specs.Flash.{view_of, geometry_of}
 use Rattle.volume.specs.Volume.{flash_of}
 use Rattle.rounds.specs.{Lines.said, Playing.Played, declared.answer.Answer.Answer}
 use Rattle.workers.specs.Playable.{HasPage}
-use Rattle.workers.proofs.Lines.{playing_none, playing_lent, playing_end, lent_page}
+use Rattle.workers.proofs.PlayedLines.{playing_none, playing_lent, playing_end, lent_page}
 use Rattle.workers.proofs.worker.plays.play.Goals as goal
 
 pub loop-i-init : goal.loop-i-init

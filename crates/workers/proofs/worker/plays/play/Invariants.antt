@@ -4,7 +4,7 @@ use Rattle.flash_table.specs.Flash.{geometry_of}
 use Rattle.volume.specs.Volume.{flash_of}
 use Rattle.rounds.specs.Lines.{said}
 use Rattle.workers.specs.Playable.{HasPage}
-use Rattle.workers.proofs.Lines.{Playing}
+use Rattle.workers.proofs.PlayedLines.{Playing}
 use Rattle.workers.proofs.worker.plays.play.Given as goal
 
 abbrev pub invariant-loop-i : goal.invariant-loop-i

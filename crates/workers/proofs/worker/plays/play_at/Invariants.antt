@@ -1,6 +1,6 @@
 use Rattle.std.specs.Prelude.{◌≤◌, length}
 use Rattle.workers.specs.Playable.{lines_at}
-use Rattle.workers.proofs.Adding.{Adding}
+use Rattle.workers.proofs.AddedAnswers.{Adding}
 use Rattle.workers.proofs.worker.plays.play_at.Given as goal
 
 abbrev pub invariant-loop-i : goal.invariant-loop-i

@@ -5,7 +5,7 @@ use Rattle.trace.specs.declared.commands.Op.{Op}
 use Rattle.volume.specs.Volume.{flash_of}
 use Rattle.rounds.specs.Lines.{is_full}
 use Rattle.workers.specs.Line.{PlayedLine}
-use Rattle.workers.proofs.Line.{read_line, trim_line}
+use Rattle.workers.proofs.OneLine.{read_line, trim_line}
 use Rattle.workers.proofs.worker.plays.play_line.Goals as goal
 
 pub returns-in-Read-clause-played : goal.returns-in-Read-clause-played

@@ -2,7 +2,7 @@ use Rattle.std.specs.Prelude.{◌≤◌}
 use Rattle.flash_table.specs.Flash.{view_of}
 use Rattle.host.specs.Ready.{IsReady}
 use Rattle.volume.specs.Volume.{flash_of}
-use Rattle.workers.proofs.Line.{Waited}
+use Rattle.workers.proofs.OneLine.{Waited}
 use Rattle.workers.proofs.worker.plays.write_patiently.Given as goal
 
 abbrev pub invariant-loop-tried : goal.invariant-loop-tried

@@ -4,7 +4,7 @@ use Rattle.std.proofs.lemmas.List.Elements.{All-nil}
 use Rattle.volume.proofs.FreshBrooms.{taken}
 use Rattle.rounds.specs.Plans.{items_of}
 use Rattle.workers.specs.{Dealing.AreDoable, Shares.HasFitShare, Shares.work_in, Shares.with_commands}
-use Rattle.workers.proofs.Dealt.{moved, pushed_all}
+use Rattle.workers.proofs.DealtRows.{moved, pushed_all}
 use Rattle.workers.proofs.worker.share.make_shares.Goals as goal
 
 pub loop-row-init : goal.loop-row-init

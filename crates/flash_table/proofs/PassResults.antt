@@ -1,5 +1,5 @@
 -- What a step's play makes of a pass, and of any seat with an open block.
-use Rattle.flash_table.proofs.Asking.{whose, IsSeatOf, slots_of}
+use Rattle.flash_table.proofs.Permissions.{whose, IsSeatOf, slots_of}
 use Rattle.std.proofs.Common.{◌≡◌, ℕ, ◌+◌, ◌<◌, Bool, true, false, List, [], ◌∷◌, ◌++◌, length, Option, Some, None, sym, refl, ap, ◌∙◌, subst, arith}
 use Rattle.geometry.specs.{PinWords.FitsPin, PinWords.pin_word, Limits.Numbers, Geometry.blocks_of, Geometry.pages_of, MapWords.map_word, MapWords.FitsMap}
 use Rattle.geometry.specs.declared.pin_word.{PinWord.PinWord, TheConstants.NEXT_PHASE, TheConstants.PAGE_WRITTEN, TheConstants.READER}

@@ -8,7 +8,7 @@ use Rattle.broom.specs.{contracts.answer.DrainPartialEq.TheImpl.eq-value, declar
 use Rattle.workers.specs.declared.collector.{broom_answer.BroomAnswer.BroomAnswer, Collector.Collector}
 use Rattle.workers.specs.Collecting.{HasCollectedBy, HasFollowed, HasSearched, HasTakenTurn}
 use Rattle.workers.specs.Turns.{Follows, GoesOn, TurnDrain, by_last_survey, by_new_survey, found_no_spare, has_drained, has_erased, has_gained, is_last}
-use Rattle.workers.proofs.Collected.{collected_by_then}
+use Rattle.workers.proofs.BroomCalls.{collected_by_then}
 use Rattle.broom.specs.declared.answer.Drain.TheVariants as drain
 use Rattle.workers.specs.declared.collector.broom_answer.BroomAnswer.TheVariants as by
 

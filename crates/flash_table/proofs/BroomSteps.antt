@@ -11,7 +11,7 @@ use Rattle.flash_rule.specs.BroomPlays.{state_told, claim_told, drain_told}
 use Rattle.flash_rule.proofs.{ReclaimAllowed.state_allowed, ReclaimAllowed.claim_allowed, ReclaimAllowed.drain_allowed, Places.page_within, Places.pin_within}
 use Rattle.flash_rule.proofs.BroomAllowed.{broom_look_allowed, inspect_allowed, stamp_allowed, source_allowed, move_allowed}
 use Rattle.flash_table.specs.{declared.flash.Flash.Flash, Flash.device}
-use Rattle.flash_table.proofs.Asking.{IsSeatOf, IsPlace, Asks, slots_of, asks, asks_with, asks_pin, asks_sector}
+use Rattle.flash_table.proofs.Permissions.{IsSeatOf, IsPlace, Asks, slots_of, asks, asks_with, asks_pin, asks_sector}
 
 module _ {f : Flash} {x : Seat (Unit {0}) View} (h : IsSeatOf f x) where
   -- ---- states of blocks

@@ -11,7 +11,7 @@ use Rattle.workers.specs.declared.collector.{Collector.Collector, tally.Tally.Ta
 use Rattle.workers.specs.{Collecting.HasCollected, Collecting.HaveCollected, Tallies.added, Tallies.total_of, Tallies.wrapped}
 use Rattle.workers.specs.{Folding.HasFolded, Folding.HaveFolded, Growing.GrowsBy, Growing.HasGrown}
 use Rattle.workers.specs.Served.{AllHaveServed, AreAtRunStart, HasCountedNone, HasDone, HasListed, HaveServed, IsAtRunStart, broom_of}
-use Rattle.workers.proofs.Counting.{nothing_added}
+use Rattle.workers.proofs.TallySums.{nothing_added}
 
 -- the collectors of unused brooms
 pub all_first : (volume : Volume) (drains k : ℕ) (ss : List Collector)

@@ -17,7 +17,7 @@ use Rattle.flash_rule.proofs.Notes.{lends, gives, takes_in, comes_home}
 use Rattle.flash_rule.proofs.Steps.{look_allowed, trim_allowed, write_allowed, new_allowed, take_allowed, test_allowed, put_allowed, count_allowed}
 use Rattle.flash_rule.proofs.Steps.{close_allowed, get_allowed}
 use Rattle.flash_table.specs.{declared.flash.Flash.Flash, declared.pass.Note.Note, Flash.IsNoteOf, Flash.note_view, Flash.device, Steps.IsBack}
-use Rattle.flash_table.proofs.Asking.{IsSeatOf, Asks, AsksSplit, AsksJoin, slots_of, asks, asks_pin, asks_sector, asks_split, asks_join}
+use Rattle.flash_table.proofs.Permissions.{IsSeatOf, Asks, AsksSplit, AsksJoin, slots_of, asks, asks_pin, asks_sector, asks_split, asks_join}
 
 -- the next word of a page that is being filled is one of the table's
 put_within : (z : Numbers) (v : View) (o : Owned) (i : ℕ) → v.numbers ≡ z → CanPut v o → i ≡ length (words_in v.work o) → o.block < z.blocks

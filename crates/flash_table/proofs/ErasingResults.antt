@@ -12,7 +12,7 @@ use Rattle.flash_table.specs.{declared.flash.Flash.Flash, Owning.owned_of, Ownin
 use Rattle.flash_table.specs.declared.broom_seat.{BroomSeat.BroomSeat, Reclaiming.Reclaiming, ReclaimedBlock.ReclaimedBlock}
 use Rattle.flash_table.specs.Flash.{IsBroomOf, broom_view, own_blocks, device}
 use Rattle.flash_table.specs.Erasing.{IsUnread, CanLiveOn, IsLastErase, words_in_block}
-use Rattle.flash_table.proofs.{Asking.slots_of, Blocks.all_open, Blocks.erasing_at}
+use Rattle.flash_table.proofs.{Permissions.slots_of, Blocks.all_open, Blocks.erasing_at}
 use Rattle.flash_table.specs.declared.broom_seat.Reclaiming.TheVariants as reclaiming
 
 -- a broom erases one block

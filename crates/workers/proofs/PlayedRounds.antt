@@ -13,7 +13,7 @@ use Rattle.workers.specs.declared.worker.{round_limits.RoundLimits.RoundLimits, 
 use Rattle.workers.specs.Meetings.{AreSeated, Rest, passes_of, rest_of}
 use Rattle.workers.specs.Workers.{HasPlayed, IsIdle, answered, round_lines}
 use Rattle.workers.specs.{Tasks.HavePlayed, Runs.AreManned, Playable.HasAnswered, Playable.added, Playable.lines_at}
-use Rattle.workers.proofs.{Lines.played_none, Meeting.all_same_at}
+use Rattle.workers.proofs.{PlayedLines.played_none, RoundMeetings.all_same_at}
 
 -- as many workers come back as have played, each as its own
 pub played_long : (n : RoundLimits) (workers back : List Worker) → HavePlayed n workers back → length back ≡ length workers

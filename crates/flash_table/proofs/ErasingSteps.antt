@@ -10,7 +10,7 @@ use Rattle.flash_rule.specs.BroomPlays.{CanCondemn, CanWipe, CanRenew, CanRetire
 use Rattle.flash_rule.proofs.ReclaimAllowed.{condemn_allowed, freed_allowed, kept_allowed, retired_allowed}
 use Rattle.flash_rule.proofs.{BroomAllowed.wipe_allowed, Places.pin_within}
 use Rattle.flash_table.specs.{declared.flash.Flash.Flash, Flash.device}
-use Rattle.flash_table.proofs.Asking.{IsSeatOf, IsPlace, Asks, slots_of, asks, asks_with, asks_pin}
+use Rattle.flash_table.proofs.Permissions.{IsSeatOf, IsPlace, Asks, slots_of, asks, asks_with, asks_pin}
 
 module _ {f : Flash} {x : Seat (Unit {0}) View} (h : IsSeatOf f x) where
   pub condemn_here : {word : ℕ} (b old : ℕ) (p : PinWord) → b < (device f).blocks → word ≡ pin_index (device f) b → old ≡ pin_word p

@@ -11,11 +11,12 @@ use Rattle.flash_rule.specs.declared.view.View.{View}
 use Rattle.trace.specs.declared.commands.Command.{Command}
 use Rattle.rounds.specs.{Lines.Said, Lines.calls_made, Orders.made, Orders.lines_of, Meetings.HavePlayed, Plans.meetings_from}
 use Rattle.rounds.specs.Playing.{Plays, Played, LinesFound, calls_done, writes_done}
-use Rattle.workers.proofs.{Lines.found-append, Walking.StandsBehind, Walking.ends_from}
+use Rattle.workers.proofs.{PlayedLines.found-append, RoundLines.StandsBehind, RoundLines.ends_from}
 use Rattle.volume.specs.Closing.{HasLooked}
 use Rattle.rounds.specs.Told.{worker_of, sector_of, calls_in, is_right, line, told}
 use Rattle.rounds.specs.Merging.{is_meet, is_line_of, lines_for, line_count, merge, rows_after, HaveNoMeeting, rounds_of}
-use Rattle.rounds.proofs.{Told.plays_told, Told.calls_told, Chains.nobody_of, Merging.lines_of-merge, Merging.rounds_of-meet, Merging.rounds_of-last}
+use Rattle.rounds.proofs.{AnsweredLines.plays_told, AnsweredLines.calls_told, Chains.nobody_of, Merging.lines_of-merge, Merging.rounds_of-meet}
+use Rattle.rounds.proofs.{Merging.rounds_of-last}
 use Rattle.workers.specs.Runs.{HasRun}
 use Rattle.rounds.specs.Orders as worked
 

@@ -1,6 +1,6 @@
 -- What a step's play makes of a broom's seat.
 use Rattle.flash_rule.proofs.{Points.phase_or_not, Owning.some_same}
-use Rattle.flash_table.proofs.{Asking.whose, Asking.slots_of, Blocks.all_open, Blocks.draining_at}
+use Rattle.flash_table.proofs.{Permissions.whose, Permissions.slots_of, Blocks.all_open, Blocks.draining_at}
 use Rattle.std.specs.{Prelude.◌&&◌, Bool.MatchBool, Prelude.Bool, Prelude.false}
 use Rattle.flash_rule.specs.BroomPlays.{Inspected, is_page_of, GotStamp, CanGetStamp, CanMove, Moved, stamp_told, source_told, move_told, Loaded, IsLastLoaded}
 use Rattle.flash_rule.specs.BroomPlays.{IsInspected, CanClaim, Claimed, CanDrain, state_told, claim_told, drain_told}

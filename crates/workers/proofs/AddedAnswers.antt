@@ -10,7 +10,7 @@ use Rattle.rounds.specs.{Lines.Said, Lines.is_full, Pages.bytes_of, Playing.Play
 use Rattle.rounds.specs.Answers.{page_size_of, said_in, space_for, space_of, HasSpace, HasSpaceFor}
 use Rattle.host.specs.Ready.{IsReady}
 use Rattle.workers.specs.{Line.HasPlayedLine, Playable.HasAnswered, Playable.added, Playable.lines_at}
-use Rattle.workers.proofs.Lines.{Playing, count_lines, other_page, playing_none, playing_more, playing_end}
+use Rattle.workers.proofs.PlayedLines.{Playing, count_lines, other_page, playing_none, playing_more, playing_end}
 use Rattle.trace.specs.declared.commands.Op.TheVariants as op
 use Rattle.rounds.specs.declared.answer.Kind.TheVariants as kind
 

@@ -7,8 +7,8 @@ use Rattle.volume.specs.{declared.volume.Volume.Volume, Volume.queue_of}
 use Rattle.std.specs.Arc.{arc_value}
 use Rattle.workers.specs.declared.collector.{broom_answer.BroomAnswer.BroomAnswer, Collector.Collector}
 use Rattle.workers.specs.{Tallies.added, Tallies.answer_adds, Tallies.total_of, Tallies.wrapped, Turns.AreTurns, Turns.IsTurn}
-use Rattle.workers.proofs.Counting.{counted_none, counted_one, counted_then, exact_none, exact_one, exact_then, wrapped_sum}
-use Rattle.workers.proofs.{Grown.calls_grown, Listed.calls_listed}
+use Rattle.workers.proofs.TallySums.{counted_none, counted_one, counted_then, exact_none, exact_one, exact_then, wrapped_sum}
+use Rattle.workers.proofs.{BroomGrowth.calls_grown, EraseLists.calls_listed}
 use Rattle.workers.specs.Collecting.{CallTold, HasMadeCalls, HasCollected, HasCollectedBy, HasTakenTurn, HaveCollected, limit_at}
 
 -- one call

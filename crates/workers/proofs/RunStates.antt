@@ -22,10 +22,11 @@ use Rattle.rounds.proofs.Chains.{flat, flat-append, lines_for-append, line_count
 use Rattle.workers.specs.declared.worker.{round_limits.RoundLimits.RoundLimits, Worker.Worker}
 use Rattle.workers.specs.Workers.{HasPlayed, answered, is_before, round_lines}
 use Rattle.workers.specs.Runs.{RoundPlayed, AreManned, IsDealt, HasBegun, HasEnded, HasRun, answers_of, denied_by, rows_of}
-use Rattle.workers.proofs.{Meeting.ready_at, Cursors.front_is, Manned.played_long, Manned.played_at, Manned.rests_long, Manned.rest_at}
-use Rattle.workers.proofs.Walking.{count_places, places_low, places_high, lines_there, FirstRound, first_round}
-use Rattle.workers.proofs.Going.{WorkerRound, run_more, plays_to, round_played, Left, left_is, Closed, closed_is, Next, next_part}
-use Rattle.workers.proofs.Going as going
+use Rattle.workers.proofs.{RoundMeetings.ready_at, Cursors.front_is, PlayedRounds.played_long, PlayedRounds.played_at, PlayedRounds.rests_long}
+use Rattle.workers.proofs.{PlayedRounds.rest_at}
+use Rattle.workers.proofs.RoundLines.{count_places, places_low, places_high, lines_there, FirstRound, first_round}
+use Rattle.workers.proofs.RoundStates.{WorkerRound, run_more, plays_to, round_played, Left, left_is, Closed, closed_is, Next, next_part}
+use Rattle.workers.proofs.RoundStates as going
 
 -- a part in the midst of a list
 seam_range : {X : Type 0} (xs ys zs : List X) → slice_range (xs ++ (ys ++ zs)) (length xs) (length xs + length ys) ≡ ys
