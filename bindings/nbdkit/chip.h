@@ -7,13 +7,14 @@
 // The layer keeps few blocks in reserve, which a high rate of failures may use up at once. So if commands may fail, half of the blocks that the
 // sectors don't need are hidden from it; it gets one, and is mounted again, whenever it has no block left.
 //
-// The library mounts an image by a call that is linked to the one here. There is one image, and all of this is used under its lock.
+// The library mounts an image by a call that is linked to the one here. All of this is used under the image's lock.
 #ifndef NBDKIT_CHIP_H
 #define NBDKIT_CHIP_H
 
 #include <mintlintel_image.h>
 #include <stdint.h>
 
+#include "luns.h"
 #include "options.h"
 
 // What has happened to the chip's blocks.
@@ -23,27 +24,41 @@ struct chip_counts {
     uint32_t bad_blocks, reserve_blocks;
 };
 
-// Before an image is opened: 0, or -1 with an error reported.
-int chip_begin(const struct options *options);
-void chip_end(void);
+struct chip {
+    const struct options *options;
+    struct mintlintel_nand nand; // of the image's file
+    struct mintlintel_durable_numbers numbers;
+    const uint32_t *reason; // why the file failed
+    uint64_t *losses; // of whoever opens the device despite them
+    uint8_t *blocks;
+    struct luns luns;
+    uint64_t random;
+    uint64_t end; // of the last command
+    int is_untimed; // reads take no time
+    int is_worn;
+    char *file; // with the numbers of the blocks that have become bad
+    struct chip_counts counts;
+};
+
+// Before an image is opened: 0, or -1 with an error reported. The next one to be opened has this chip.
+int chip_begin(struct chip *chip, const struct options *options);
+void chip_end(struct chip *chip);
 
 // From now on commands take time.
-void chip_start(void);
+void chip_start(struct chip *chip);
 
 // A request, or a page of one, begins with a command that can't begin before `from`; chip_done says when its last command ends.
-void chip_ask(uint64_t from);
-uint64_t chip_done(void);
+void chip_ask(struct chip *chip, uint64_t from);
+uint64_t chip_done(const struct chip *chip);
 
 // What comes next takes no time, up to the next request.
-void chip_look(void);
+void chip_look(struct chip *chip);
 
 // Mounts with a hidden block more, if there is one, after the layer has had no block left: 1 if the call can be made once more.
-int chip_mount_again(struct mintlintel_durable *device);
+int chip_mount_again(struct chip *chip, struct mintlintel_durable *device);
 
 // Too few blocks are good: the disk can be read, and not be changed any more. This is so after the next start too.
-void chip_wear_out(void);
-int chip_is_worn(void);
-
-struct chip_counts chip_count(void);
+void chip_wear_out(struct chip *chip);
+int chip_is_worn(const struct chip *chip);
 
 #endif

@@ -12,12 +12,11 @@
 #include <crc.h>
 #include <flash.h>
 
-#include "chip.h"
 #include "luns.h"
 #include "pieces.h"
 
-// Who has the lock lets others have it after so many pages of a request, or sectors of a trim.
-enum { PAGES_OF_A_TURN = 32, SECTORS_OF_A_TURN = 4096 };
+// Who has the lock lets others have it after so many sectors of a trim.
+enum { SECTORS_OF_A_TURN = 4096 };
 // How often a write that waits for the lock lets others run before it sleeps.
 enum { YIELDS = 4 };
 
@@ -29,9 +28,9 @@ static void tell_other_numbers(const struct options *options) {
     const struct mintlintel_durable_numbers *has = &head.numbers;
     nbdkit_error("image=%s has %" PRIu32 " sectors and %" PRIu32 " blocks of %" PRIu32 " pages of %" PRIu32 " bytes on %" PRIu32
                  " LUNs, and not %" PRIu32 " and %" PRIu32 " of %" PRIu32 " of %" PRIu32 " on %" PRIu32
-                 ": give these numbers, or none of them",
+                 ": give %s numbers, or none of them",
                  options->image, has->sectors, has->blocks, has->pages, has->page_bytes, has->luns, options->sectors, options->blocks, options->pages,
-                 options->page, options->luns);
+                 options->page, options->luns, options->layers > 1 ? "the disk's" : "these");
 }
 
 static void tell_refusal(const struct options *options, uint32_t code, int error) {
@@ -71,7 +70,7 @@ static void make_mutex(pthread_mutex_t *mutex) {
 int image_disk_open(struct image_disk *disk, struct options *options) {
     struct mintlintel_durable_numbers numbers;
     disk->options = options;
-    if (chip_begin(options) == -1)
+    if (chip_begin(&disk->chip, options) == -1)
         return -1;
     errno = 0;
     uint32_t code = open_image(disk);
@@ -86,7 +85,7 @@ int image_disk_open(struct image_disk *disk, struct options *options) {
     options->pages = numbers.pages;
     options->page = numbers.page_bytes;
     options->sectors = numbers.sectors;
-    disk->is_worn = chip_is_worn();
+    disk->is_worn = chip_is_worn(&disk->chip);
     if (disk->is_worn)
         tell_worn();
     if (options->page <= MAX_PAGE_BYTES)
@@ -96,7 +95,7 @@ int image_disk_open(struct image_disk *disk, struct options *options) {
 }
 
 int image_disk_start(struct image_disk *disk) {
-    chip_start();
+    chip_start(&disk->chip);
     return power_start(&disk->power);
 }
 
@@ -111,7 +110,7 @@ void image_disk_close(struct image_disk *disk) {
     if (disk->image.file)
         close_image(disk);
     unreadable_end(&disk->unreadable);
-    chip_end();
+    chip_end(&disk->chip);
 }
 
 // ---- The requests. The lock is held by all functions whose names don't begin with image_disk.
@@ -140,26 +139,26 @@ static int fail_worn(struct image_disk *disk) {
     if (!disk->is_worn)
         tell_worn();
     disk->is_worn = 1;
-    chip_wear_out();
+    chip_wear_out(&disk->chip);
     nbdkit_set_error(options_worn_error(disk->options));
     return -1;
 }
 
 // Whether a call that has returned this code can be made once more.
 static int goes_on(struct image_disk *disk, uint32_t code) {
-    return code == MINTLINTEL_EXHAUSTED && chip_mount_again(&disk->image.device);
+    return code == MINTLINTEL_EXHAUSTED && chip_mount_again(&disk->chip, &disk->image.device);
 }
 
 // The result of a change that has returned this code.
 static int changed(struct image_disk *disk, const char *call, uint32_t code) {
     if (code <= MINTLINTEL_WRITTEN)
         return 0;
-    return code == MINTLINTEL_EXHAUSTED || chip_is_worn() ? fail_worn(disk) : fail(disk, call, code);
+    return code == MINTLINTEL_EXHAUSTED || chip_is_worn(&disk->chip) ? fail_worn(disk) : fail(disk, call, code);
 }
 
 // A request, or a page of one, begins with its first command; its commands are done by `until`, so far.
-static void note_time(uint64_t *until) {
-    *until = *until > chip_done() ? *until : chip_done();
+static void note_time(const struct image_disk *disk, uint64_t *until) {
+    *until = *until > chip_done(&disk->chip) ? *until : chip_done(&disk->chip);
 }
 
 // A sector's page, with zeros if it is empty. `is_empty` is set too.
@@ -292,9 +291,9 @@ static int read_turn(struct image_disk *disk, uint8_t *to, struct range *range, 
         return 0;
     pthread_mutex_lock(&disk->mutex);
     for (uint32_t done = 0; result == 0 && done < PAGES_OF_A_TURN && next_piece(range, &piece); done++) {
-        chip_ask(began);
+        chip_ask(&disk->chip, began);
         result = load_piece(disk, &piece, to);
-        note_time(until);
+        note_time(disk, until);
         to += piece.count;
     }
     pthread_mutex_unlock(&disk->mutex);
@@ -316,9 +315,9 @@ int image_disk_read(struct image_disk *disk, uint8_t *to, uint32_t count, uint64
 // A part of a page.
 static int write_part(struct image_disk *disk, const struct piece *piece, const uint8_t *from, uint64_t began, uint64_t *until) {
     pthread_mutex_lock(&disk->mutex);
-    chip_ask(began);
+    chip_ask(&disk->chip, began);
     int result = store_part(disk, piece, from);
-    note_time(until);
+    note_time(disk, until);
     pthread_mutex_unlock(&disk->mutex);
     return result;
 }
@@ -343,9 +342,9 @@ static int write_pages(struct image_disk *disk, const uint8_t *from, uint32_t se
     lock_for_write(disk);
     mtl_image_keep(&disk->image, from, checks, count);
     for (uint32_t i = 0; result == 0 && i < count; i++) {
-        chip_ask(began);
+        chip_ask(&disk->chip, began);
         result = store(disk, sector + i, from + i * page);
-        note_time(until);
+        note_time(disk, until);
     }
     uint64_t ticket = mtl_image_let_go(&disk->image);
     pthread_mutex_unlock(&disk->mutex);
@@ -385,9 +384,9 @@ int image_disk_trim(struct image_disk *disk, uint32_t count, uint64_t offset) {
     pthread_mutex_lock(&disk->mutex);
     for (uint64_t sector = sectors.first; result == 0 && sector < sectors.end; sector += SECTORS_OF_A_TURN) {
         uint64_t left = sectors.end - sector;
-        chip_ask(began);
+        chip_ask(&disk->chip, began);
         result = trim_sectors(disk, (uint32_t) sector, left < SECTORS_OF_A_TURN ? (uint32_t) left : SECTORS_OF_A_TURN);
-        note_time(&until);
+        note_time(disk, &until);
         end_turn(disk);
     }
     pthread_mutex_unlock(&disk->mutex);
@@ -416,10 +415,10 @@ int image_disk_zero(struct image_disk *disk, uint32_t count, uint64_t offset, in
     int result = 0;
     pthread_mutex_lock(&disk->mutex);
     for (uint32_t done = 1; result == 0 && next_piece(&range, &piece); done++) {
-        chip_ask(began);
+        chip_ask(&disk->chip, began);
         if (!piece.is_whole || !may_trim)
             result = zero_piece(disk, &piece, may_trim);
-        note_time(&until);
+        note_time(disk, &until);
         if (done % PAGES_OF_A_TURN == 0)
             end_turn(disk);
     }
@@ -443,7 +442,7 @@ int image_disk_is_empty(struct image_disk *disk, uint32_t sector) {
     uint8_t page[MAX_PAGE_BYTES];
     int result;
     pthread_mutex_lock(&disk->mutex);
-    chip_look();
+    chip_look(&disk->chip);
     uint32_t code = mintlintel_core_page(&disk->image.device.core, sector, &place);
     if (code == MINTLINTEL_WRITTEN)
         code = mintlintel_durable_read(&disk->image.device, sector, page, disk->options->page);

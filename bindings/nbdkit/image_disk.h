@@ -1,4 +1,4 @@
-// The disk in an image file: a device that survives the end of the server, by image=FILE.
+// The disk in an image file, or a layer of it: a device that survives the end of the server, by image=FILE.
 //
 // One lock is round all calls of the layer. A request of many pages gives it up from time to time, so it is not one step; each of its pages is. The
 // pages of a write that stand one behind another are written together. A read looks its pages up under the lock, and reads them without it.
@@ -9,13 +9,18 @@
 #include <pthread.h>
 #include <stdint.h>
 
+#include "chip.h"
 #include "options.h"
 #include "power.h"
+
+// Who has the lock lets others have it after so many pages of a request.
+enum { PAGES_OF_A_TURN = 32 };
 
 struct image_disk {
     struct options *options;
     pthread_mutex_t mutex; // of all below
     struct mintlintel_image image;
+    struct chip chip;
     struct power power;
     uint64_t reads, writes, trims, flushes; // what clients asked for, in pages, and flushes
     struct unreadable unreadable;

@@ -49,6 +49,8 @@ const char options_help[] = "[size=]SIZE            Bytes of the device, such as
                             "part=FILE              The times of a part: commands take them.\n"
                             "unreadable=LIST        Pages that can't be read, such as 3,8-11.\n"
                             "image=FILE             The device is in this file, and not in memory.\n"
+                            "layers=N               Of a new image: so many, each with its lock,\n"
+                            "                       in the directory image= (default 1).\n"
                             "sync=always|flush|never\n"
                             "                       When writes reach its disk (default flush).\n"
                             "cut=N                  Cut the power at the Nth write to the image,\n"
@@ -186,7 +188,7 @@ static int set_file(char **file, const char *value) {
 static void note_kind(struct options *options, const char *key) {
     static const char *const numbers[] = {"size", "spare", "page", "pages", "sectors", "blocks", "luns"};
     static const char *const of_memory[] = {"hosts", "brooms", "low", "high", "wait", "warn", "endurance", "age", "stats"};
-    static const char *const of_image[] = {"sync", "cut", "fail-programs", "fail-erases", "bad"};
+    static const char *const of_image[] = {"layers", "sync", "cut", "fail-programs", "fail-erases", "bad"};
     for (size_t i = 0; i < sizeof numbers / sizeof *numbers; i++)
         options->has_numbers |= strcmp(key, numbers[i]) == 0;
     for (size_t i = 0; i < sizeof of_memory / sizeof *of_memory; i++)
@@ -229,6 +231,7 @@ int options_set(struct options *options, const char *key, const char *value) {
         {"wait", 0, MAX_WAIT, &options->wait},
         {"warn", 0, 100, &options->warn},
         {"age", 0, MAX_AGE, &options->age},
+        {"layers", 1, MAX_LAYERS, &options->layers},
     };
     note_kind(options, key);
     for (size_t i = 0; i < sizeof numbers / sizeof *numbers; i++)
@@ -307,19 +310,23 @@ static void choose_pages(struct options *options) {
         options->pages *= 2;
 }
 
-static int choose_blocks(struct options *options) {
-    if (options->blocks && options->has_spare) {
-        nbdkit_error("spare= and blocks= say the same: give one of them");
-        return -1;
-    }
-    if (options->blocks)
-        return 0;
+uint32_t options_blocks(const struct options *options) {
     uint64_t hundred_pages = 100 * (uint64_t) options->pages;
     uint64_t blocks =
         (options->sectors * (100 + (uint64_t) options->spare) + hundred_pages - 1) / hundred_pages + kept_blocks(options);
     blocks = (blocks + options->luns - 1) / options->luns * options->luns;
     // The library refuses more than a device may have.
-    options->blocks = blocks > UINT32_MAX ? UINT32_MAX : (uint32_t) blocks;
+    return blocks > UINT32_MAX ? UINT32_MAX : (uint32_t) blocks;
+}
+
+static int choose_blocks(struct options *options) {
+    if (options->blocks && options->has_spare) {
+        nbdkit_error("spare= and blocks= say the same: give one of them");
+        return -1;
+    }
+    options->has_blocks = options->blocks > 0;
+    if (!options->has_blocks)
+        options->blocks = options_blocks(options);
     return 0;
 }
 

@@ -8,7 +8,7 @@
 #include "faults.h"
 #include "part.h"
 
-enum { MAX_PAGE_BYTES = MINTLINTEL_MAX_WORDS * MINTLINTEL_WORD_BYTES, NO_CUT = -1 };
+enum { MAX_PAGE_BYTES = MINTLINTEL_MAX_WORDS * MINTLINTEL_WORD_BYTES, NO_CUT = -1, MAX_LAYERS = 16 };
 
 // What a write gets for which no block can be had: the error ENOSPC or EIO, or EROFS, and then so does each write, zero and trim.
 enum worn { WORN_ENOSPC, WORN_EIO, WORN_READONLY };
@@ -27,7 +27,9 @@ struct options {
     uint32_t warn;          // percent of all erases at which a warning is given, or 0
     uint32_t age;           // how many times its size is written before the first client
     uint64_t seed;
-    char *image;     // the file that has the device, or NULL: then it is in memory
+    char *image;     // the file or directory that has the device, or NULL: then it is in memory
+    uint32_t layers; // of an image; 0 if that isn't given or found
+    int has_blocks;  // their number was given
     int sync;        // when writes reach the image's disk: a mode of mintlintel_image.h
     int has_numbers; // some number of the device was given
     int64_t cut;     // the power is cut at this write to the image; 0 by SIGUSR2 alone; or NO_CUT
@@ -49,6 +51,9 @@ int options_set(struct options *options, const char *key, const char *value);
 
 // Computes what wasn't given. 0, or -1 with an error reported.
 int options_complete(struct options *options);
+
+// The blocks that the sectors need with the spare pages.
+uint32_t options_blocks(const struct options *options);
 
 // Tells why the library made no device of these numbers.
 void options_tell_refusal(const struct options *options, uint32_t code);

@@ -10,7 +10,7 @@
 
 #include "counts.h"
 #include "device.h"
-#include "image_disk.h"
+#include "layers.h"
 #include "report.h"
 
 #define THREAD_MODEL NBDKIT_THREAD_MODEL_PARALLEL
@@ -19,7 +19,7 @@ enum { LOOKS_OF_A_TURN = 256, MOST_LOOKS = 65536, MOST_BYTES_OF_A_REQUEST = 64 <
 
 // The device in memory, and the disk in an image: one of them is open, with the options of `device`.
 static struct device device;
-static struct image_disk image_disk;
+static struct layers layers;
 
 static int has_image(void) {
     return device.options.image != NULL;
@@ -30,7 +30,7 @@ static void load(void) {
 }
 
 static void unload(void) {
-    image_disk_close(&image_disk);
+    layers_close(&layers);
     device_close(&device);
     options_end(&device.options);
 }
@@ -40,6 +40,8 @@ static int config(const char *key, const char *value) {
 }
 
 static int config_complete(void) {
+    if (has_image() && layers_find(&device.options) == -1)
+        return -1;
     return options_complete(&device.options);
 }
 
@@ -79,7 +81,7 @@ static int get_image_ready(void) {
         [MINTLINTEL_FLUSH] = "what is flushed survives a power cut",
         [MINTLINTEL_NEVER] = "what is answered survives the server, and not a power cut",
     };
-    if (image_disk_open(&image_disk, &device.options) == -1)
+    if (layers_open(&layers, &device.options) == -1)
         return -1;
     fprintf(stderr, "mintlintel: %" PRIi64 " bytes, in %s: %s\n", disk_bytes(), device.options.image, promises[device.options.sync]);
     return 0;
@@ -100,7 +102,7 @@ static int get_ready(void) {
 }
 
 static int after_fork(void) {
-    return has_image() ? image_disk_start(&image_disk) : device_start(&device);
+    return has_image() ? layers_start(&layers) : device_start(&device);
 }
 
 static void cleanup(void) {
@@ -129,7 +131,7 @@ static void *connect_to_stats(void) {
     struct connection *connection = calloc(1, sizeof *connection);
     if (connection) {
         size_t *bytes = &connection->report_bytes;
-        connection->report = has_image() ? report_of_image(&image_disk, bytes) : report_make(&device, bytes);
+        connection->report = has_image() ? report_of_image(&layers, bytes) : report_make(&device, bytes);
         if (connection->report)
             return connection;
     }
@@ -178,14 +180,14 @@ static int read_request(void *handle, void *to, uint32_t count, uint64_t offset,
     struct connection *connection = handle;
     (void) flags;
     if (is_of_disk(handle))
-        return has_image() ? image_disk_read(&image_disk, to, count, offset) : device_read(&device, to, count, offset);
+        return has_image() ? layers_read(&layers, to, count, offset) : device_read(&device, to, count, offset);
     memcpy(to, connection->report + offset, count);
     return 0;
 }
 
 static int write_request(void *handle, const void *from, uint32_t count, uint64_t offset, uint32_t flags) {
     (void) flags;
-    return has_image() ? image_disk_write(&image_disk, from, count, offset) : device_write(&device, client_of(handle), from, count, offset);
+    return has_image() ? layers_write(&layers, from, count, offset) : device_write(&device, client_of(handle), from, count, offset);
 }
 
 // If trimming isn't allowed, zeros are as slow as a write, and the client has asked for a refusal then.
@@ -195,13 +197,13 @@ static int zero_request(void *handle, uint32_t count, uint64_t offset, uint32_t 
         nbdkit_set_error(EOPNOTSUPP);
         return -1;
     }
-    return has_image() ? image_disk_zero(&image_disk, count, offset, may_trim) : device_zero(&device, client_of(handle), count, offset, may_trim);
+    return has_image() ? layers_zero(&layers, count, offset, may_trim) : device_zero(&device, client_of(handle), count, offset, may_trim);
 }
 
 static int trim_request(void *handle, uint32_t count, uint64_t offset, uint32_t flags) {
     (void) handle;
     (void) flags;
-    return has_image() ? image_disk_trim(&image_disk, count, offset) : device_trim(&device, count, offset);
+    return has_image() ? layers_trim(&layers, count, offset) : device_trim(&device, count, offset);
 }
 
 // What a client wants to be cached is in memory already; of an image nbdkit reads it.
@@ -221,7 +223,7 @@ static int cache_request(void *handle, uint32_t count, uint64_t offset, uint32_t
 static int flush_request(void *handle, uint32_t flags) {
     (void) handle;
     (void) flags;
-    return has_image() ? image_disk_flush(&image_disk) : 0;
+    return has_image() ? layers_flush(&layers) : 0;
 }
 
 static int add_extent(struct nbdkit_extents *extents, uint64_t offset, uint64_t length, int is_empty) {
@@ -237,7 +239,7 @@ struct looks {
 // Whether the sector at an offset is empty. A long request lets others have its handle after some looks.
 static int look(struct looks *looks, uint64_t offset) {
     if (has_image())
-        return image_disk_is_empty(&image_disk, (uint32_t) (offset / device.options.page));
+        return layers_is_empty(&layers, (uint32_t) (offset / device.options.page));
     if (++looks->done % LOOKS_OF_A_TURN == 0)
         looks->host = stock_yield(&device.stock, looks->host);
     return device_is_empty(looks->host, (uint32_t) (offset / device.options.page));

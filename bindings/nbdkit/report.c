@@ -7,8 +7,6 @@
 #include <stdio.h>
 #include <stdlib.h>
 
-#include "chip.h"
-
 enum { REPORT_BLOCK = 4096 };
 
 // What was done, in pages and blocks.
@@ -129,30 +127,55 @@ static int tell(FILE *file, struct device *device) {
     return 0;
 }
 
-// What the image's disk has done since the server's start.
-static void tell_image(FILE *file, struct image_disk *disk) {
-    static const char *const modes[] = {[MINTLINTEL_ALWAYS] = "always", [MINTLINTEL_FLUSH] = "flush", [MINTLINTEL_NEVER] = "never"};
+// What the layers of an image's disk have done together since the server's start.
+struct image_work {
+    uint64_t reads, writes, trims, flushes, failed_programs, failed_erases, bad_blocks, reserve_blocks;
+    struct mintlintel_totals totals;
+    int is_readonly;
+};
+
+static void add_totals(struct mintlintel_totals *sum, const struct mintlintel_totals *totals) {
+    sum->programs += totals->programs;
+    sum->copies += totals->copies;
+    sum->erases += totals->erases;
+}
+
+static void add_work(struct image_work *work, struct image_disk *disk) {
     struct mintlintel_totals totals = {0};
     pthread_mutex_lock(&disk->mutex);
     mintlintel_durable_counts(&disk->image.device, &totals);
-    struct chip_counts chip = chip_count();
-    totals.programs += chip.before.programs;
-    totals.copies += chip.before.copies;
-    totals.erases += chip.before.erases;
-    const struct line lines[] = {
-        {"host_reads", disk->reads}, {"host_programs", disk->writes}, {"host_trims", disk->trims}, {"flushes", disk->flushes},
-        {"programs", totals.programs}, {"copies", totals.copies}, {"erases", totals.erases},
-        {"failed_programs", chip.failed_programs}, {"failed_erases", chip.failed_erases}, {"bad_blocks", chip.bad_blocks},
-        {"reserve_blocks", chip.reserve_blocks},
-    };
-    uint64_t writes = disk->writes;
-    int is_readonly = disk->is_worn;
+    const struct chip_counts *counts = &disk->chip.counts;
+    add_totals(&work->totals, &totals);
+    add_totals(&work->totals, &counts->before);
+    work->reads += disk->reads;
+    work->writes += disk->writes;
+    work->trims += disk->trims;
+    work->flushes += disk->flushes;
+    work->failed_programs += counts->failed_programs;
+    work->failed_erases += counts->failed_erases;
+    work->bad_blocks += counts->bad_blocks;
+    work->reserve_blocks += counts->reserve_blocks;
+    work->is_readonly |= disk->is_worn;
     pthread_mutex_unlock(&disk->mutex);
-    tell_numbers(file, disk->options);
-    tell_ratio(file, "write_amplification", totals.programs + totals.copies, writes);
+}
+
+static void tell_image(FILE *file, struct layers *layers) {
+    static const char *const modes[] = {[MINTLINTEL_ALWAYS] = "always", [MINTLINTEL_FLUSH] = "flush", [MINTLINTEL_NEVER] = "never"};
+    struct image_work work = {0};
+    for (uint32_t layer = 0; layer < layers->count; layer++)
+        add_work(&work, &layers->disks[layer]);
+    const struct line several = {"layers", layers->count}, lines[] = {
+        {"host_reads", work.reads}, {"host_programs", work.writes}, {"host_trims", work.trims}, {"flushes", work.flushes},
+        {"programs", work.totals.programs}, {"copies", work.totals.copies}, {"erases", work.totals.erases},
+        {"failed_programs", work.failed_programs}, {"failed_erases", work.failed_erases}, {"bad_blocks", work.bad_blocks},
+        {"reserve_blocks", work.reserve_blocks},
+    };
+    tell_numbers(file, layers->options);
+    tell_lines(file, &several, layers->count > 1);
+    tell_ratio(file, "write_amplification", work.totals.programs + work.totals.copies, work.writes);
     tell_lines(file, lines, sizeof lines / sizeof *lines);
-    fprintf(file, "  \"is_readonly\": %s,\n", is_readonly ? "true" : "false");
-    fprintf(file, "  \"sync\": \"%s\"\n}\n", modes[disk->options->sync]);
+    fprintf(file, "  \"is_readonly\": %s,\n", work.is_readonly ? "true" : "false");
+    fprintf(file, "  \"sync\": \"%s\"\n}\n", modes[layers->options->sync]);
 }
 
 // Ends a text, to which `failed` says whether a part of it is missing. NULL if so.
@@ -173,11 +196,11 @@ char *report_make(struct device *device, size_t *size) {
     return file ? end_report(file, &text, tell(file, device) == -1) : NULL;
 }
 
-char *report_of_image(struct image_disk *disk, size_t *size) {
+char *report_of_image(struct layers *layers, size_t *size) {
     char *text = NULL;
     FILE *file = open_memstream(&text, size);
     if (!file)
         return NULL;
-    tell_image(file, disk);
+    tell_image(file, layers);
     return end_report(file, &text, 0);
 }

@@ -12,6 +12,7 @@ import files
 import filters
 import guests
 import images
+import layers
 import reports
 import times
 from running import HERE, Failure, Server, copying, failing, fio, kibibytes, loaded, sanitized_by, side_by_side, slowness, want
@@ -440,7 +441,7 @@ def sanitized(shop, kind):
 REFUSING = {part.__name__: part for part in (
     overlaps, handles, resting_brooms, worn_out, by_qemu_io, a_map_of_holes, mixed_sizes, there_and_back, stock_by_itself, refusals_at_the_end, cold_data,
     lives, trims_inwards, worn_choices, marks_out_of_reach, faults.refused_resources, reports.statistics, reports.aged_at_start, images.image_file,
-    images.killed, images.reads_beside_writes, images.power_cuts, guests.files_and_a_database, failures.failing_image, times.of_commands,
+    images.killed, images.reads_beside_writes, images.power_cuts, layers.in_layers, guests.files_and_a_database, failures.failing_image, times.of_commands,
     times.under_collection)}
 REFUSING |= {f"{kind}_sanitizer": functools.partial(sanitized, kind=kind) for kind in ("address", "thread")}
 REFUSING["image_thread_sanitizer"] = functools.partial(images.image_sanitized, kind="thread")
@@ -506,6 +507,7 @@ def chosen(options):
         "an image, and reads beside writes": images.reads_beside_writes,
         "an image, and kill -9": images.killed,
         "an image, and power cuts": images.power_cuts,
+        "an image in layers": layers.in_layers,
         "an image whose commands fail": failures.failing_image,
         "nbdkit's filters": filters.beside_filters,
         "files of a part's times": times.part_files,
@@ -518,6 +520,8 @@ def chosen(options):
     parts |= {f"{name}, {count} broom{'s' * (count > 1)}": functools.partial(part, brooms=count) for count in brooms for name, part in on_device.items()}
     parts |= {f"{sanitizer}Sanitizer": functools.partial(sanitized, kind=sanitizer.lower()) for sanitizer in ("Address", "Thread")}
     parts |= {f"an image, {sanitizer}Sanitizer": functools.partial(images.image_sanitized, kind=sanitizer.lower()) for sanitizer in ("Address", "Thread")}
+    parts |= {f"an image in layers, {sanitizer}Sanitizer": functools.partial(layers.layers_sanitized, kind=sanitizer.lower())
+              for sanitizer in ("Address", "Thread")}
     if options.long:
         parts["wrong plugins"] = functools.partial(faults.wrong_plugins, parts=REFUSING, alone=[part.__name__ for part in TIMED])
     return [(name, part) for name, part in parts.items() if not options.only or any(word in name for word in options.only)]
