@@ -4,7 +4,7 @@ use Rattle.std.specs.Io.KnownBytes.{IsAtEnd}
 use Rattle.geometry.specs.{Geometry.hosts_of, declared.geometry.Geometry.Geometry}
 use Rattle.trace.specs.{Trace.commands_of, Trace.is_of_record, Loading.TookOneTooMany, declared.commands.Command.Command, declared.fault.TraceFault.TraceFault}
 use Rattle.trace.specs.declared.fault.TraceFaultKind.TheVariants as fault
-use Rattle.answers.specs.{Streams.Passage, Streams.TellsPart, declared.fault.RunFault.RunFault}
+use Rattle.answers.specs.{Streams.Passage, Streams.Part, Streams.Tells, declared.fault.RunFault.RunFault}
 use Rattle.answers.specs.declared.fault.RunFault.TheVariants as run
 
 -- a trace that was not played: its first fault, or why it could not be read
@@ -30,4 +30,4 @@ ExplainsRun IsTextOf geo input output (run.Trace found) = ExplainsTrace found ge
 ExplainsRun IsTextOf geo input output run.Memory = ReadsCommands geo input × (output.after ≡ output.before)
 ExplainsRun IsTextOf geo input output run.Threads = (hosts_of geo ≢ 0) × ReadsCommands geo input × (output.after ≡ output.before)
 ExplainsRun IsTextOf geo input output run.Output =
-    ReadsCommands geo input × (output.after.failures ≢ output.before.failures) × TellsPart (IsTextOf geo) input.before output
+    ReadsCommands geo input × (output.after.failures ≢ output.before.failures) × Tells Part (IsTextOf geo) input.before output

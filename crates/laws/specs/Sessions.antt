@@ -1,10 +1,11 @@
 -- Sessions as the laws of their ends name them.
 use Rattle.std.specs.{Prelude.◌≡◌, Prelude.ℕ, Prelude.List, Prelude.Option, Prelude.None, Prelude.Some, Prelude.Result, Prelude.codes, Io.KnownBytes.IsAtEnd}
-use Rattle.answers.specs.Streams.{Passage, Tells}
+use Rattle.answers.specs.Streams.{Passage, Tells, Whole}
 use Rattle.clap.specs.Words.{Text, one_of}
 use Rattle.geometry.specs.{Geometry.numbers_of, declared.geometry.Geometry.Geometry}
 use Rattle.player.specs.{CommandLine.AreOptionsOf, CommandLine.numbers_given, CommandLine.rows_named, Telling.TellsEnding, declared.run_files.FileStop.FileStop}
-use Rattle.player.specs.{Session.EndsSession, Session.Explains, Session.ExplainsStop, Session.IsTextFor, Session.filings, declared.command_line.Options.Options}
+use Rattle.player.specs.{Session.EndsSession, Session.Explains, Session.ExplainsStop, Session.Filings, Session.IsTextFor, Session.filings}
+use Rattle.player.specs.{declared.command_line.Options.Options}
 use Rattle.player.specs.declared.{run_files.RunFile.RunFile, stop.Stop.Stop}
 use Rattle.player.specs.declared.stop.Stop.TheVariants as stop
 use Rattle.runs.specs.declared.files.RunFiles.{RunFiles}
@@ -30,7 +31,7 @@ pub record PlaysAll (words : List Text) (input output : Passage) : Type 0 where
   pub told : AreOptionsOf words given
   pub geo : Geometry
   pub numbers : numbers_of geo ≡ numbers_given given
-  pub text : Tells (IsTextFor given geo) input.before output
+  pub text : Tells Whole (IsTextFor given geo) input.before output
   pub end : IsAtEnd input.after.bytes
   pub input_unfailed : input.after.failures ≡ input.before.failures
   pub output_unfailed : output.after.failures ≡ output.before.failures
@@ -68,3 +69,7 @@ named_b file = Some (codes "b")
 -- no file's bytes are known
 abbrev pub untold_bytes : ℕ → Option (List ℕ)
 untold_bytes file = None
+
+-- files of a session, of which it is only known how often their calls failed
+abbrev pub unknown_files : RunFiles ℕ → RunFiles ℕ → Filings
+unknown_files old new = filings untold_name untold untold_bytes old new

@@ -1,8 +1,9 @@
 //! Laws of how a trace is read, and of why it is not loaded, not played, or not played to its end.
 ghost use Rattle.std.specs.Prelude.{◌≡◌, ℕ, List, [], ◌∷◌, Option, Some, None, Ok, Err, Bool, true, false, codes, drop, length, replicate};
 ghost use Rattle.answers.specs.{Answers.answer_of, Answers.calls_of, Answers.history_before, Outcome.ExplainsRun, Outcome.ExplainsTrace, Outcome.ReadsCommands};
-ghost use Rattle.answers.specs.{Playable.IsPlayable, Streams.Passage, Streams.TellsPart};
+ghost use Rattle.answers.specs.{Playable.IsPlayable, Streams.Passage};
 ghost use Rattle.answers.specs.declared.fault.RunFault.TheVariants as run;
+ghost use Rattle.answers.specs.Streams.{Part, Tells};
 ghost use Rattle.geometry.specs.{Geometry.hosts_of, Geometry.sectors_of, Geometry.words_of, Sectors.Sector, declared.geometry.Geometry.Geometry};
 ghost use Rattle.geometry.specs.History.{Trim, WriteNew};
 ghost use Rattle.trace.specs.{Loading.ExplainsLoad, Trace.AreCommands, Trace.IsFirstFault, Trace.commands_of, Trace.is_of_record};
@@ -94,9 +95,9 @@ pub fn faults_of_a_run()
         × (¬ ExplainsRun (λ x. Same) g (fails [] []) o run.Output) }
     ensures trace { (g : Geometry) (k : TraceFault) (i o : Passage) → ExplainsTrace k g i
         → o.after ≡ o.before → ExplainsRun (λ x. Same) g i o (run.Trace k) }
-    ensures part { TellsPart Same (stream 0 (7 ∷ 8 ∷ [])) (passes [] (7 ∷ [])) }
-    ensures no_part { (¬ TellsPart Same (stream 0 (7 ∷ 8 ∷ [])) (passes [] (8 ∷ [])))
-        × (¬ TellsPart Same (stream 0 (7 ∷ [])) (passes [] (7 ∷ 8 ∷ []))) }
+    ensures part { Tells Part Same (stream 0 (7 ∷ 8 ∷ [])) (passes [] (7 ∷ [])) }
+    ensures no_part { (¬ Tells Part Same (stream 0 (7 ∷ 8 ∷ [])) (passes [] (8 ∷ [])))
+        × (¬ Tells Part Same (stream 0 (7 ∷ [])) (passes [] (7 ∷ 8 ∷ []))) }
 {}
 
 /// What is answered to a command, and which calls it adds to the history.

@@ -10,12 +10,13 @@ use Rattle.streams.specs.declared.{named_file.OpenFault.OpenFault, watched.Watch
 use Rattle.streams.specs.Watched.{inner_of}
 use Rattle.trace.specs.declared.fault.TraceFaultKind.TheVariants as fault
 use Rattle.answers.specs.{Outcome.ExplainsRun, declared.fault.RunFault.RunFault, declared.delivery.OutputFailed.OutputFailed}
-use Rattle.answers.specs.Streams.{Passage, Sends, SendsBeginning, Stream, Tells, TellsPart, over, stream_of}
+use Rattle.answers.specs.Streams.{Passage, Stream, Tells, over, stream_of, Portion, Nothing, Whole, WritesOut, TellsIf}
 use Rattle.streams.specs.declared.named_file.OpenFault.TheVariants as open_fault
 use Rattle.answers.specs.declared.fault.RunFault.TheVariants as run
-use Rattle.runs.specs.{Brooms.IsBroomLogOf, Collections.IsLogOf, ByWorkers.WasPlayed, ByWorkers.answers_played, ByWorkers.commands_played, Files.LeavesLog}
+use Rattle.runs.specs.{Brooms.IsBroomLogOf, Collections.IsLogOf, ByWorkers.WasPlayed, ByWorkers.answers_played, ByWorkers.commands_played}
 use Rattle.runs.specs.{Outputs.IsOutputByWorkers, Outputs.IsOutputOf, Refusals.IsRefusedCount, Refusals.refused_by_workers, Wear.IsWearOf}
 use Rattle.runs.specs.declared.{files.RunFiles.RunFiles, files.RunOptions.RunOptions, played_by_workers.PlayedByWorkers.PlayedByWorkers}
+use Rattle.runs.specs.Logs.{portion_left}
 use Rattle.player.specs.{CommandLine.AreOptionsOf, CommandLine.faults_given, CommandLine.numbers_given, Telling.TellsEnding}
 use Rattle.player.specs.declared.{command_line.Options.Options, refusal.Refusal.Refusal, run_files.FileStop.FileStop, run_files.RunFile.RunFile, stop.Stop.Stop}
 use Rattle.player.specs.declared.refusal.Refusal.TheVariants as refusal
@@ -92,10 +93,10 @@ IsLogBy (suc others) drains geo bytes text = IsBroomLogOf drains geo bytes text
 abbrev pub IsLogFor : Options → Geometry → List ℕ → List ℕ → Type 0
 IsLogFor given geo bytes text = IsLogBy (hosts_of geo) given.drains geo bytes text
 
--- what a run by this many workers that stopped leaves in the file of its log: by workers nothing
-abbrev pub LeavesLogBy : ℕ → RunFault → Bool → Geometry → Stream → Passage → Type 0
-LeavesLogBy zero found wanted geo input file = LeavesLog found wanted geo input file
-LeavesLogBy (suc others) found wanted geo input file = file.after ≡ file.before
+-- how much of the log a run by this many workers that stopped leaves in its file: by workers nothing
+abbrev pub portion_left_by : ℕ → RunFault → Bool → Portion
+portion_left_by zero found wanted = portion_left found wanted
+portion_left_by (suc others) found wanted = Nothing
 
 -- a file was opened by this name, if its name is known, and no byte of it changed by that
 pub record IsOpenedAs {F : Type 0} (name_in : F → Option Text) (contents : F → Option (List ℕ)) (old : Watched F) (name : Text) : Type 0 where
@@ -161,39 +162,16 @@ abbrev pub FailsToOpen : RunFile → OpenFault → Options → Filings → Type 
 FailsToOpen run_file.Wear fault given files = HasFailedToOpen fault files.wear × IsUntouched files.collections
 FailsToOpen run_file.Collections fault given files = HasFailedToOpen fault files.collections × IsOpened (name_given run_file.Wear given) files.wear
 
--- a file is written if the options name it: it was opened by that name, what was written to it is right for the bytes of the trace, and no
--- call failed. Otherwise nothing is written
-abbrev pub TellsFile : Option Text → (List ℕ → List ℕ → Type 0) → Stream → Filing → Type 0
-TellsFile asked IsTextOf input file =
-    MatchOption asked (IsUntouched file)
-    (λ name. file.is_opened_as name × (file.stream.after.failures ≡ file.stream.before.failures) × Tells IsTextOf input file.stream)
-
--- a file that the options name was opened by that name, and then failed: a beginning is written
-abbrev pub LosesFile : Option Text → (List ℕ → List ℕ → Type 0) → Stream → Filing → Type 0
-LosesFile asked IsTextOf input file =
-    MatchOption asked ⊥
-    (λ name. file.is_opened_as name × (file.stream.after.failures ≢ file.stream.before.failures) × TellsPart IsTextOf input file.stream)
-
--- the files are written as the options want them: the wear of the device after the trace, and the log of its collections or, by workers, of
--- what the brooms have done
-pub record TellsFiles (geo : Geometry) (given : Options) (input : Stream) (files : Filings) : Type 0 where
-  pub wear : TellsFile (name_given run_file.Wear given) (IsWearOf geo) input files.wear
-  pub collections : TellsFile (name_given run_file.Collections given) (IsLogFor given geo) input files.collections
-
--- this file failed as it was written. If both did it is the log, which is written first
-abbrev pub LosesOne : RunFile → Geometry → Options → Stream → Filings → Type 0
-LosesOne run_file.Wear geo given input files =
-    LosesFile (name_given run_file.Wear given) (IsWearOf geo) input files.wear
-    × TellsFile (name_given run_file.Collections given) (IsLogFor given geo) input files.collections
-LosesOne run_file.Collections geo given input files =
-    LosesFile (name_given run_file.Collections given) (IsLogFor given geo) input files.collections
-    × (TellsFile (name_given run_file.Wear given) (IsWearOf geo) input files.wear
-    ⊎ LosesFile (name_given run_file.Wear given) (IsWearOf geo) input files.wear)
+-- how a file was written, if the options name it: it was opened by that name, and received a text that is right for the bytes of the trace, or a
+-- beginning of one if calls of it failed. Nothing is written to a file that they don't name, and no call of it fails
+abbrev pub WritesFile : Option Text → (List ℕ → List ℕ → Type 0) → Stream → Filing → Result (Unit {0}) OutputFailed → Type 0
+WritesFile asked IsTextOf input file result =
+    MatchOption asked ⊤ (λ name. file.is_opened_as name) × TellsIf (is_some asked) IsTextOf input file.stream result
 
 -- what a run that stopped leaves in its files: by one thread a beginning of the log if the answers could not be written, and otherwise nothing
 abbrev pub LeavesFiles : RunFault → Geometry → Options → Stream → Filings → Type 0
 LeavesFiles found geo given input files =
-    IsUntouched files.wear × LeavesLogBy (hosts_of geo) found (is_some given.collections) geo input files.collections.stream
+    IsUntouched files.wear × Tells (portion_left_by (hosts_of geo) found (is_some given.collections)) (IsLogOf geo) input files.collections.stream
 
 -- how the options have workers play, and what their run is to write
 abbrev pub run_options_of : Options → RunOptions
@@ -211,17 +189,11 @@ IsOneRun (suc others) geo given input output log refused =
 -- failed, and so many writes were refused
 pub record PlaysOn (geo : Geometry) (given : Options) (input output : Passage) (files : Filings) : Type 0 where
   pub end : IsAtEnd input.after.bytes
-  pub text : Tells (IsTextFor given geo) input.before output
+  pub text : Tells Whole (IsTextFor given geo) input.before output
   pub input_unfailed : input.after.failures ≡ input.before.failures
   pub output_unfailed : output.after.failures ≡ output.before.failures
   pub refused : ℕ
   pub run : IsOneRun (hosts_of geo) geo given input.before output files.collections.stream refused
-
--- the trace was played on the device that the words describe
-pub record Answered (words : List Text) (input output : Passage) (files : Filings) : Type 0 where
-  pub geo : Geometry
-  pub device : IsDescribed words geo
-  pub plays : PlaysOn geo device.given input output files
 
 -- why a run by this many workers refuses writes
 abbrev pub refusal_by : ℕ → Refusal
@@ -232,55 +204,46 @@ refusal_by (suc others) = refusal.Full
 abbrev pub counted_refusals : Options → ℕ → ℕ
 counted_refusals given refused = if given.all_written then refused else 0
 
--- the trace was played, the files were written as the options want them, and no write was refused if the options want all done
-pub record Played (words : List Text) (input output : Passage) (files : Filings) : Type 0 where
-  pub answered : Answered words input output files
-  pub told : TellsFiles answered.geo answered.device.given input.before files
-  pub all : counted_refusals answered.device.given answered.plays.refused ≡ 0
+-- how a run ends by how its log and its wear were written, and by how many refused writes are counted: the first file that failed is reported, and
+-- otherwise the refused writes
+abbrev pub outcome_of : Result (Unit {0}) OutputFailed → Result (Unit {0}) OutputFailed → Refusal → ℕ → Result (Unit {0}) Stop
+outcome_of (Err _) wear why count = Err (stop.File run_file.Collections file_stop.Failed)
+outcome_of (Ok _) (Err _) why count = Err (stop.File run_file.Wear file_stop.Failed)
+outcome_of (Ok done) (Ok _) why zero = Ok done
+outcome_of (Ok done) (Ok _) why (suc n) = Err (stop.Refused why (suc n))
 
--- all that was played is written as after a good run, but the options want all writes done, and this many were refused for this reason
-pub record Unwritten (why : Refusal) (count : ℕ) (words : List Text) (input output : Passage) (files : Filings) : Type 0 where
-  pub answered : Answered words input output files
-  pub told : TellsFiles answered.geo answered.device.given input.before files
-  pub some : count ≢ 0
-  pub count_is : counted_refusals answered.device.given answered.plays.refused ≡ count
-  pub why_is : why ≡ refusal_by (hosts_of answered.geo)
-
--- the trace was played, and this file could not be written
-pub record Lost (file : RunFile) (words : List Text) (input output : Passage) (files : Filings) : Type 0 where
-  pub answered : Answered words input output files
-  pub lost : LosesOne file answered.geo answered.device.given input.before files
-
--- the words describe a device, and name this file
-pub record NamesFile (words : List Text) (file : RunFile) : Type 0 where
-  pub geo : Geometry
-  pub device : IsDescribed words geo
-  pub asked : is_some (name_given file device.given) ≡ true
+-- The trace was played on a device, and the run ended so: by how its files were written, and by how many writes it refused. The log has what one
+-- thread collected or, by workers, what the brooms have done; the other file has the wear of the device after the trace
+pub record Finishes (ending : Result (Unit {0}) Stop) (geo : Geometry) (given : Options) (input output : Passage) (files : Filings) : Type 0 where
+  pub plays : PlaysOn geo given input output files
+  pub log : Result (Unit {0}) OutputFailed
+  pub log_written : WritesFile (name_given run_file.Collections given) (IsLogFor given geo) input.before files.collections log
+  pub wear : Result (Unit {0}) OutputFailed
+  pub wear_written : WritesFile (name_given run_file.Wear given) (IsWearOf geo) input.before files.wear wear
+  pub ending_is : ending ≡ outcome_of log wear (refusal_by (hosts_of geo)) (counted_refusals given plays.refused)
 
 -- nothing was read, and nothing written to the output
 abbrev pub IsIdle : Passage → Passage → Type 0
 IsIdle input output = (input.after ≡ input.before) × (output.after ≡ output.before)
 
--- why a file of a run on a device is not written
-abbrev pub LosesOn : RunFile → FileStop → Geometry → Options → Passage → Passage → Filings → Type 0
-LosesOn file file_stop.NotWithWorkers geo given input output files =
+-- why a file of a run was not written: it is the wear and workers are asked for, the system did not open it, it is in use by the run, or it failed
+-- as it was written
+abbrev pub ExplainsFile : RunFile → FileStop → Geometry → Options → Passage → Passage → Filings → Type 0
+ExplainsFile file file_stop.NotWithWorkers geo given input output files =
     (hosts_of geo ≢ 0) × (file ≡ run_file.Wear) × (is_some (name_given file given) ≡ true) × IsIdle input output × AreUntouched files
-LosesOn file file_stop.NotOpened geo given input output files =
+ExplainsFile file file_stop.NotOpened geo given input output files =
     (is_some (name_given file given) ≡ true) × IsIdle input output × FailsToOpen file open_fault.Refused given files
-LosesOn file file_stop.NotItsOwn geo given input output files =
+ExplainsFile file file_stop.NotItsOwn geo given input output files =
     (is_some (name_given file given) ≡ true) × IsIdle input output × FailsToOpen file open_fault.InUse given files
-LosesOn file file_stop.Failed geo given input output files = PlaysOn geo given input output files × LosesOne file geo given input.before files
+ExplainsFile file file_stop.Failed geo given input output files = Finishes (Err (stop.File file file_stop.Failed)) geo given input output files
 
 -- how a run on a device ended, by the options
 abbrev pub EndsOn : Result (Unit {0}) Stop → Geometry → Options → Passage → Passage → Filings → Type 0
-EndsOn (Ok _) geo given input output files =
-    (plays : PlaysOn geo given input output files) × TellsFiles geo given input.before files × (counted_refusals given plays.refused ≡ 0)
+EndsOn (Ok done) geo given input output files = Finishes (Ok done) geo given input output files
 EndsOn (Err (stop.Run found)) geo given input output files =
     ExplainsRun (IsTextFor given) geo input output found × LeavesFiles found geo given input.before files
-EndsOn (Err (stop.File file why)) geo given input output files = LosesOn file why geo given input output files
-EndsOn (Err (stop.Refused why count)) geo given input output files =
-    (plays : PlaysOn geo given input output files) × TellsFiles geo given input.before files
-    × (count ≢ 0) × (counted_refusals given plays.refused ≡ count) × (why ≡ refusal_by (hosts_of geo))
+EndsOn (Err (stop.File file why)) geo given input output files = ExplainsFile file why geo given input output files
+EndsOn (Err (stop.Refused why count)) geo given input output files = Finishes (Err (stop.Refused why count)) geo given input output files
 EndsOn _ _ _ _ _ _ = ⊥
 
 -- the files that the options name were opened, or one of them was not
@@ -290,51 +253,22 @@ OpensFiles (Err (stop.File file why)) given files =
     (fault : OpenFault) × (why ≡ stop_of_open fault) × (is_some (name_given file given) ≡ true) × FailsToOpen file fault given files
 OpensFiles _ _ _ = ⊥
 
--- how a run ends by how its log and its wear were written, and by how many refused writes are counted: the first file that failed is reported, and
--- otherwise the refused writes
-abbrev pub outcome_of : Result (Unit {0}) OutputFailed → Result (Unit {0}) OutputFailed → Refusal → ℕ → Result (Unit {0}) Stop
-outcome_of (Err _) wear why count = Err (stop.File run_file.Collections file_stop.Failed)
-outcome_of (Ok _) (Err _) why count = Err (stop.File run_file.Wear file_stop.Failed)
-outcome_of (Ok done) (Ok _) why zero = Ok done
-outcome_of (Ok done) (Ok _) why (suc n) = Err (stop.Refused why (suc n))
-
 -- the words ask for help or for the version, which clap counts among its faults
 abbrev pub AsksClap : ErrorKind → Type 0
 AsksClap found = (found ≡ kind.DisplayHelp) ⊎ (found ≡ kind.DisplayVersion)
 
--- the words asked for help or the version, which was written, and nothing was read
-pub record Helped (words : List Text) (input output : Passage) : Type 0 where
+-- some text was written so
+abbrev pub WritesSome : Result (Unit {0}) OutputFailed → Passage → Type 0
+WritesSome result output = (text : List ℕ) × WritesOut text output result
+
+-- the words asked for help or for the version, whose text was written so, and nothing was read
+pub record Helped (result : Result (Unit {0}) OutputFailed) (words : List Text) (input output : Passage) (files : Filings) : Type 0 where
   pub error : Error
   pub asked : IsAmong (kind_of error) (faults_given words)
   pub is_request : AsksClap (kind_of error)
-  pub text : List ℕ
-  pub out : Sends output text
   pub unread : input.after ≡ input.before
-  pub unfailed : output.after.failures ≡ output.before.failures
-
--- a run on the described device stopped
-pub record Stopped (words : List Text) (found : RunFault) (input output : Passage) (files : Filings) : Type 0 where
-  pub geo : Geometry
-  pub device : IsDescribed words geo
-  pub why : ExplainsRun (IsTextFor device.given) geo input output found
-  pub left : LeavesFiles found geo device.given input.before files
-
--- some of a text was written, and then the writer failed
-pub record AppendsSome (output : Passage) : Type 0 where
-  pub text : List ℕ
-  pub part : SendsBeginning output text
-  pub failed : output.after.failures ≢ output.before.failures
-
--- why a file of a run was not written: it is the wear and workers are asked for, the system did not open it, it is in use by the run, or it failed
--- as it was written
-abbrev pub ExplainsFile : RunFile → FileStop → List Text → Passage → Passage → Filings → Type 0
-ExplainsFile file file_stop.NotWithWorkers words input output files =
-    (file ≡ run_file.Wear) × ((named : NamesFile words file) × (hosts_of named.geo ≢ 0)) × IsIdle input output × AreUntouched files
-ExplainsFile file file_stop.NotOpened words input output files =
-    ((named : NamesFile words file) × FailsToOpen file open_fault.Refused named.device.given files) × IsIdle input output
-ExplainsFile file file_stop.NotItsOwn words input output files =
-    ((named : NamesFile words file) × FailsToOpen file open_fault.InUse named.device.given files) × IsIdle input output
-ExplainsFile file file_stop.Failed words input output files = Lost file words input output files
+  pub out : WritesSome result output
+  pub no_file : AreUntouched files
 
 -- clap finds a fault in the words, which asks neither for help nor for the version
 pub record IsRefused (words : List Text) : Type 0 where
@@ -342,11 +276,11 @@ pub record IsRefused (words : List Text) : Type 0 where
   pub found : IsAmong (kind_of error) (faults_given words)
   pub no_request : AsksClap (kind_of error) → ⊥
 
--- the words ask for help or for the version
-pub record AsksForText (words : List Text) : Type 0 where
-  pub error : Error
-  pub asked : IsAmong (kind_of error) (faults_given words)
-  pub is_request : AsksClap (kind_of error)
+-- the words describe a device, and the run on it ended so
+pub record Ran (ending : Result (Unit {0}) Stop) (words : List Text) (input output : Passage) (files : Filings) : Type 0 where
+  pub geo : Geometry
+  pub device : IsDescribed words geo
+  pub ends : EndsOn ending geo device.given input output files
 
 -- why a session stopped. Nothing is on the output except after `Output` of a run, `Help`, `Failed` of a file and `Refused`; only a run reads
 -- anything; and nothing is in a file except after `Output` of a run, the `Failed` of a file and `Refused`
@@ -354,17 +288,13 @@ abbrev pub ExplainsStop : Stop → List Text → Passage → Passage → Filings
 ExplainsStop (stop.Arguments text) words input output files = IsRefused words × IsIdle input output × AreUntouched files
 ExplainsStop (stop.Encoding place) words input output files = ⊥
 ExplainsStop (stop.Geometry found) words input output files = DescribesNone words found × IsIdle input output × AreUntouched files
-ExplainsStop (stop.Run found) words input output files = Stopped words found input output files
-ExplainsStop stop.Help words input output files = AsksForText words × (input.after ≡ input.before) × AppendsSome output × AreUntouched files
+ExplainsStop stop.Help words input output files = (failed : OutputFailed) × Helped (Err failed) words input output files
 ExplainsStop stop.Memory words input output files = IsIdle input output × AreUntouched files
-ExplainsStop (stop.File file why) words input output files = ExplainsFile file why words input output files
-ExplainsStop (stop.Refused why count) words input output files = Unwritten why count words input output files
+ExplainsStop why words input output files = Ran (Err why) words input output files
 
 -- how an attempt ended
 abbrev pub Explains : Result (Unit {0}) Stop → List Text → Passage → Passage → Filings → Type 0
-Explains (Ok _) words input output files =
-    Played words input output files
-    ⊎ (Helped words input output × AreUntouched files)
+Explains (Ok done) words input output files = Ran (Ok done) words input output files ⊎ Helped (Ok done) words input output files
 Explains (Err why) words input output files = ExplainsStop why words input output files
 
 -- the exit status
@@ -382,9 +312,9 @@ pub record EndsSession (status : ℕ) (words : List Text) (input output errors :
 -- what follows from the words that clap refused with an error: the help or the version is written, and every other text goes to standard
 -- error
 abbrev pub AnswersClap : Error → Result (Unit {0}) Stop → Passage → Type 0
-AnswersClap error (Ok _) output = AsksClap (kind_of error) × (output.after.failures ≡ output.before.failures) × (text : List ℕ) × Sends output text
+AnswersClap error (Ok done) output = AsksClap (kind_of error) × WritesSome (Ok done) output
 AnswersClap error (Err (stop.Arguments text)) output =
     (kind_of error ≢ kind.OutOfMemory) × (AsksClap (kind_of error) → ⊥) × (output.after ≡ output.before)
-AnswersClap error (Err stop.Help) output = AsksClap (kind_of error) × AppendsSome output
+AnswersClap error (Err stop.Help) output = AsksClap (kind_of error) × (failed : OutputFailed) × WritesSome (Err failed) output
 AnswersClap error (Err stop.Memory) output = output.after ≡ output.before
 AnswersClap _ _ _ = ⊥

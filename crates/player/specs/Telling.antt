@@ -1,7 +1,7 @@
 -- What a session writes to standard error.
 use Rattle.std.specs.Prelude.{◌≡◌, ℕ, List, [], ◌++◌, codes, decimal, string_bytes, Result, Ok, Err}
 use Rattle.geometry.specs.Faults.{fault_name}
-use Rattle.answers.specs.{Faults.run_text, Streams.Passage, Streams.Sends, Streams.SendsBeginning}
+use Rattle.answers.specs.{Faults.run_text, Streams.Part, Streams.Passage, Streams.Whole, Streams.Writes}
 use Rattle.player.specs.declared.{refusal.Refusal.Refusal, run_files.FileStop.FileStop, run_files.RunFile.RunFile, stop.Stop.Stop}
 use Rattle.player.specs.declared.refusal.Refusal.TheVariants as refusal
 use Rattle.player.specs.declared.run_files.FileStop.TheVariants as file_stop
@@ -43,8 +43,8 @@ line_of why = text_of why
 
 -- a text was written whole if no call of the writer failed, and otherwise a beginning of it
 pub record IsTold (text : List ℕ) (errors : Passage) : Type 0 where
-  pub part : SendsBeginning errors text
-  pub whole : errors.after.failures ≡ errors.before.failures → Sends errors text
+  pub part : Writes Part text errors
+  pub whole : errors.after.failures ≡ errors.before.failures → Writes Whole text errors
 
 -- the text of this stop was written, once
 abbrev pub TellsStop : Stop → Passage → Type 0

@@ -1,5 +1,5 @@
 -- The log of one command more, and how a log ends.
-use Rattle.std.proofs.Common.{◌≡◌, ◌≢◌, ℕ, ◌+◌, ◌-◌, ◌≤◌, Bool, true, false, List, ◌++◌, Option, None, Some, length, refl, subst, sym, ap, ◌∙◌, append_assoc}
+use Rattle.std.proofs.Common.{◌≡◌, ◌≢◌, ℕ, ◌+◌, ◌-◌, ◌≤◌, Bool, true, List, ◌++◌, Option, None, Some, length, refl, subst, sym, ap, ◌∙◌, append_assoc}
 use Rattle.std.{proofs.Common.append-nil, proofs.Common.arith, specs.List.flat_map, specs.List.range_with_len, specs.Io.KnownBytes.Appends}
 use Rattle.std.specs.Prelude.{IfSome, OnOk, Result, Ok, Err}
 use Rattle.geometry.specs.{History.Begins, declared.geometry.Geometry.Geometry}
@@ -7,12 +7,14 @@ use Rattle.ftl_one.specs.{Collections.collection_between, Stock.Stock, declared.
 use Rattle.trace.specs.{Trace.commands_of, declared.commands.Command.Command}
 use Rattle.answers.specs.{Answers.collection_names, Lines.waiting_of, Streams.Passage, Streams.Stream, Streams.WritesOut, declared.lines.Lines.Lines}
 use Rattle.answers.specs.Delivery.{AppendsBeginning, AppendsPart, AppendsText, IsUnderWay}
+use Rattle.answers.specs.Streams.{Nothing, Part, Portion, Tells, TellsIf, Whole, Writes, WritesIf, portion_of}
 use Rattle.answers.{specs.declared.delivery.OutputFailed.OutputFailed, proofs.Texts.flat_map_begins, proofs.Texts.flat_map_more}
 use Rattle.answers.proofs.Deliveries.{AppendsBeginning-part, IsUnderWay-more, IsUnderWay-trans, WritesOut-rest}
 use Rattle.runs.specs.Collections.{IsLogOf, log_before, log_line, log_part, log_text, told_at}
-use Rattle.runs.specs.{Files.EndsFile, Files.EndsText, Files.LeavesFile, Files.LeavesText, Logs.IsLogged, Logs.is_wanted, Playing.stock_before}
+use Rattle.runs.specs.{Logs.IsLogged, Logs.is_wanted, Playing.stock_before}
 use Rattle.runs.specs.{Wear.IsStockOf, Wear.IsWearOf, Wear.wear_text, declared.log.Log.Log}
 use Rattle.runs.specs.declared.log.Log.TheVariants as log
+use Rattle.runs.specs.Logs.{beginning_if}
 
 pub log_none : (geo : Geometry) (commands : List Command) → log_before geo commands 0 ≡ collection_names
 log_none geo commands = append-nil collection_names
@@ -65,7 +67,8 @@ part_of None IsTextOf old new text right part = tt
 part_of (Some bytes) IsTextOf old new text right part = record { text = text; is_text = right; out = part }
 
 -- what a log leaves where the run goes no further
-pub leaves : (state : Log) (file : Passage) (text whole : List ℕ) → IsLogged state file text → Begins text whole → LeavesText (is_wanted state) whole file
+pub leaves : (state : Log) (file : Passage) (text whole : List ℕ) → IsLogged state file text → Begins text whole
+    → Writes (beginning_if (is_wanted state)) whole file
 leaves log.Unwanted file text whole same begins = same
 leaves (log.Open lines) file text whole (unfailed, moves) begins =
     longer file.before.bytes file.after.bytes text whole (under_begins file.before.bytes file.after.bytes (waiting_of lines) text moves) begins
@@ -100,24 +103,20 @@ shut_more log.Failed file text more shut (failed, part) = (failed, longer file.b
 -- what waits is handed on at the end
 pub ends_open : (lines : Lines) (before old new : Stream) (text : List ℕ) (r : Result (Unit {0}) OutputFailed)
     → IsLogged (log.Open lines) (record { before = before; after = old }) text
-    → WritesOut (waiting_of lines) (record { before = old; after = new }) r → EndsText true text (record { before = before; after = new }) r
-ends_open lines before old new text (Ok x) (unfailed, moves) sent = WritesOut-rest text (waiting_of lines) before old new (Ok x) unfailed moves sent
-ends_open lines before old new text (Err e) (unfailed, moves) sent = WritesOut-rest text (waiting_of lines) before old new (Err e) unfailed moves sent
+    → WritesOut (waiting_of lines) (record { before = old; after = new }) r → WritesIf true text (record { before = before; after = new }) r
+ends_open lines before old new text r (unfailed, moves) sent = WritesOut-rest text (waiting_of lines) before old new r unfailed moves sent
 
--- the end of a text is that of the text that is right for the bytes
+-- what is written of a text is written of one that is right for the bytes
+pub tells_right : (portion : Portion) (IsTextOf : List ℕ → List ℕ → Type 0) (input : Stream) (file : Passage) (text : List ℕ)
+    → IfSome input.bytes (λ bytes. IsTextOf bytes text) → Writes portion text file → Tells portion IsTextOf input file
+tells_right Nothing IsTextOf input file text right same = same
+tells_right Part IsTextOf input file text right part = part_of input.bytes IsTextOf file.before.bytes file.after.bytes text right part
+tells_right Whole IsTextOf input file text right sent = whole_of input.bytes IsTextOf file.before.bytes file.after.bytes text right sent
+
+-- and its end is the end of that text
 pub ends_file : (wanted : Bool) (IsTextOf : List ℕ → List ℕ → Type 0) (input : Stream) (file : Passage) (text : List ℕ) (r : Result (Unit {0}) OutputFailed)
-    → IfSome input.bytes (λ bytes. IsTextOf bytes text) → EndsText wanted text file r → EndsFile wanted IsTextOf input file r
-ends_file true IsTextOf input file text (Ok _) right (unfailed, sent) =
-    (unfailed, whole_of input.bytes IsTextOf file.before.bytes file.after.bytes text right sent)
-ends_file true IsTextOf input file text (Err _) right (failed, part) = (failed, part_of input.bytes IsTextOf file.before.bytes file.after.bytes text right part)
-ends_file false IsTextOf input file text (Ok _) right same = same
-ends_file false IsTextOf input file text (Err _) right never = absurd never
-
--- and so is what is left of it
-pub leaves_file : (wanted : Bool) (IsTextOf : List ℕ → List ℕ → Type 0) (input : Stream) (file : Passage) (text : List ℕ)
-    → IfSome input.bytes (λ bytes. IsTextOf bytes text) → LeavesText wanted text file → LeavesFile wanted IsTextOf input file
-leaves_file true IsTextOf input file text right part = part_of input.bytes IsTextOf file.before.bytes file.after.bytes text right part
-leaves_file false IsTextOf input file text right same = same
+    → IfSome input.bytes (λ bytes. IsTextOf bytes text) → WritesIf wanted text file r → TellsIf wanted IsTextOf input file r
+ends_file wanted IsTextOf input file text r right (fails, writes) = (fails, tells_right (portion_of wanted r) IsTextOf input file text right writes)
 
 -- the log of the commands that the bytes mean
 pub log_right : (geo : Geometry) (input : Option (List ℕ)) (commands : List Command) → IfSome input (λ bytes. commands_of bytes geo ≡ Ok commands)
@@ -144,9 +143,9 @@ log_turn geo its_geo commands k stock next_stock state file same is next_is logg
 -- what the log leaves after some commands
 pub log_left_of : (geo : Geometry) (commands : List Command) (n : ℕ) (first state : Log) (file : Passage) → n ≤ length commands
     → is_wanted state ≡ is_wanted first
-    → IsLogged state file (log_before geo commands n) → LeavesText (is_wanted first) (log_text geo commands) file
+    → IsLogged state file (log_before geo commands n) → Writes (beginning_if (is_wanted first)) (log_text geo commands) file
 log_left_of geo commands n first state file low same logged =
-    subst (λ w. LeavesText w (log_text geo commands) file) same
+    subst (λ w. Writes (beginning_if w) (log_text geo commands) file) same
     (leaves state file (log_before geo commands n) (log_text geo commands) logged (log_begins geo commands n low))
 
 pub OnOk-any : {T E : Type 0} (P : Type 0) (r : Result T E) → P → OnOk r P

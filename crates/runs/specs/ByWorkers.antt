@@ -2,10 +2,10 @@
 use Rattle.std.specs.{Prelude.◌≡◌, Prelude.◌≤◌, Prelude.ℕ, Prelude.List, Prelude.IfSome, Prelude.Ok, Prelude.length, Arc.arc_value}
 use Rattle.geometry.specs.{Geometry.hosts_of, declared.geometry.Geometry.Geometry}
 use Rattle.trace.specs.{Trace.commands_of, declared.commands.Command.Command}
-use Rattle.answers.specs.Streams.{Passage, Sends, Stream}
+use Rattle.answers.specs.Streams.{Passage, Stream, Whole, Writes, WritesIf}
 use Rattle.rounds.specs.{Lines.Said, Merging.HaveAnswers, Rows.answers_by}
 use Rattle.workers.specs.{Commands.ArePlayed, Served.AllHaveServed}
-use Rattle.runs.specs.{Brooms.brooms_text, Files.EndsText, Outputs.written_by_workers, declared.files.RunOptions.RunOptions}
+use Rattle.runs.specs.{Brooms.brooms_text, Outputs.written_by_workers, declared.files.RunOptions.RunOptions}
 use Rattle.runs.specs.declared.played_by_workers.PlayedByWorkers.{PlayedByWorkers}
 
 -- the commands that a run has played
@@ -29,6 +29,6 @@ pub record WasPlayed (geo : Geometry) (options : RunOptions) (input : Stream) (o
   pub workers : length run.end.rows.items ≡ hosts_of geo
   pub answered : IsAnswered run
   pub played : ArePlayed geo (commands_played run) (answers_played run)
-  pub written : Sends output (written_by_workers options.answers (commands_played run) (answers_played run))
+  pub written : Writes Whole (written_by_workers options.answers (commands_played run) (answers_played run)) output
   pub served : AllHaveServed geo options.drains run.end.brooms.items
-  pub log : EndsText options.log (brooms_text run.end.brooms.items) file run.log
+  pub log : WritesIf options.log (brooms_text run.end.brooms.items) file run.log

@@ -2,7 +2,6 @@
 pub mod Playing
 pub mod Wear
 pub mod Collections
-pub mod Files
 pub mod Brooms
 pub mod Delivering
 pub mod Texts

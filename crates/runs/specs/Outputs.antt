@@ -4,6 +4,7 @@ use Rattle.std.specs.Io.KnownBytes.{IsAtEnd}
 use Rattle.geometry.specs.declared.geometry.Geometry.{Geometry}
 use Rattle.trace.specs.{Trace.commands_of, declared.commands.Command.Command}
 use Rattle.answers.specs.{Answers.end_text, Outcome.ExplainsRun, Streams.Passage, Streams.Tells, declared.fault.RunFault.RunFault}
+use Rattle.answers.specs.Streams.{Whole}
 use Rattle.rounds.specs.Lines.{Said}
 use Rattle.runs.specs.{Delivering.text_of, Playing.IsTextOf, Playing.last_line, Playing.text_of_commands, Texts.IsTextOf as IsSharedTextOf}
 
@@ -42,6 +43,6 @@ IsOutputByWorkers false geo bytes text = IsLastLineByWorkers geo bytes text
 -- how a run ends: it has read its input to the end and written a text that is right for all its bytes, and no call failed, or a fault explains it
 abbrev pub ExplainsEnd : {T : Type 0} → (Geometry → List ℕ → List ℕ → Type 0) → Geometry → Passage → Passage → Result T RunFault → Type 0
 ExplainsEnd IsTextOf geo input output (Ok _) =
-    IsAtEnd input.after.bytes × Tells (IsTextOf geo) input.before output
+    IsAtEnd input.after.bytes × Tells Whole (IsTextOf geo) input.before output
     × (input.after.failures ≡ input.before.failures) × (output.after.failures ≡ output.before.failures)
 ExplainsEnd IsTextOf geo input output (Err fault) = ExplainsRun IsTextOf geo input output fault

@@ -1,7 +1,8 @@
 //! The log of a run by workers: what each broom has done.
 ghost use Rattle.std.specs.Prelude.{◌≡◌, [], IfOk, IfSome, is_some};
 ghost use Rattle.answers.specs.{Lines.waiting_of, Streams.WritesOut, Streams.over};
-ghost use Rattle.runs.specs.{Brooms.brooms_text, Brooms.counts_of, Files.EndsText};
+ghost use Rattle.answers.specs.Streams.{WritesIf};
+ghost use Rattle.runs.specs.{Brooms.brooms_text, Brooms.counts_of};
 
 use answers::{BroomLine, Lines, OutputFailed};
 use geometry::Geometry;
@@ -32,7 +33,7 @@ pub fn tell_brooms_if<V: Write>(
     file: &mut Watched<V>,
 ) -> Result<(), OutputFailed>
     requires none { IfSome lines (λ waiting. waiting_of waiting ≡ []) }
-    ensures { EndsText (is_some lines) (brooms_text brooms.now)
+    ensures { WritesIf (is_some lines) (brooms_text brooms.now)
         (over V.contents file.old file.new) result }
 {
     match lines {

@@ -6,7 +6,7 @@ ghost use Rattle.streams.specs.Watched.{failures_of};
 ghost use Rattle.trace.specs.declared.commands.Op.TheVariants as ops;
 ghost use Rattle.answers.specs.{Answers.calls_of, Answers.found_text, Answers.line_text, Answers.wear_names, Lines.page_digits_of, Lines.waiting_of};
 ghost use Rattle.answers.specs.{Playable.IsPlayable, declared.line.TheConstants.PIECE_BYTES};
-ghost use Rattle.answers.specs.Streams.{Moves, SendsBeginning, WritesOut, over};
+ghost use Rattle.answers.specs.Streams.{Moves, WritesOut, over, Part, Writes};
 ghost use Rattle.runs.specs.{Playing.end_text, Playing.is_refused, Playing.line_by, Playing.stock_after, Wear.block_line};
 
 use crate::perform::perform;
@@ -143,7 +143,7 @@ impl Desk {
         ensures refused { self.new.refused ≡ self.old.refused }
         ensures unfailed { OnOk result (failures_of writer.new ≡ failures_of writer.old) }
         ensures part { OnErr result
-            (SendsBeginning (over W.contents writer.old writer.new) (waiting_of self.old.lines)) }
+            (Writes Part (waiting_of self.old.lines) (over W.contents writer.old writer.new)) }
         ensures failed { OnErr result (failures_of writer.new ≢ failures_of writer.old) }
     {
         self.lines.make_room(writer)

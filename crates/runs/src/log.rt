@@ -1,7 +1,8 @@
 ghost use Rattle.std.specs.Prelude.{◌≡◌, [], ◌++◌, List, ℕ, IfOk};
 ghost use Rattle.ftl_one.specs.OneFtl.{geometry_of, stock_of};
 ghost use Rattle.answers.specs.{Answers.collection_names, Streams.Stream, Streams.stream_of};
-ghost use Rattle.runs.specs.{Collections.log_part, Files.EndsText, Logs.IsLogged, Logs.IsOpen, Logs.due_by, Logs.is_wanted};
+ghost use Rattle.answers.specs.Streams.{WritesIf};
+ghost use Rattle.runs.specs.{Collections.log_part, Logs.IsLogged, Logs.IsOpen, Logs.due_by, Logs.is_wanted};
 
 use answers::{Lines, OutputFailed};
 use ftl_one::{Collection, OneFtl};
@@ -78,7 +79,7 @@ impl Log {
     pub fn finish<V: Write>(self, file: &mut Watched<V>) -> Result<(), OutputFailed>
         ensures { (before : Stream) → (text : List ℕ)
             → IsLogged self (record { before = before; after = stream_of V.contents file.old }) text
-            → EndsText (is_wanted self) text (record { before = before; after = stream_of V.contents file.new }) result }
+            → WritesIf (is_wanted self) text (record { before = before; after = stream_of V.contents file.new }) result }
     {
         match self {
             Log::Unwanted => Ok(()),

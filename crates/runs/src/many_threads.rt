@@ -3,7 +3,8 @@ ghost use Rattle.std.specs.Io.KnownBytes.{IsAtEnd};
 ghost use Rattle.geometry.specs.Geometry.{brooms_of, hosts_of};
 ghost use Rattle.streams.specs.Watched.{failures_of, inner_of};
 ghost use Rattle.answers.specs.{Outcome.ExplainsRun, Streams.Tells, Streams.over, Streams.stream_of};
-ghost use Rattle.runs.specs.{Brooms.IsBroomLogOf, ByWorkers.WasPlayed, Files.EndsFile, Outputs.ExplainsEnd, Outputs.IsOutputByWorkers, Texts.IsTextOf};
+ghost use Rattle.answers.specs.Streams.{Whole, TellsIf};
+ghost use Rattle.runs.specs.{Brooms.IsBroomLogOf, ByWorkers.WasPlayed, Outputs.ExplainsEnd, Outputs.IsOutputByWorkers, Texts.IsTextOf};
 
 use crate::broom_log::{log_room, tell_brooms_if};
 use crate::delivery::Delivery;
@@ -45,7 +46,7 @@ pub fn run_shared<T: Threads + Wait + Clock + Sync, R: Read, W: Write, G: Gate +
     // The reader was read to its end, what was written is a text of all its bytes, and no call failed.
     ensures end { OnOk result (IsAtEnd (R.remaining (inner_of reader.new))) }
     ensures text { OnOk result
-        (Tells (IsTextOf geometry.now) (stream_of R.remaining reader.old)
+        (Tells Whole (IsTextOf geometry.now) (stream_of R.remaining reader.old)
         (over W.contents writer.old writer.new)) }
     ensures reader_unfailed { OnOk result (failures_of reader.new ≡ failures_of reader.old) }
     ensures writer_unfailed { OnOk result (failures_of writer.new ≡ failures_of writer.old) }
@@ -97,7 +98,7 @@ fn run_logged<T: Threads + Wait + Clock + Sync, R: Read, W: Write, V: Write, G: 
         (WasPlayed geometry.now options (stream_of R.remaining reader.old)
         (over W.contents writer.old writer.new) (over V.contents file.old file.new)) }
     ensures log { IfOk result
-        (λ run. EndsFile options.log (IsBroomLogOf options.drains geometry.now)
+        (λ run. TellsIf options.log (IsBroomLogOf options.drains geometry.now)
         (stream_of R.remaining reader.old)
         (over V.contents file.old file.new) run.log) }
     ensures no_log { OnErr result (stream_of V.contents file.new ≡ stream_of V.contents file.old) }
@@ -145,7 +146,7 @@ pub fn run_by_workers<T: Threads + Wait + Clock + Sync, R: Read, W: Write, V: Wr
     requires { 0 < hosts_of geometry.now }
     ensures end { OnOk result (IsAtEnd (R.remaining (inner_of reader.new))) }
     ensures text { OnOk result
-        (Tells (IsOutputByWorkers options.answers geometry.now)
+        (Tells Whole (IsOutputByWorkers options.answers geometry.now)
         (stream_of R.remaining reader.old) (over W.contents writer.old writer.new)) }
     ensures reader_unfailed { OnOk result (failures_of reader.new ≡ failures_of reader.old) }
     ensures writer_unfailed { OnOk result (failures_of writer.new ≡ failures_of writer.old) }
@@ -157,7 +158,7 @@ pub fn run_by_workers<T: Threads + Wait + Clock + Sync, R: Read, W: Write, V: Wr
 
     // The log has the counts of each broom, within this limit of drains by one survey. If its writer failed, a beginning was written.
     ensures log { IfOk result
-        (λ run. EndsFile options.log (IsBroomLogOf options.drains geometry.now)
+        (λ run. TellsIf options.log (IsBroomLogOf options.drains geometry.now)
         (stream_of R.remaining reader.old)
         (over V.contents file.old file.new) run.log) }
 

@@ -4,10 +4,11 @@ ghost use Rattle.geometry.specs.{Geometry.hosts_of, Geometry.page_bytes_of, Geom
 ghost use Rattle.ftl_one.specs.{OneFtl.geometry_of, OneFtl.array_of, OneFtl.stock_of, Stock.opening};
 ghost use Rattle.streams.specs.Watched.{failures_of, inner_of};
 ghost use Rattle.answers.specs.{Answers.collection_names, Lines.waiting_of, Outcome.ExplainsRun, Playable.IsPlayable};
-ghost use Rattle.answers.specs.Streams.{Tells, WritesOut, over, stream_of};
-ghost use Rattle.runs.specs.{Collections.IsLogOf, Collections.log_text, Files.EndsFile, Files.LeavesLog, Files.LeavesText, Wear.IsStockOf, Wear.IsWearOf};
+ghost use Rattle.answers.specs.Streams.{Tells, WritesOut, over, stream_of, Whole, Writes, TellsIf};
+ghost use Rattle.runs.specs.{Collections.IsLogOf, Collections.log_text, Wear.IsStockOf, Wear.IsWearOf};
 ghost use Rattle.runs.specs.{Logs.IsLogUnderWay, Logs.IsLogged, Logs.is_wanted, Outputs.ExplainsEnd, Outputs.IsOutputOf, Outputs.written_of};
 ghost use Rattle.runs.specs.{Playing.IsTextOf, Playing.stock_before, Refusals.IsRefusedCount, Refusals.refused_before};
+ghost use Rattle.runs.specs.Logs.{beginning_if, portion_left};
 
 use crate::desk::Desk;
 use crate::files::{RunFiles, Wanted, Written};
@@ -37,7 +38,7 @@ pub fn run<R: Read, W: Write>(
     // The reader was read to its end, what was written is the text of all its bytes, and no call failed.
     ensures end { OnOk result (IsAtEnd (R.remaining (inner_of reader.new))) }
     ensures text { OnOk result
-        (Tells (IsTextOf geometry.now) (stream_of R.remaining reader.old)
+        (Tells Whole (IsTextOf geometry.now) (stream_of R.remaining reader.old)
         (over W.contents writer.old writer.new)) }
     ensures reader_unfailed { OnOk result (failures_of reader.new ≡ failures_of reader.old) }
     ensures writer_unfailed { OnOk result (failures_of writer.new ≡ failures_of writer.old) }
@@ -73,18 +74,18 @@ pub fn run_with_files<R: Read, W: Write, V: Write>(
     requires { hosts_of geometry.now ≡ 0 }
     ensures end { OnOk result (IsAtEnd (R.remaining (inner_of reader.new))) }
     ensures text { OnOk result
-        (Tells (IsOutputOf wanted.answers geometry.now)
+        (Tells Whole (IsOutputOf wanted.answers geometry.now)
         (stream_of R.remaining reader.old) (over W.contents writer.old writer.new)) }
     ensures reader_unfailed { OnOk result (failures_of reader.new ≡ failures_of reader.old) }
     ensures writer_unfailed { OnOk result (failures_of writer.new ≡ failures_of writer.old) }
 
     // The log is that of the trace, and the wear that of the device after it. Where a writer failed, a beginning was written.
     ensures collections { IfOk result
-        (λ written. EndsFile wanted.collections
+        (λ written. TellsIf wanted.collections
         (IsLogOf geometry.now) (stream_of R.remaining reader.old)
         (over V.contents files.old.collections files.new.collections) written.collections) }
     ensures wear { IfOk result
-        (λ written. EndsFile wanted.wear (IsWearOf geometry.now) (stream_of R.remaining reader.old)
+        (λ written. TellsIf wanted.wear (IsWearOf geometry.now) (stream_of R.remaining reader.old)
         (over V.contents files.old.wear files.new.wear) written.wear) }
 
     // So many writes were refused.
@@ -97,8 +98,8 @@ pub fn run_with_files<R: Read, W: Write, V: Write>(
         (ExplainsRun (IsOutputOf wanted.answers) geometry.now
         (over R.remaining reader.old reader.new) (over W.contents writer.old writer.new)) }
     ensures log_left { IfErr result
-        (λ fault. LeavesLog fault wanted.collections geometry.now (stream_of R.remaining reader.old)
-        (over V.contents files.old.collections files.new.collections)) }
+        (λ fault. Tells (portion_left fault wanted.collections) (IsLogOf geometry.now)
+        (stream_of R.remaining reader.old) (over V.contents files.old.collections files.new.collections)) }
     ensures no_wear { OnErr result
         (stream_of V.contents files.new.wear ≡ stream_of V.contents files.old.wear) }
 {
@@ -149,7 +150,7 @@ fn run_out<R: Read, W: Write, V: Write>(
         (λ played. IsLogUnderWay geometry.now (stream_of R.remaining reader.old) played.log
         (over V.contents file.old file.new)) }
     ensures log_left { IfErr result
-        (λ fault. LeavesLog fault wanted.collections geometry.now
+        (λ fault. Tells (portion_left fault wanted.collections) (IsLogOf geometry.now)
         (stream_of R.remaining reader.old) (over V.contents file.old file.new)) }
 {
     let commands = match read_commands(alloc, reader, geometry) {
@@ -204,7 +205,7 @@ fn play<W: Write, V: Write>(
         (IsLogged log.new (over V.contents file.old file.new)
         (log_text (geometry_of ftl.old) commands.now)) }
     ensures log_left { OnErr result
-        (LeavesText (is_wanted log.old) (log_text (geometry_of ftl.old) commands.now)
+        (Writes (beginning_if (is_wanted log.old)) (log_text (geometry_of ftl.old) commands.now)
         (over V.contents file.old file.new)) }
 {
     for i in 0..commands.len() {

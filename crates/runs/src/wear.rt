@@ -1,7 +1,8 @@
 ghost use Rattle.std.specs.Prelude.{◌≡◌, []};
 ghost use Rattle.ftl_one.specs.OneFtl.{geometry_of, stock_of};
 ghost use Rattle.answers.specs.{Lines.waiting_of, Streams.WritesOut, Streams.over};
-ghost use Rattle.runs.specs.{Files.EndsText, Wear.wear_text};
+ghost use Rattle.answers.specs.Streams.{WritesIf};
+ghost use Rattle.runs.specs.{Wear.wear_text};
 
 use crate::desk::Desk;
 use crate::log::Log;
@@ -27,7 +28,7 @@ pub fn tell_wear_if<V: Write>(
     wear: &mut Watched<V>,
 ) -> Result<(), OutputFailed>
     requires lines { waiting_of desk.old.lines ≡ [] }
-    ensures { EndsText wanted (wear_text (geometry_of ftl.now) (stock_of ftl.now))
+    ensures { WritesIf wanted (wear_text (geometry_of ftl.now) (stock_of ftl.now))
         (over V.contents wear.old wear.new) result }
 {
     if !wanted {

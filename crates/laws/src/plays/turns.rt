@@ -1,11 +1,12 @@
 //! Laws of what brooms do in a round, and of what a run by workers returns and writes.
 ghost use Rattle.std.specs.Prelude.{◌≡◌, ◌≤◌, ℕ, Bool, IfSome, List, [], ◌∷◌, Ok, true, false, length};
-ghost use Rattle.answers.specs.{Answers.end_text, Streams.Passage, Streams.Sends, Streams.Stream};
+ghost use Rattle.answers.specs.{Answers.end_text, Streams.Passage, Streams.Stream};
+ghost use Rattle.answers.specs.Streams.{Whole, Writes, WritesIf};
 ghost use Rattle.broom.specs.declared.answer.{Drain.Drain, Erase.Erase};
 ghost use Rattle.broom.specs.declared.answer.Drain.TheVariants as drain;
 ghost use Rattle.geometry.specs.{Geometry.hosts_of, declared.geometry.Geometry.Geometry};
 ghost use Rattle.rounds.specs.{Lines.Said, Merging.HaveAnswers};
-ghost use Rattle.runs.specs.{Brooms.brooms_text, ByWorkers.WasPlayed, ByWorkers.answers_played, ByWorkers.commands_played, Delivering.text_of, Files.EndsText};
+ghost use Rattle.runs.specs.{Brooms.brooms_text, ByWorkers.WasPlayed, ByWorkers.answers_played, ByWorkers.commands_played, Delivering.text_of};
 ghost use Rattle.runs.specs.{Outputs.written_by_workers, declared.files.RunOptions.RunOptions, declared.played_by_workers.PlayedByWorkers.PlayedByWorkers};
 ghost use Rattle.trace.specs.{Trace.commands_of, declared.commands.Command.Command};
 ghost use Rattle.workers.specs.{Collecting.HasCollected, Collecting.HaveCollected, Commands.ArePlayed, Served.AllHaveServed, Turns.Follows};
@@ -55,10 +56,10 @@ pub fn a_run_by_workers()
         × ArePlayed geo (commands_played run) (answers_played run) }
     ensures written { (geo : Geometry) (w : RunOptions) (i : Stream) (o f : Passage) (run : PlayedByWorkers)
         → WasPlayed geo w i o f run
-        → Sends o (written_by_workers w.answers (commands_played run) (answers_played run)) }
+        → Writes Whole (written_by_workers w.answers (commands_played run) (answers_played run)) o }
     ensures served { (geo : Geometry) (w : RunOptions) (i : Stream) (o f : Passage) (run : PlayedByWorkers)
         → WasPlayed geo w i o f run → AllHaveServed geo w.drains run.end.brooms.items
-        × EndsText w.log (brooms_text run.end.brooms.items) f run.log }
+        × WritesIf w.log (brooms_text run.end.brooms.items) f run.log }
     ensures answered { (geo : Geometry) (w : RunOptions) (i : Stream) (o f : Passage) (run : PlayedByWorkers) → WasPlayed geo w i o f run
         → (length run.end.rows.items ≤ 500)
         × HaveAnswers (answers_played run) (commands_played run) }

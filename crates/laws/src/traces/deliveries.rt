@@ -3,16 +3,18 @@ ghost use Rattle.std.specs.Prelude.{length, ◌≡◌, ℕ, List, [], ◌∷◌,
 ghost use Rattle.answers.specs.Answers.{broom_line, calls_of, collection_line, line_text, wear_line, wear_names};
 ghost use Rattle.answers.specs.{Delivery.IsUnderWay, Faults.run_text, Playable.IsPlayable, Replies.reply_of, Replies.reply_text};
 ghost use Rattle.text.specs.Placed.{Placed};
-ghost use Rattle.answers.specs.Streams.{Moves, Passage, Sends, SendsBeginning, Stream, Tells, WritesOut};
+ghost use Rattle.answers.specs.Streams.{Moves, Passage, Stream, Tells, WritesOut, Part, Whole, Writes, WritesIf, TellsIf};
 ghost use Rattle.answers.specs.declared.delivery.OutputFailed.{OutputFailed};
 ghost use Rattle.answers.specs.declared.fault.RunFault.TheVariants as run;
 ghost use Rattle.answers.specs.declared.reply.Reply.TheVariants as reply;
 ghost use Rattle.geometry.specs.{Geometry.hosts_of, Geometry.sectors_of, Geometry.words_of, History.Trim, History.Write, declared.geometry.Geometry.Geometry};
 ghost use Rattle.geometry.specs.Sectors.{sector_at};
 ghost use Rattle.geometry.specs.declared.answer.Was.TheVariants as was;
-ghost use Rattle.runs.specs.{Collections.log_part, Files.EndsFile, Files.EndsText, Files.LeavesLog, Logs.IsLogged, Logs.IsOpen, Logs.due_by, Logs.is_wanted};
+ghost use Rattle.runs.specs.{Collections.log_part, Logs.IsLogged, Logs.IsOpen, Logs.due_by, Logs.is_wanted};
 ghost use Rattle.runs.specs.Playing.{answer_by, line_by};
 ghost use Rattle.runs.specs.declared.log.Log.TheVariants as log;
+ghost use Rattle.runs.specs.Logs.{portion_left};
+ghost use Rattle.runs.specs.Collections.{IsLogOf};
 ghost use Rattle.ftl_one.specs.{Collections.collection_due, Stock.Stock, declared.one_ftl.OneFtl.OneFtl, OneFtl.array_of};
 ghost use Rattle.hex.specs.Hex.{decode_of};
 ghost use Rattle.trace.specs.{Digits.IsData, Faults.fault_text, Loading.ExplainsLoad, Loading.most_bytes, Page.page_with};
@@ -29,15 +31,15 @@ ghost use Rattle.laws.specs.{Rounds.plain_line, Rounds.read, Rounds.write_by, St
 
 /// When a writer has received a text, a beginning of it, or a text that is right for what was read.
 pub fn texts_sent_to_a_writer()
-    ensures sends { Sends (passes (1 ∷ []) (1 ∷ 2 ∷ [])) (2 ∷ []) }
-    ensures too_much { ¬ Sends (passes (1 ∷ []) (1 ∷ 2 ∷ 3 ∷ [])) (2 ∷ []) }
-    ensures nothing { ¬ Sends (passes (1 ∷ []) (1 ∷ [])) (2 ∷ []) }
-    ensures replaced { ¬ Sends (passes (1 ∷ []) (2 ∷ [])) (2 ∷ []) }
-    ensures beginning { SendsBeginning (passes (1 ∷ []) (1 ∷ 2 ∷ [])) (2 ∷ 3 ∷ []) }
-    ensures no_beginning { ¬ SendsBeginning (passes [] (3 ∷ [])) (2 ∷ 3 ∷ []) }
-    ensures tells { Tells Same (record { failures = 0; bytes = Some (7 ∷ []) })
+    ensures sends { Writes Whole (2 ∷ []) (passes (1 ∷ []) (1 ∷ 2 ∷ [])) }
+    ensures too_much { ¬ Writes Whole (2 ∷ []) (passes (1 ∷ []) (1 ∷ 2 ∷ 3 ∷ [])) }
+    ensures nothing { ¬ Writes Whole (2 ∷ []) (passes (1 ∷ []) (1 ∷ [])) }
+    ensures replaced { ¬ Writes Whole (2 ∷ []) (passes (1 ∷ []) (2 ∷ [])) }
+    ensures beginning { Writes Part (2 ∷ 3 ∷ []) (passes (1 ∷ []) (1 ∷ 2 ∷ [])) }
+    ensures no_beginning { ¬ Writes Part (2 ∷ 3 ∷ []) (passes [] (3 ∷ [])) }
+    ensures tells { Tells Whole Same (record { failures = 0; bytes = Some (7 ∷ []) })
         (passes (1 ∷ []) (1 ∷ 7 ∷ [])) }
-    ensures untrue { ¬ Tells Same
+    ensures untrue { ¬ Tells Whole Same
         (record { failures = 0; bytes = Some (7 ∷ []) }) (passes [] (8 ∷ [])) }
     ensures moves { Moves (passes (1 ∷ []) (1 ∷ 2 ∷ [])) (3 ∷ []) (2 ∷ 3 ∷ []) }
     ensures not_waiting { ¬ Moves (passes [] (2 ∷ [])) [] (2 ∷ 3 ∷ []) }
@@ -52,36 +54,36 @@ pub fn texts_sent_to_a_writer()
 
 /// How the file of a text ends, and what a log has of it.
 pub fn ends_of_a_file()
-    ensures whole { EndsText true (2 ∷ []) (passes [] (2 ∷ [])) (Ok tt) }
-    ensures failed { (f : OutputFailed) → EndsText true (2 ∷ 3 ∷ []) (fails [] (2 ∷ [])) (Err f) }
-    ensures unwanted { (p : Passage) → p.after ≡ p.before → EndsText false (2 ∷ []) p (Ok tt) }
-    ensures not_whole { ¬ EndsText true (2 ∷ 3 ∷ []) (passes [] (2 ∷ [])) (Ok tt) }
-    ensures failure_untold { ¬ EndsText true (2 ∷ []) (fails [] (2 ∷ [])) (Ok tt) }
+    ensures whole { WritesIf true (2 ∷ []) (passes [] (2 ∷ [])) (Ok tt) }
+    ensures failed { (f : OutputFailed) → WritesIf true (2 ∷ 3 ∷ []) (fails [] (2 ∷ [])) (Err f) }
+    ensures unwanted { (p : Passage) → p.after ≡ p.before → WritesIf false (2 ∷ []) p (Ok tt) }
+    ensures not_whole { ¬ WritesIf true (2 ∷ 3 ∷ []) (passes [] (2 ∷ [])) (Ok tt) }
+    ensures failure_untold { ¬ WritesIf true (2 ∷ []) (fails [] (2 ∷ [])) (Ok tt) }
     ensures no_failure { (f : OutputFailed)
-        → ¬ EndsText true (2 ∷ []) (passes [] (2 ∷ [])) (Err f) }
-    ensures written_unwanted { ¬ EndsText false (2 ∷ []) (passes [] (2 ∷ [])) (Ok tt) }
+        → ¬ WritesIf true (2 ∷ []) (passes [] (2 ∷ [])) (Err f) }
+    ensures written_unwanted { ¬ WritesIf false (2 ∷ []) (passes [] (2 ∷ [])) (Ok tt) }
     ensures unwanted_fails { (f : OutputFailed) (p : Passage)
-        → ¬ EndsText false (2 ∷ []) p (Err f) }
-    ensures file { EndsFile true Same (record { failures = 0; bytes = Some (2 ∷ []) })
+        → ¬ WritesIf false (2 ∷ []) p (Err f) }
+    ensures file { TellsIf true Same (record { failures = 0; bytes = Some (2 ∷ []) })
         (passes [] (2 ∷ [])) (Ok tt) }
     ensures file_failed { (f : OutputFailed) (i : Stream)
-        → ¬ EndsFile true Same i (passes [] []) (Err f) }
-    ensures file_untold { (i : Stream) → ¬ EndsFile true Same i (fails [] []) (Ok tt) }
-    ensures file_unwanted { (i : Stream) → ¬ EndsFile false Same i (passes [] (2 ∷ [])) (Ok tt) }
+        → ¬ TellsIf true Same i (passes [] []) (Err f) }
+    ensures file_untold { (i : Stream) → ¬ TellsIf true Same i (fails [] []) (Ok tt) }
+    ensures file_unwanted { (i : Stream) → ¬ TellsIf false Same i (passes [] (2 ∷ [])) (Ok tt) }
     ensures file_never_fails { (f : OutputFailed) (i : Stream) (p : Passage)
-        → ¬ EndsFile false Same i p (Err f) }
+        → ¬ TellsIf false Same i p (Err f) }
     ensures wanted { (is_wanted log.Unwanted ≡ false) × (is_wanted log.Failed ≡ true) }
     ensures open { (¬ IsOpen log.Unwanted) × (¬ IsOpen log.Failed) }
     ensures no_log { (p : Passage) → IsLogged log.Unwanted p (2 ∷ []) → p.after ≡ p.before }
     ensures failed_log { ¬ IsLogged log.Failed (passes [] []) (2 ∷ []) }
     ensures log_of_failed { IsLogged log.Failed (fails [] (2 ∷ [])) (2 ∷ 3 ∷ []) }
     ensures left { (t : TraceFault) (g : Geometry) (i : Stream)
-        → ¬ LeavesLog (run.Trace t) true g i (passes [] (2 ∷ [])) }
+        → ¬ Tells (portion_left (run.Trace t) true) (IsLogOf g) i (passes [] (2 ∷ [])) }
     ensures left_unwanted { (g : Geometry) (i : Stream)
-        → ¬ LeavesLog run.Output false g i (passes [] (2 ∷ [])) }
+        → ¬ Tells (portion_left run.Output false) (IsLogOf g) i (passes [] (2 ∷ [])) }
     ensures left_none { (g : Geometry) (i : Stream)
-        → (¬ LeavesLog run.Memory true g i (passes [] (2 ∷ [])))
-        × (¬ LeavesLog run.Threads true g i (passes [] (2 ∷ []))) }
+        → (¬ Tells (portion_left run.Memory true) (IsLogOf g) i (passes [] (2 ∷ [])))
+        × (¬ Tells (portion_left run.Threads true) (IsLogOf g) i (passes [] (2 ∷ []))) }
     ensures due { (g : Geometry) (s : Stock) → (due_by op.Write g s ≡ collection_due g s)
         × (due_by op.New g s ≡ collection_due g s) }
     ensures none_due { (g : Geometry) (s : Stock) → (due_by op.Read g s ≡ None)

@@ -1,20 +1,28 @@
-ghost use Rattle.std.specs.Prelude.{◌≡◌, ◌+◌, ℕ, IfSome, List, Option, [], ◌∷◌, Err, None, Some, codes, false, not, true};
+ghost use Rattle.std.specs.Prelude.{◌≡◌, ◌+◌, ℕ, IfSome, List, Option, [], ◌∷◌, Err, None, Ok, Result, Some, codes, false, not, true};
 ghost use Rattle.answers.specs.{Answers.end_text, Outcome.ExplainsRun, declared.fault.RunFault.RunFault};
-ghost use Rattle.answers.specs.Streams.{Passage, Sends, SendsBeginning, Stream, stream_of};
+ghost use Rattle.answers.specs.Streams.{Passage, Stream, stream_of, Part, Whole, Writes, Tells};
+ghost use Rattle.answers.specs.declared.delivery.OutputFailed.{OutputFailed};
 ghost use Rattle.clap.specs.{Words.IsAmong, Words.Text, Words.first_of, Words.kind_of, Words.one_of, declared.error.Error.Error};
 ghost use Rattle.geometry.specs.{Geometry.hosts_of, Geometry.numbers_of, declared.fault.GeometryFault.GeometryFault, declared.geometry.Geometry.Geometry};
 ghost use Rattle.geometry.specs.Limits.{first_fault, numbers};
 ghost use Rattle.player.specs.CommandLine.{AreOptionsOf, IsNumberIn, faults_given, numbers_given, rows_given, rows_named};
-ghost use Rattle.player.specs.Session.{AppendsSome, AsksClap, HasFailedToOpen, IsIdle, IsLogBy, IsOpenedAs, IsRefused, IsRefusedAs, IsTextFor, LeavesLogBy};
-ghost use Rattle.player.specs.{Session.LosesFile, Session.TellsFile, Session.filing, Session.name_given, Telling.TellsStop};
+ghost use Rattle.player.specs.Session.{AsksClap, HasFailedToOpen, IsIdle, IsLogBy, IsOpenedAs, IsRefused, IsRefusedAs, IsTextFor, portion_left_by};
+ghost use Rattle.player.specs.Session.{WritesFile, WritesSome};
+ghost use Rattle.player.specs.{Session.filing, Session.name_given, Telling.TellsStop};
 ghost use Rattle.player.specs.declared.command_line.Options.{Options};
 ghost use Rattle.player.specs.declared.run_files.FileStop.TheVariants as file_stop;
 ghost use Rattle.player.specs.declared.run_files.RunFile.TheVariants as run_file;
+ghost use Rattle.player.specs.Session.{Finishes, IsLogFor, counted_refusals, outcome_of, refusal_by};
+ghost use Rattle.player.specs.declared.stop.Stop.{Stop};
 ghost use Rattle.player.specs.declared.stop.Stop.TheVariants as stop;
+ghost use Rattle.runs.specs.Wear.{IsWearOf};
 ghost use Rattle.runs.specs.{Brooms.IsBroomLogOf, Outputs.IsLastLineOf, Outputs.IsOutputByWorkers, Outputs.IsOutputOf};
+ghost use Rattle.runs.specs.Collections.{IsLogOf};
 ghost use Rattle.streams.specs.{Watched.failures_of, Watched.inner_of, declared.named_file.OpenFault.OpenFault, declared.watched.Watched.Watched};
 ghost use Rattle.streams.specs.declared.named_file.OpenFault.TheVariants as open_fault;
-ghost use Rattle.laws.specs.Sessions.{EndsBy, EndsWith, Gives, PlaysAll, Reports, in_use, named_b, system_refused, untold, untold_bytes, untold_name};
+ghost use Rattle.laws.specs.Sessions.{EndsBy, EndsWith, Gives, PlaysAll, Reports, in_use, named_b, system_refused, unknown_files, untold, untold_bytes};
+ghost use Rattle.laws.specs.Sessions.{untold_name};
+ghost use Rattle.runs.specs.declared.files.RunFiles.{RunFiles};
 ghost use Rattle.laws.specs.Streams.{Same, passes};
 
 /// What the status of a session says of what was read and written.
@@ -26,7 +34,7 @@ pub fn ends_of_a_session()
         → (i.after ≡ i.before) × (o.after ≡ o.before) }
     ensures trace { (w : List Text) (i o e : Passage) → EndsWith 3 w i o e → o.after ≡ o.before }
     ensures memory { (e : Passage) → TellsStop stop.Memory e
-        → e.after.failures ≡ e.before.failures → Sends e (codes "memory: refused\n") }
+        → e.after.failures ≡ e.before.failures → Writes Whole (codes "memory: refused\n") e }
     ensures played { (w : List Text) (i o e : Passage)
         → EndsWith 0 w i o e → faults_given w ≡ [] → PlaysAll w i o }
     ensures which { (f : GeometryFault) (w : List Text) (i o e : Passage)
@@ -42,14 +50,15 @@ pub fn ends_of_a_session()
     ensures helped { (w : List Text) (i o e : Passage)
         → EndsWith 0 w i o e → ¬ (faults_given w ≡ []) → (k : Error)
         × IsAmong (kind_of k) (faults_given w) × AsksClap (kind_of k)
-        × (i.after ≡ i.before) × (t : List ℕ) × Sends o t }
+        × (i.after ≡ i.before) × (t : List ℕ) × Writes Whole t o }
     ensures help_failed { (w : List Text) (i o e : Passage) → EndsBy (Err stop.Help) w i o e
         → (k : Error) × IsAmong (kind_of k) (faults_given w)
-        × AsksClap (kind_of k) × (i.after ≡ i.before) × AppendsSome o }
+        × AsksClap (kind_of k) × (i.after ≡ i.before)
+        × (f : OutputFailed) × WritesSome (Err f) o }
     ensures refused { (w : List Text) → IsRefused w → (k : Error)
         × IsAmong (kind_of k) (faults_given w) × (¬ AsksClap (kind_of k)) }
     ensures memory_part { (e : Passage) → TellsStop stop.Memory e
-        → SendsBeginning e (codes "memory: refused\n") }
+        → Writes Part (codes "memory: refused\n") e }
     ensures unwritten { (w : List Text) (i o e : Passage)
         → EndsWith 5 w i o e → o.after.failures ≡ o.before.failures }
     ensures other { (s : ℕ) (w : List Text) (i o e : Passage) → EndsWith (6 + s) w i o e → ⊥ }
@@ -71,25 +80,36 @@ pub fn refusals_of_files()
 /// What a session writes to the files that the options name, and to those that they don't.
 pub fn files_of_a_session()
     ensures unnamed { (i : Stream) (a b : Watched ℕ)
-        → TellsFile None Same i (filing untold_name untold untold_bytes a b)
+        → WritesFile None Same i (filing untold_name untold untold_bytes a b) (Ok tt)
         → failures_of b ≡ failures_of a }
-    ensures none_lost { (i : Stream) (a b : Watched ℕ)
-        → ¬ LosesFile None Same i (filing untold_name untold untold_bytes a b) }
+    ensures none_lost { (f : OutputFailed) (i : Stream) (a b : Watched ℕ)
+        → ¬ WritesFile None Same i (filing untold_name untold untold_bytes a b) (Err f) }
     ensures named { (i : Stream) (a b : Watched ℕ)
-        → TellsFile (Some (codes "a")) Same i (filing untold_name untold untold_bytes a b)
+        → WritesFile (Some (codes "a")) Same i (filing untold_name untold untold_bytes a b) (Ok tt)
         → failures_of b ≡ failures_of a }
-    ensures lost { (i : Stream) (a : Watched ℕ)
-        → ¬ LosesFile (Some (codes "a")) Same i (filing untold_name untold untold_bytes a a) }
-    ensures other_name { (i : Stream) (a b : Watched ℕ)
-        → ¬ TellsFile (Some (codes "a")) Same i (filing named_b untold untold_bytes a b) }
-    ensures other_lost { (i : Stream) (a b : Watched ℕ)
-        → ¬ LosesFile (Some (codes "a")) Same i (filing named_b untold untold_bytes a b) }
+    ensures lost { (f : OutputFailed) (i : Stream) (a : Watched ℕ)
+        → ¬ WritesFile (Some (codes "a")) Same i
+        (filing untold_name untold untold_bytes a a) (Err f) }
+    ensures other_name { (r : Result (Unit {0}) OutputFailed) (i : Stream) (a b : Watched ℕ)
+        → ¬ WritesFile (Some (codes "a")) Same i (filing named_b untold untold_bytes a b) r }
+    ensures ending { (r : Result (Unit {0}) Stop) (g : Geometry) (given : Options) (i o : Passage)
+        (a b : RunFiles ℕ) → (h : Finishes r g given i o (unknown_files a b))
+        → r ≡ outcome_of h.log h.wear (refusal_by (hosts_of g))
+        (counted_refusals given h.plays.refused) }
+    ensures log { (r : Result (Unit {0}) Stop) (g : Geometry) (given : Options) (i o : Passage)
+        (a b : RunFiles ℕ) → (h : Finishes r g given i o (unknown_files a b))
+        → WritesFile (name_given run_file.Collections given) (IsLogFor given g)
+        i.before (unknown_files a b).collections h.log }
+    ensures wear { (r : Result (Unit {0}) Stop) (g : Geometry) (given : Options) (i o : Passage)
+        (a b : RunFiles ℕ) → (h : Finishes r g given i o (unknown_files a b))
+        → WritesFile (name_given run_file.Wear given) (IsWearOf g)
+        i.before (unknown_files a b).wear h.wear }
     ensures opened { (n : ℕ → Option Text) (b : ℕ → Option (List ℕ)) (a : Watched ℕ) (t : Text)
         → (h : IsOpenedAs n b a t)
         → (stream_of b h.opened ≡ stream_of b a)
         × IfSome (n (inner_of h.opened)) (λ known. known ≡ t) }
     ensures left { (f : RunFault) (g : Geometry) (i : Stream)
-        → ¬ LeavesLogBy 1 f true g i (passes [] (2 ∷ [])) }
+        → ¬ Tells (portion_left_by 1 f true) (IsLogOf g) i (passes [] (2 ∷ [])) }
     ensures limit { (g : Geometry) (bytes text : List ℕ)
         → IsLogBy 1 7 g bytes text → IsBroomLogOf 7 g bytes text }
 {}

@@ -1,6 +1,6 @@
 use Rattle.std.proofs.Common.{refl}
 use Rattle.answers.specs.Streams.{over}
-use Rattle.player.{specs.Session.filings, proofs.Endings.from_refusal, proofs.Endings.from_run}
+use Rattle.player.{specs.Session.filings, proofs.Endings.from_run}
 use Rattle.player.proofs.sessions.attempt.Goals as goal
 
 pub returns-in-0 : goal.returns-in-0

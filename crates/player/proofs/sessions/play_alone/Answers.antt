@@ -1,9 +1,9 @@
-use Rattle.std.{proofs.Common.ap, proofs.Common.refl, proofs.Common.sym}
+use Rattle.std.{proofs.Common.ap, proofs.Common.sym}
 use Rattle.answers.specs.Streams.{over, stream_of}
 use Rattle.runs.specs.Wear.{IsWearOf}
 use Rattle.player.specs.{Session.IsLogFor, Session.filings, Session.refusal_by}
-use Rattle.player.proofs.Endings.{file_ended, files_left, not_opened, run_ended}
-use Rattle.player.proofs.RunTexts.{one_left, one_log, one_run, one_text, one_why}
+use Rattle.player.proofs.Endings.{file_ended, run_ended}
+use Rattle.player.proofs.RunTexts.{one_log, one_run, one_text}
 use Rattle.player.specs.declared.refusal.Refusal.TheVariants as refusal
 use Rattle.player.proofs.sessions.play_alone.Goals as goal
 

@@ -1,11 +1,11 @@
-use Rattle.std.proofs.Common.{◌∙◌, refl, subst, sym}
+use Rattle.std.proofs.Common.{◌∙◌, subst, sym}
 use Rattle.std.specs.Prelude.{Bool, Ok, not}
-use Rattle.answers.specs.Streams.{Stream, over, stream_of}
+use Rattle.answers.specs.Streams.{Stream, over, stream_of, Whole}
 use Rattle.geometry.specs.Geometry.{hosts_of}
 use Rattle.runs.specs.{ByWorkers.WasPlayed, ByWorkers.answers_played, ByWorkers.commands_played, Refusals.refused_by_workers, Wear.IsWearOf}
 use Rattle.player.specs.{Session.IsLogFor, Session.filings, Session.run_options_of}
-use Rattle.player.proofs.Endings.{file_ended, files_left, is_named, not_opened, run_ended, unnamed}
-use Rattle.player.proofs.RunTexts.{shared_left, shared_log, shared_refusal, shared_run, shared_text, shared_why}
+use Rattle.player.proofs.Endings.{file_ended, run_ended, unnamed}
+use Rattle.player.proofs.RunTexts.{shared_log, shared_refusal, shared_run, shared_text}
 use Rattle.player.specs.declared.refusal.Refusal.TheVariants as refusal
 use Rattle.player.proofs.sessions.play_shared.Goals as goal
 
@@ -29,7 +29,7 @@ returns-in-Ok g c =
     (run_ended c.in-Ok.played.log (Ok tt) refusal.Full c.count_if_wanted-count.result geo given _ _ files
     (record {
       end = told.end;
-      text = shared_text (hosts_of geo) (not given.quiet) geo start output c.requires told.text;
+      text = shared_text (hosts_of geo) (not given.quiet) geo Whole start output c.requires told.text;
       input_unfailed = told.reader_unfailed;
       output_unfailed = told.writer_unfailed;
       refused = refused_by_workers (commands_played c.in-Ok.played) (answers_played c.in-Ok.played);

@@ -1,4 +1,4 @@
-use Rattle.std.{proofs.Common.arith, proofs.Common.rules, specs.Prelude.Err}
+use Rattle.std.{proofs.Common.arith, specs.Prelude.Err}
 use Rattle.player.proofs.sessions.session.Goals as goal
 
 pub returns-in-Err-clause-ending : goal.returns-in-Err-clause-ending

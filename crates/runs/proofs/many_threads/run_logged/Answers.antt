@@ -2,10 +2,11 @@ use Rattle.std.proofs.{Common.◌≡◌, Common.◌∙◌, Common.Bool, Common.L
 use Rattle.std.{proofs.lemmas.List.reverse-reverse, specs.List.All}
 use Rattle.streams.specs.Watched.{inner_of}
 use Rattle.trace.specs.declared.commands.Command.{Command}
-use Rattle.answers.specs.{Playable.IsPlayable, Streams.Sends, Streams.over, Streams.stream_of}
+use Rattle.answers.specs.{Playable.IsPlayable, Streams.over, Streams.stream_of}
+use Rattle.answers.specs.Streams.{Whole, Writes, WritesIf}
 use Rattle.rounds.specs.{Rows.answers_by, Answers.page_size_of, declared.answer_list.Answers.Answers}
 use Rattle.geometry.specs.Geometry.{page_bytes_of}
-use Rattle.runs.specs.{Delivering.digits_in, Outputs.written_by_workers, Brooms.IsBroomLogOf, Brooms.brooms_text, Files.EndsText}
+use Rattle.runs.specs.{Delivering.digits_in, Outputs.written_by_workers, Brooms.IsBroomLogOf, Brooms.brooms_text}
 use Rattle.runs.proofs.{BroomTexts.brooms_right, LogTexts.ends_file}
 use Rattle.runs.proofs.DeliveredAnswers.{all_digits, enough_answers, part_sent, renamed, renamed_meaning, some_meaning, text_sent}
 use Rattle.workers.specs.{declared.collector.collector_end.CollectorEnd.CollectorEnd, Served.AllHaveServed}
@@ -72,7 +73,7 @@ returns-in-Ok-write_out-clause-log g c =
     let served = subst (AllHaveServed geo c.args.options.drains) (sym c.deref-in-Ok-write_out.ensures.value) c.in-Ok-play_commands.ensures.brooms in
     ends_file c.args.options.log (IsBroomLogOf c.args.options.drains geo) input file (brooms_text ends) c.tell_brooms_if-log.result
     (brooms_right geo input.bytes c.in-Ok.commands c.args.options.drains ends c.in-Ok.ensures.commands served)
-    (subst (λ w. EndsText w (brooms_text ends) file c.tell_brooms_if-log.result) c.in-Ok-log_room.ensures.wanted c.tell_brooms_if-log.ensures)
+    (subst (λ w. WritesIf w (brooms_text ends) file c.tell_brooms_if-log.result) c.in-Ok-log_room.ensures.wanted c.tell_brooms_if-log.ensures)
 
 pub returns-in-Ok-write_out-clause-played : goal.returns-in-Ok-write_out-clause-played
 returns-in-Ok-write_out-clause-played g c =
@@ -91,9 +92,9 @@ returns-in-Ok-write_out-clause-played g c =
             c.in-Ok-play_commands.ensures.played;
       };
       played = c.in-Ok-play_commands.ensures.played;
-      written = subst (λ (x : List Command × List Answers). Sends output (written_by_workers c.args.options.answers x.0 (answers_by x.1)))
+      written = subst (λ (x : List Command × List Answers). Writes Whole (written_by_workers c.args.options.answers x.0 (answers_by x.1)) output)
           (λ i. (c.deref.ensures i, kept i)) c.in-Ok-write_out.ensures.1;
       served = c.in-Ok-play_commands.ensures.brooms;
-      log = subst (λ (x : Bool × List CollectorEnd). EndsText x.0 (brooms_text x.1) file c.tell_brooms_if-log.result)
+      log = subst (λ (x : Bool × List CollectorEnd). WritesIf x.0 (brooms_text x.1) file c.tell_brooms_if-log.result)
           (λ i. (c.in-Ok-log_room.ensures.wanted i, c.deref-in-Ok-write_out.ensures.value i)) c.tell_brooms_if-log.ensures;
     }

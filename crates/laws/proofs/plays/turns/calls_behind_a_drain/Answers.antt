@@ -1,4 +1,4 @@
-use Rattle.std.proofs.Common.{◌≡◌, Bool, true, false, [], ◌∷◌, length, inl, inr, refl, ap, ◌∙◌, arith}
+use Rattle.std.proofs.Common.{◌≡◌, true, false, [], ◌∷◌, inl, inr, refl}
 use Rattle.workers.specs.declared.collector.broom_answer.BroomAnswer.TheVariants as by
 use Rattle.laws.proofs.plays.turns.calls_behind_a_drain.Goals as goal
 
