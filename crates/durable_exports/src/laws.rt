@@ -128,7 +128,7 @@ pub fn calls()
     ensures tells { (m : Mount) (l : Layer) → IsMounted m l → TellsLosses m l.core }
     ensures quiet { (m : Mount) (l : Layer) → IsMounted m l → TellsNoFalseLoss m l.core }
     ensures whole { (m : Mount) (l : Layer) → IsMounted m l → MountsWhole m l.core }
-    ensures told_none { (f : Flash) (m : Mount) (l : Layer) (acked begun : List Update)
+    ensures no_loss { (f : Flash) (m : Mount) (l : Layer) (acked begun : List Update)
         → IsMounted m l → HasNoted f m → IsReadable f (device_in m) acked begun
         → IsUnharmed f (device_in m) → layer_losses l ≡ 0 }
     ensures unharmed { (out : CommandReport) (l : Layer) → IsCommandFor (sole 7) out l

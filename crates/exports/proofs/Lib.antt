@@ -1,2 +1,2 @@
-pub mod Dealing
-pub mod Told
+pub mod DealtSeats
+pub mod CodeMeanings

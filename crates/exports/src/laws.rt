@@ -170,7 +170,7 @@ pub fn calls_of_brooms()
 
 /// What a broom's drain has done: what a drain by this choice does, nothing at the queue, and of a block of the device alone.
 pub fn drains_of_brooms()
-    ensures told { (v : Volume) (b c : Broom) (a : Drain)
+    ensures by_choice { (v : Volume) (b c : Broom) (a : Drain)
         → Drains choice.Next v b a c → NextTold b a c }
     ensures queue { (v : Volume) (b c : Broom) (a : Drain)
         → Drains choice.Next v b a c → place_of c ≡ place_of b }

@@ -1,5 +1,5 @@
 use denote.Param.Send.{IsSend, owning_send, sendable}
-use Rattle.handles.proofs.Crossing.{kept_keyless}
+use Rattle.handles.proofs.SendableValues.{kept_keyless}
 use Rattle.durable_exports.specs.contracts.seat.Seat as seats
 use Rattle.durable_exports.specs.contracts.slot.Slot.{the_row, the_type}
 use Rattle.durable_exports.proofs.seat.Seat.TheSendSync.{the_send}

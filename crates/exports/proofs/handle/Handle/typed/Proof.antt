@@ -1,10 +1,9 @@
 -- `typed` lends the handle at its type, which owns the same two words and the same seat.
-use Rattle.handles.proofs.Lending.{[], ◌∷◌, refl, proved, named, vptr, id⊢, ftrue, flft, tables, ‵, ◌⊛◌, at_ret, ◌$◌, ◌∵◌, !, qed}
-use Rattle.handles.proofs.Lending.{done, move, keep, use2, split, split3, join, fjoin, await, pick, suffices, frame, stop, addr, of_opd, enter, first, blocks}
-use Rattle.handles.proofs.Lending.{exec, returns, alloc_all, pass_all, free_all, look_at, get, through, sets, sets_last, env, no, follows}
+use Rattle.handles.proofs.LentReferences.{[], ◌∷◌, refl, proved, named, vptr, id⊢, ftrue, flft, tables, ‵, ◌⊛◌, at_ret, ◌$◌, ◌∵◌, !, qed, done, move, keep}
+use Rattle.handles.proofs.LentReferences.{use2, split, split3, join, fjoin, await, pick, suffices, frame, stop, addr, of_opd, enter, first, blocks, exec}
+use Rattle.handles.proofs.LentReferences.{returns, alloc_all, pass_all, free_all, look_at, get, through, sets, sets_last, env, no, MutRef, mut_vals, mut_Tells}
+use Rattle.handles.proofs.LentReferences.{plain, mut_ref_to, nothing, Stays, walk_of, says, stay_dropped, Goes-spent_ref, ends_at, after, lent, lends_as}
 use denote.Memory.{part_of}
-use Rattle.handles.proofs.Lending.{MutRef, mut_vals, mut_Tells, plain, mut_ref_to, nothing, Stays, walk_of, says, stay_dropped, Goes-spent_ref}
-use Rattle.handles.proofs.Lending.{ends_at, after, lent, lends_as}
 use Rattle.handles.specs.contracts.handle.Handle as typed
 use Rattle.exports.specs.Handles.{typed_of, handle_of}
 use Rattle.exports.specs.contracts.handle.seat.Seat as seats

@@ -1,4 +1,4 @@
-use Rattle.exports.proofs.Dealing.{AreClosedTo}
+use Rattle.exports.proofs.DealtSeats.{AreClosedTo}
 use Rattle.exports.proofs.shared.opening.are_closed.Given as goal
 
 abbrev pub invariant-loop-handle : goal.invariant-loop-handle

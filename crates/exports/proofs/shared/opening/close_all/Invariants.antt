@@ -1,5 +1,5 @@
 use Rattle.std.proofs.Common.{◌≡◌, length}
-use Rattle.exports.proofs.Dealing.{AreClosedTo}
+use Rattle.exports.proofs.DealtSeats.{AreClosedTo}
 use Rattle.exports.proofs.shared.opening.close_all.Given as goal
 
 abbrev pub invariant-loop-handle : goal.invariant-loop-handle

@@ -1,6 +1,6 @@
 use Rattle.std.proofs.Common.{◌∙◌, ap, refl}
 use Rattle.exports.specs.Shared.{numbers_of}
-use Rattle.exports.proofs.Dealing.{now_fresh}
+use Rattle.exports.proofs.DealtSeats.{now_fresh}
 use Rattle.exports.proofs.shared.opening.deal.Goals as goal
 
 pub returns-clause-fresh : goal.returns-clause-fresh

@@ -1,7 +1,7 @@
 use Rattle.std.proofs.Common.{◌≡◌, ◌∙◌, ap, arith, length, refl, subst}
 use Rattle.geometry.specs.Limits.{Numbers, numbers}
 use Rattle.exports.specs.Opening.{AreFresh}
-use Rattle.exports.proofs.Dealing.{uncapped}
+use Rattle.exports.proofs.DealtSeats.{uncapped}
 use Rattle.exports.proofs.shared.opening.mintlintel_shared_open.Goals as goal
 
 pub returns-then-deal-clause-fresh : goal.returns-then-deal-clause-fresh

@@ -2,7 +2,7 @@ use Rattle.std.proofs.Common.{length}
 use Rattle.std.specs.Arc.{arc_value}
 use Rattle.volume.specs.Brooms.{IsBroomReady}
 use Rattle.exports.specs.Opening.{IsFirstBroom, IsFreshBroom}
-use Rattle.exports.proofs.Dealing.{DealsOn}
+use Rattle.exports.proofs.DealtSeats.{DealsOn}
 use Rattle.exports.proofs.shared.opening.seat_brooms.Given as goal
 
 abbrev pub invariant-loop-broom : goal.invariant-loop-broom

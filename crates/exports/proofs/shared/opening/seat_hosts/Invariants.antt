@@ -3,7 +3,7 @@ use Rattle.std.specs.Arc.{arc_value}
 use Rattle.host.specs.Ready.{IsReady}
 use Rattle.volume.specs.Volume.{flash_of}
 use Rattle.exports.specs.Opening.{IsFirstPass, IsFreshHost}
-use Rattle.exports.proofs.Dealing.{DealsOn}
+use Rattle.exports.proofs.DealtSeats.{DealsOn}
 use Rattle.exports.proofs.shared.opening.seat_hosts.Given as goal
 
 abbrev pub invariant-loop-pass : goal.invariant-loop-pass

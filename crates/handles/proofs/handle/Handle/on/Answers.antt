@@ -1,5 +1,5 @@
 use Rattle.std.proofs.Common.{refl}
-use Rattle.handles.proofs.Told.{on_alone}
+use Rattle.handles.proofs.LentValues.{on_alone}
 use Rattle.handles.proofs.handle.Handle.on.Goals as goal
 
 pub returns : goal.returns

@@ -1,5 +1,5 @@
 use Rattle.std.proofs.Common.{refl}
-use Rattle.handles.proofs.Told.{on_lent}
+use Rattle.handles.proofs.LentValues.{on_lent}
 use Rattle.handles.proofs.handle.Handle.on_page.Goals as goal
 
 pub returns : goal.returns

@@ -15,7 +15,7 @@ use denote.Param.{param, layouts}
 use denote.RawPtr.{null_ptr}
 use denote.Steps.{nothing}
 use denote.Triple.Walked.{walk_of, says, ends_at}
-use Rattle.handles.proofs.Rows.{word, word_typed, makes}
+use Rattle.handles.proofs.HandleRows.{word, word_typed, makes}
 use Rattle.handles.specs.contracts.slot.Slot.empty as f
 use Rattle.handles.proofs.slot.Slot.empty.Statement.{statement}
 use Rattle.handles.proofs.slot.Slot.empty.Code as code

@@ -39,7 +39,7 @@ use Rattle.std_alloc.proofs.boxed.Box.into_raw.Met.{met}
 use Rattle.std_heap.proofs.GlobalAllocator.TheImpl.Met.{passed}
 use Rattle.std_heap.specs.contracts.GlobalAllocator.TheImpl.{ghosts, dict}
 use Rattle.handles.specs.Kept.{heap}
-use Rattle.handles.proofs.Rows.{Boxed, Boxed-laws, Heap, Heap-arg, Heap-arg-laws, word, word_typed, makes, heap_drop}
+use Rattle.handles.proofs.HandleRows.{Boxed, Boxed-laws, Heap, Heap-arg, Heap-arg-laws, word, word_typed, makes, heap_drop}
 use Rattle.handles.proofs.Destruct++none.drop.Code as nothing_dropped
 use Rattle.handles.specs.contracts.slot.Slot.filled as f
 use Rattle.handles.proofs.slot.Slot.filled.Statement.{statement}

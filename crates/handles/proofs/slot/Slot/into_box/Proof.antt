@@ -39,7 +39,7 @@ use Rattle.std_heap.proofs.Handle.{heap_val, heap_Tells}
 use Rattle.std_heap.proofs.GlobalAllocator.TheImpl.Met.{passed}
 use Rattle.std_heap.specs.contracts.GlobalAllocator.TheImpl.{ghosts, dict}
 use Rattle.handles.specs.Kept.{heap, kept}
-use Rattle.handles.proofs.Rows.{Boxed, Boxed-laws, Slot, Heap, Heap-arg, Heap-arg-laws, word, word_typed, the_value, heap_drop}
+use Rattle.handles.proofs.HandleRows.{Boxed, Boxed-laws, Slot, Heap, Heap-arg, Heap-arg-laws, word, word_typed, the_value, heap_drop}
 use Rattle.handles.proofs.slot.Slot.TheLaws as laws
 use Rattle.handles.proofs.Destruct++none.drop.Code as nothing_dropped
 use Rattle.handles.specs.contracts.slot.Slot.into_box as f

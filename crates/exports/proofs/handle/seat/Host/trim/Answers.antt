@@ -2,7 +2,7 @@ use Rattle.std.proofs.Common.{◌∙◌, ap, sym, subst}
 use Rattle.geometry.specs.declared.answer.Was.{Was}
 use Rattle.geometry.specs.History as call
 use Rattle.flash_table.specs.Steps.{HasCalled}
-use Rattle.exports.proofs.Told.{was_back}
+use Rattle.exports.proofs.CodeMeanings.{was_back}
 use Rattle.exports.specs.Codes.{was_by}
 use Rattle.exports.specs.Shared.{HasTrimmed}
 use Rattle.exports.proofs.handle.seat.Host.trim.Goals as goal

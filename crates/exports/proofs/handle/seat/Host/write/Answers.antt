@@ -4,7 +4,7 @@ use Rattle.flash_table.specs.Flash.{view_of}
 use Rattle.host.specs.Told.{Wrote}
 use Rattle.volume.specs.Correct.{Does, Replaced, Write}
 use Rattle.volume.specs.declared.volume.Volume.{Volume}
-use Rattle.exports.proofs.Told.{was_back}
+use Rattle.exports.proofs.CodeMeanings.{was_back}
 use Rattle.exports.specs.Codes.{was_by}
 use Rattle.exports.specs.Shared.{HasWritten, IsStep, host_volume}
 use Rattle.exports.proofs.handle.seat.Host.write.Goals as goal

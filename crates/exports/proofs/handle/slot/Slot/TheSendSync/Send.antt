@@ -1,5 +1,5 @@
 use denote.Param.Send.{IsSend, owning_send, sendable}
-use Rattle.handles.proofs.Crossing.{kept_keyless}
+use Rattle.handles.proofs.SendableValues.{kept_keyless}
 use Rattle.exports.specs.contracts.handle.seat.Seat as seats
 use Rattle.exports.specs.contracts.handle.slot.Slot.{the_row, the_type}
 use Rattle.exports.proofs.handle.seat.Seat.TheSendSync.{the_send}
