@@ -1,7 +1,7 @@
 -- A text that goes out piece by piece.
 use Rattle.std.proofs.Common.{◌≡◌, ◌≢◌, ℕ, List, [], ◌++◌, Option, None, Some, refl, subst, sym, ap, ◌∙◌, append_assoc, append-nil, take, drop}
-use Rattle.std.specs.Prelude.{Result, Ok, Err, IsErr, OnErr, OnOk}
-use Rattle.std.{specs.Io.KnownBytes.Appends, specs.Io.KnownBytes.Keeps, proofs.lemmas.List.take-append-drop}
+use Rattle.std.specs.Prelude.{Result, Ok, Err, IsErr, OnErr}
+use Rattle.std.{specs.Io.KnownBytes.Appends, proofs.lemmas.List.take-append-drop}
 use Rattle.geometry.{specs.History.Begins, proofs.Histories.Begins-refl}
 use Rattle.answers.specs.{Delivery.AppendsBeginning, Delivery.IsUnderWay, Streams.Stream, Streams.WritesOut, declared.delivery.OutputFailed.OutputFailed}
 
@@ -14,12 +14,6 @@ Appends-append None b c xs ys p q = tt
 Appends-append (Some known) None c xs ys p q = absurd p
 Appends-append (Some known) (Some grown) None xs ys p q = absurd q
 Appends-append (Some known) (Some grown) (Some last) xs ys p q = q ∙ (ap (λ front. front ++ ys) p ∙ append_assoc known xs ys)
-
-pub Appends-kept : (a b c : Option (List ℕ)) (xs : List ℕ) → Appends a b xs → Keeps b c → Appends a c xs
-Appends-kept None b c xs p q = tt
-Appends-kept (Some known) None c xs p q = absurd p
-Appends-kept (Some known) (Some grown) None xs p q = absurd q
-Appends-kept (Some known) (Some grown) (Some last) xs p q = q ∙ p
 
 -- nothing is out yet
 pub IsUnderWay-start : (known : Option (List ℕ)) (text : List ℕ) → IsUnderWay known known text text
@@ -57,12 +51,6 @@ Appends-whole old new text u =
     let e : u.sent ≡ text = sym (append-nil u.sent) ∙ u.whole in
     subst (Appends old new) e u.out
 
--- what is out is a beginning
-pub AppendsBeginning-so_far : (old new newer : Option (List ℕ)) (waiting text : List ℕ) → IsUnderWay old new waiting text → Keeps new newer
-    → AppendsBeginning old newer text
-AppendsBeginning-so_far old new newer waiting text u kept =
-    record { sent = u.sent; out = Appends-kept old new newer u.sent u.out kept; beginning = (waiting, u.whole) }
-
 -- and so is what is out when a piece of what waits went out
 pub AppendsBeginning-part : (old new newer : Option (List ℕ)) (waiting text whole : List ℕ) → IsUnderWay old new waiting text
     → AppendsBeginning new newer waiting → Begins text whole → AppendsBeginning old newer whole
@@ -88,22 +76,10 @@ IsUnderWay-trans a b c later waiting text u v =
       whole = append_assoc u.sent v.sent later ∙ (ap (λ rest. u.sent ++ rest) v.whole ∙ u.whole);
     }
 
-pub IsUnderWay-all : (old new : Option (List ℕ)) (waiting later : List ℕ) → later ≡ [] → Appends old new waiting → IsUnderWay old new later waiting
-IsUnderWay-all old new waiting later none out =
-    subst (λ l. IsUnderWay old new l waiting) (sym none) (record { sent = waiting; out = out; whole = append-nil waiting })
-
 -- an `Err` is what is claimed of one
 pub OnErr-any : {T E : Type 0} (P : Type 0) (r : Result T E) → P → OnErr r P
 OnErr-any P (Ok x) p = tt
 OnErr-any P (Err e) p = p
-
-pub OnErr-map : {T E : Type 0} (P Q : Type 0) (r : Result T E) → (P → Q) → OnErr r P → OnErr r Q
-OnErr-map P Q (Ok x) f p = tt
-OnErr-map P Q (Err e) f p = f p
-
-pub OnOk-map : {T E : Type 0} (P Q : Type 0) (r : Result T E) → (P → Q) → OnOk r P → OnOk r Q
-OnOk-map P Q (Ok x) f p = f p
-OnOk-map P Q (Err e) f p = tt
 
 -- a text whose last bytes waited is written as these are
 pub WritesOut-rest : (text waiting : List ℕ) (old mid new : Stream) (r : Result (Unit {0}) OutputFailed) → mid.failures ≡ old.failures

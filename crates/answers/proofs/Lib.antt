@@ -1,5 +1,4 @@
 pub mod Deliveries
 pub mod Playable
-pub mod Readings
 pub mod Texts
 pub mod Waiting

@@ -191,24 +191,6 @@ module _ (f : Flash) (s : BroomSeat) (o : OpenBlock) (is : (own_blocks s).destin
         work = inl refl;
       }
 
-  pub left_sweeps : (x : ReclaimedBlock) → ¬ (o.written ≡ pages_of (geometry_of f)) → IsSweeping f (pages_of (geometry_of f) + 1) s x → Sweeps f s x
-  left_sweeps x left g =
-      record {
-        seat = g.seat;
-        draining = g.draining;
-        low = g.low;
-        short = g.short;
-        young = g.young;
-        destination = λ p there.
-            let r = g.destination p there in
-            let room = r.room in
-            let same : o.written ≡ p.written = ap (λ (y : OpenBlock). y.written) (some_same o p (sym is ∙ there)) in
-            record { low = r.low; room = omega arith; young = r.young };
-        spare = g.spare;
-        filed = g.filed;
-        callers = g.callers;
-      }
-
 -- ---- one page of the victim
 pub dead_cleared : (pages : ℕ) (v w : View) (x y : BroomBlocks) (page : MapWord) → FoundDead v page w → y ≡ x → Cleared pages v x page 0 w y
 dead_cleared pages v w x y page dead same =

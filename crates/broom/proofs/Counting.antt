@@ -1,9 +1,9 @@
 -- The second part of a survey: the sectors are looked at, one after the other, and the live pages of each block are counted.
-use Rattle.std.proofs.Common.{◌≡◌, ◌≢◌, ℕ, zero, suc, ◌+◌, ◌<◌, ◌≤◌, eq-eqb, ne_eqb, false, true, cond, All, List, [], ◌∷◌, ◌++◌, length, map, Option, None}
+use Rattle.std.proofs.Common.{◌≡◌, ◌≢◌, ℕ, zero, suc, ◌+◌, ◌<◌, eq-eqb, ne_eqb, false, true, cond, All, List, [], ◌∷◌, ◌++◌, length, map, Option, None}
 use Rattle.std.proofs.Common.{Some, IfSome, sym, refl, ap, ◌∙◌, subst, arith, append_assoc, append-nil, length-append, set, get_or, replicate, get_or-set_same}
 use Rattle.std.proofs.Common.{get_or-set_other}
 use Rattle.std.specs.List.{enumerate_from, count_by}
-use Rattle.std.proofs.lemmas.List.{map-append, length-map, get_or-map, get_or_past, Sums.sum_by_push, Sums.count_by-le-length}
+use Rattle.std.proofs.lemmas.List.{map-append, length-map, get_or-map, get_or_past, Sums.sum_by_push}
 use Rattle.std.proofs.lemmas.List.{Elements.All-nil, Elements.All-push, FromFn.fill_by_all}
 use mathlib.Core.Logic.{dite}
 use native.Mathlib.Decide.{ℕ_discrete}
@@ -72,10 +72,6 @@ counts_live states pages counts m h same within b low =
 
 pub counts_all : (x : Survey) (counts : List ℕ) → length counts ≡ length x.states → Counts x.states x.pages counts → counts ≡ counts_of x
 counts_all x counts long h = fill_by_all (live_pages x) counts (length x.states) 0 long h
-
-pub counts_few : (states : List PinWord) (pages : List (Option MapWord)) (counts : List ℕ) (b : ℕ) → Counts states pages counts → b < length states
-    → get_or counts b 0 ≤ length pages
-counts_few states pages counts b h low = let most = count_by-le-length (lies_in b (generation_in states b)) pages in let is = h b low in omega arith
 
 -- ---- one sector more is looked at
 -- All sectors below this one were looked at in order, with these pages found, and nothing else has changed. So many of them lie in each block

@@ -1,10 +1,10 @@
 -- A drain as a whole: the survey, the claim, the relocation and the last step.
-use Rattle.std.proofs.Common.{◌≡◌, ℕ, ◌+◌, ◌<◌, ◌≤◌, true, false, List, [], ◌∷◌, ◌++◌, length, Option, None, Some, is_some, sym, refl, ap, ◌∙◌, subst, arith}
+use Rattle.std.proofs.Common.{◌≡◌, ℕ, ◌+◌, ◌<◌, false, List, [], ◌∷◌, ◌++◌, length, Option, None, sym, refl, ap, ◌∙◌, subst, arith}
 use Rattle.std.proofs.Common.{append-nil, append_assoc, get_or, set}
 use Rattle.std.proofs.lemmas.List.{get_or-map}
-use Rattle.geometry.specs.{Geometry.blocks_of, Geometry.pages_of, PinWords.FitsPin, PinWords.pin_word}
+use Rattle.geometry.specs.{Geometry.blocks_of, Geometry.pages_of, PinWords.pin_word}
 use Rattle.geometry.specs.{Greedy.IsClosed, Limits.Numbers, History.Begins, History.Call}
-use Rattle.geometry.specs.declared.pin_word.{Phase.TheVariants.Closed, Phase.TheVariants.Drained, PinWord.PinWord}
+use Rattle.geometry.specs.declared.pin_word.{Phase.TheVariants.Drained, PinWord.PinWord}
 use Rattle.geometry.proofs.Histories.{Begins-trans}
 use Rattle.flash_rule.specs.declared.{facts.Cycle.Cycle, facts.Owned.Owned, facts.Source.Source, view.View.View}
 use Rattle.flash_rule.specs.{Views.AreOfHosts, BroomPlays.IsLastLoaded}
@@ -12,13 +12,13 @@ use Rattle.flash_table.specs.{declared.flash.Flash.Flash, declared.pass.OpenBloc
 use Rattle.flash_table.specs.declared.broom_seat.{BroomBlocks.BroomBlocks, BroomSeat.BroomSeat, ReclaimedBlock.ReclaimedBlock}
 use Rattle.flash_table.specs.declared.broom_seat.Reclaiming.TheVariants.{Nothing, Draining}
 use Rattle.flash_table.specs.Flash.{IsBroomOf, broom_view, own_blocks, geometry_of, device}
-use Rattle.broom.specs.declared.{broom.Broom.Broom, answer.Drain.Drain, ranking.Ranking.Ranking}
-use Rattle.broom.specs.{Handing.HandsNothing, Handing.place_of, Handing.aside_of, Surveying.Chosen, Survey.generation_in, Survey.written_in, Survey.looks_of}
+use Rattle.broom.specs.declared.{broom.Broom.Broom, answer.Drain.Drain}
+use Rattle.broom.specs.{Surveying.Chosen, Survey.generation_in, Survey.written_in, Survey.looks_of}
 use Rattle.broom.specs.Emptying.{Emptied, HasEmptied, filled_by, given_up, looks_in}
-use Rattle.broom.specs.Ready.{IsRested, IsReady, IsMarked, view_of_broom, blocks_of_broom, marks_of}
-use Rattle.broom.specs.Told.{Surveyed, DidDrain, DrainTold, LostClaim, DidDrainAgain, LostAgain, IsNext, MarkedTold, NextTold, Unmarks, SurveyLeft}
-use Rattle.broom.specs.Told.{HasOnlyRanked, GainsNothingNext, states_kept, counts_kept, victim_in, block_in}
-use Rattle.broom.specs.Relocating.{Sweeps, Relocated, room_in, room_left}
+use Rattle.broom.specs.Ready.{IsRested, IsReady, IsMarked, view_of_broom, blocks_of_broom}
+use Rattle.broom.specs.Told.{Surveyed, DidDrain, DrainTold, LostClaim, DidDrainAgain, LostAgain, MarkedTold, Unmarks, SurveyLeft}
+use Rattle.broom.specs.Told.{victim_in, block_in}
+use Rattle.broom.specs.Relocating.{Sweeps, Relocated}
 use Rattle.broom.proofs.{Marking.last_of-loaded, Counting.generation_at, Choosing.closed_low, Emptying.emptied_same}
 use Rattle.broom.specs.declared.answer.Drain.TheVariants as drain
 
@@ -37,9 +37,6 @@ module _ (f : Flash) (r : Broom) (b : ℕ) (ready : IsReady f r) (marked : IsClo
     -- the state of the victim as loaded last
     mark : IsMarked (device f) (view_of_broom r) b q
     mark = subst (IsMarked (device f) (view_of_broom r) b) (sym is) (ready.marks b q marked)
-
-    pub state_closed : FitsPin q × (q.phase ≡ Closed)
-    state_closed = (mark.range.fits, mark.closed)
 
     pub last_loaded : IsLastLoaded (view_of_broom r) b (pin_word q)
     last_loaded = last_of-loaded b (pin_word q) (view_of_broom r) mark.last
@@ -74,18 +71,6 @@ module _ (f : Flash) (r : Broom) (b : ℕ) (ready : IsReady f r) (marked : IsClo
                 let k = h.filed w (sym (ap (λ (y : View). y.work) claimed) ∙ is) in (k.0, ap (λ (y : BroomBlocks). y.destination) blocks ∙ k.1, k.2, k.3);
             callers = subst (λ (y : View). AreOfHosts y.numbers y.seen) (sym claimed) h.callers;
           }
-
-      pub claimed_room : is_some (own_blocks r.seat).spare ≡ true → q.written ≤ room_left (pages_of (geometry_of f)) (own_blocks t)
-      claimed_room some =
-          let range = mark.range in
-          let short = range.within in
-          let spare = some_block (own_blocks r.seat).spare some in
-          let empty = (ready.rested.spare spare.0 spare.1).room in
-          let full : room_in (pages_of (geometry_of f)) (own_blocks t).spare ≡ pages_of (geometry_of f) =
-          ap (room_in (pages_of (geometry_of f))) (ap (λ (y : BroomBlocks). y.spare) blocks ∙ spare.1) ∙ (omega arith) in omega arith where
-            some_block : (o : Option OpenBlock) → is_some o ≡ true → (p : OpenBlock) × (o ≡ Some p)
-            some_block None e = absurd (cc)
-            some_block (Some p) e = (p, refl)
 
       -- ---- the drain ends
       module _ (u w : BroomSeat) (copied : ℕ) (went : Relocated (broom_view t) copied (broom_view u)) (bare : (broom_view u).source ≡ None)
@@ -392,44 +377,3 @@ drain_left before r after b drain.Lost chosen same told marks = (
   },
 )
 drain_left before r after b drain.QueueFull chosen same told marks = absurd told
-
--- what a drain of the next block tells
-pub next_told : (before after : Broom) (b : ℕ) (answer : Drain) → IsNext before b → MarkedTold before b answer after → Unmarks before b after
-    → NextTold before answer after
-next_told before after b (drain.Drained block copied) next told marks = (
-  subst (IsNext before) (sym told.0) next,
-  subst (λ k. DidDrainAgain (view_of_broom before) (blocks_of_broom before) before.states.items k copied (view_of_broom after)
-      (blocks_of_broom after)) (sym told.0) told.1,
-  subst (λ k. Unmarks before k after) (sym told.0) marks,
-)
-next_told before after b drain.NothingToGain next told marks = absurd told
-next_told before after b drain.NoSpare next told marks = absurd told
-next_told before after b drain.Lost next told marks = (b, next, told.0, told.1, marks)
-next_told before after b drain.QueueFull next told marks = absurd told
-
--- ---- a drain of the next block, which ranks the blocks first where the survey is new
-marked_ranked : (before after : Broom) (ranking : Ranking) (b : ℕ) (answer : Drain) → MarkedTold (record before { ranking = ranking }) b answer after
-    → MarkedTold before b answer after
-marked_ranked before after ranking b (drain.Drained block copied) told = told
-marked_ranked before after ranking b drain.NothingToGain told = told
-marked_ranked before after ranking b drain.NoSpare told = told
-marked_ranked before after ranking b drain.Lost told = told
-marked_ranked before after ranking b drain.QueueFull told = told
-
-pub next_ranked : (before r after : Broom) (b : ℕ) (answer : Drain) → HasOnlyRanked before r → IsNext before b → MarkedTold r b answer after
-    → Unmarks r b after → NextTold before answer after
-next_ranked before r after b answer rest next told marks =
-    let same = marked_ranked before after r.ranking b answer (subst (λ (x : Broom). MarkedTold x b answer after) rest told) in
-    next_told before after b answer next same
-    (record {
-      states = marks.states ∙ ap states_kept rest;
-      counts = marks.counts ∙ ap counts_kept rest;
-      marks = marks.marks ∙ ap (λ (x : Broom). set (marks_of x) b false) rest;
-    })
-
-pub none_ranked : (before r : Broom) → HasOnlyRanked before r → GainsNothingNext before → NextTold before drain.NothingToGain r
-none_ranked before r rest none =
-    (none, ap view_of_broom rest, ap blocks_of_broom rest, record { states = ap states_kept rest; counts = ap counts_kept rest; marks = ap marks_of rest })
-
-pub handed_ranked : (before r after : Broom) → HasOnlyRanked before r → HandsNothing r after → HandsNothing before after
-handed_ranked before r after rest h = record { place = h.place ∙ ap place_of rest; aside = h.aside ∙ ap aside_of rest }

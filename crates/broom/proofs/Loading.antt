@@ -1,8 +1,8 @@
 -- The first part of a survey: the states of the blocks are loaded, one after the other.
 use Rattle.std.proofs.Common.{◌≡◌, ℕ, zero, suc, ◌⊎◌, ⊎_elim, inl, inr, ◌+◌, ◌<◌, ◌≤◌, All, List, [], ◌∷◌, ◌++◌, Bool, length, map, Option, None, Some}
-use Rattle.std.proofs.Common.{slice_get, sym, refl, ap, ◌∙◌, subst, arith, append_assoc, append-nil, take, set, get_or}
+use Rattle.std.proofs.Common.{slice_get, sym, refl, ap, ◌∙◌, subst, arith, append_assoc, take, set, get_or}
 use Rattle.std.specs.List.{enumerate_from}
-use Rattle.std.proofs.lemmas.List.{map-append, take_all, take_more_set, length-take-le, length-map, Elements.All-nil, Elements.All-push}
+use Rattle.std.proofs.lemmas.List.{map-append, take_more_set, length-take-le, length-map, Elements.All-push}
 use mathlib.Core.Logic.{dite}
 use native.Mathlib.Decide.{ℕ_discrete}
 use Rattle.geometry.specs.{PinWords.pin_word, declared.pin_word.Phase.Phase, declared.pin_word.PinWord.PinWord}
@@ -10,7 +10,7 @@ use Rattle.geometry.specs.declared.pin_word.Phase.TheVariants.{Free, Open, Close
 use Rattle.flash_rule.specs.{declared.view.View.View, BroomPlays.Loaded}
 use Rattle.flash_table.specs.declared.{flash.Flash.Flash, broom_seat.BroomBlocks.BroomBlocks, broom_seat.BroomSeat.BroomSeat}
 use Rattle.flash_table.specs.Flash.{IsBroomOf, broom_view, own_blocks, device}
-use Rattle.broom.specs.{Survey.loads_of, Survey.is_closed, Survey.closed_of, Ready.IsInRange, Surveying.StatesLoaded}
+use Rattle.broom.specs.{Survey.loads_of, Survey.is_closed, Survey.closed_of, Ready.IsInRange}
 
 -- ---- numbered lists
 pub enumerate_more : {X : Type 0} (k n : ℕ) (xs : List X) (x : X) → length xs ≡ n → enumerate_from k (xs ++ x ∷ []) ≡ enumerate_from k xs ++ (k + n, x) ∷ []
@@ -83,17 +83,6 @@ pub record LoadedTo (f : Flash) (v : View) (x : BroomBlocks) (b : ℕ) (s : Broo
   pub ranges : All (IsInRange (device f)) (take b states)
   pub marked : take b closed ≡ closed_of (take b states)
 
-pub loaded_none : (f : Flash) (s : BroomSeat) (states : List PinWord) (closed : List Bool) → IsBroomOf f s
-    → LoadedTo f (broom_view s) (own_blocks s) 0 s states closed
-loaded_none f s states closed seat =
-    record {
-      seat = seat;
-      blocks = refl;
-      changed = λ i. record (broom_view s) { loaded = sym (append-nil (broom_view s).loaded) i };
-      ranges = All-nil (IsInRange (device f));
-      marked = refl;
-    }
-
 pub loaded_more : (f : Flash) (v : View) (x : BroomBlocks) (b : ℕ) (s t : BroomSeat) (states : List PinWord) (closed : List Bool) (p : PinWord)
     → LoadedTo f v x b s states closed → b < length states → b < length closed → IsBroomOf f t → own_blocks t ≡ own_blocks s → IsInRange (device f) p
     → Loaded (broom_view s) b (pin_word p) (broom_view t)
@@ -117,15 +106,4 @@ loaded_more f v x b s t states closed p h low low' seat blocks range told =
       marked = take_more_set closed b (is_closed p.phase) low'
           ∙ (ap (λ l. l ++ is_closed p.phase ∷ []) h.marked
           ∙ (sym (map-append (λ (y : PinWord). is_closed y.phase) (take b states) (p ∷ [])) ∙ ap closed_of (sym now)));
-    }
-
-pub loaded_all : (f : Flash) (v : View) (x : BroomBlocks) (b : ℕ) (s : BroomSeat) (states : List PinWord) (closed : List Bool)
-    → LoadedTo f v x b s states closed → length states ≡ b → length closed ≡ b → StatesLoaded (device f) v states closed (broom_view s)
-loaded_all f v x b s states closed h long long' =
-    let all : take b states ≡ states = take_all b states (omega arith) in
-    let marks : take b closed ≡ closed = take_all b closed (omega arith) in
-    record {
-      changed = h.changed ∙ (λ i. record v { loaded = v.loaded ++ loads_of (all i); busy = (broom_view s).busy; stale = (broom_view s).stale });
-      ranges = subst (All (IsInRange (device f))) all h.ranges;
-      marked = sym marks ∙ (h.marked ∙ ap closed_of all);
     }

@@ -1,8 +1,8 @@
 -- The marks of a broom: what it loaded last of each block, and which steps leave the marks true.
 use Rattle.std.proofs.Common.{◌≡◌, ℕ, zero, suc, ◌<◌, ◌==◌, Bool, true, false, List, [], ◌∷◌, ◌++◌, length, map, Option, None, Some, slice_get, sym, refl, ap}
-use Rattle.std.proofs.Common.{◌∙◌, subst, arith, append_assoc, set, get_or, replicate}
+use Rattle.std.proofs.Common.{◌∙◌, subst, arith, append_assoc, set, get_or}
 use Rattle.std.proofs.lemmas.Option.{get_or_from_slice_get, slice_get-get_or, slice_get_read}
-use Rattle.std.proofs.lemmas.List.{get_or-map, length-map, get_or-set_same, get_or-set_other, get_or-replicate, length-replicate}
+use Rattle.std.proofs.lemmas.List.{get_or-map, length-map, get_or-set_same, get_or-set_other}
 use mathlib.Core.Logic.{dite}
 use native.Mathlib.Decide.{ℕ_discrete}
 use Rattle.geometry.specs.{Greedy.IsClosed, Limits.Numbers, PinWords.FitsPin, PinWords.pin_word}
@@ -12,11 +12,6 @@ use Rattle.geometry.specs.declared.pin_word.Phase.TheVariants.{Free, Open, Close
 use Rattle.flash_rule.specs.{declared.view.View.View, BroomPlays.IsLastLoaded}
 use Rattle.broom.specs.{Survey.is_closed, Survey.closed_of, Survey.loads_of, Ready.last_of, Ready.unless_later, Ready.AreMarked, Surveying.StatesLoaded}
 use Rattle.broom.proofs.{Loading.StandsOnce, Loading.enumerate_once, Choosing.closed_low}
-
--- ---- the word loaded last
-unless_other : (word : ℕ) (o : Option ℕ) → unless_later false word o ≡ o
-unless_other word None = refl
-unless_other word (Some n) = refl
 
 not_same : (c b : ℕ) → ¬ (c ≡ b) → (c == b) ≡ false
 not_same c b other = grind arith
@@ -138,17 +133,6 @@ pub marks_after : (z : Numbers) (states : List PinWord) (v w : View) (marks : Li
 marks_after z states v w marks b n low more were =
     marks_loaded z states v w (set marks b false) b n more (unmarked marks b low)
     (marks_kept z states v v marks (set marks b false) refl (still_marked marks b low) were)
-
--- where there are no marks they are all true
-pub no_marks : (n k : ℕ) → ¬ (IsClosed (replicate n false) k)
-no_marks n k is =
-    let low = closed_low (replicate n false) k is in
-    let long = length-replicate n false in
-    let e = get_or-replicate n k false false (omega arith) in
-    let both : false ≡ true = sym e ∙ is in absurd (cc)
-
-pub none_marked : (z : Numbers) (v : View) (states : List PinWord) (n : ℕ) → AreMarked z v states (replicate n false)
-none_marked z v states n k d is = absurd (no_marks n k is)
 
 -- the same state of a block as the one that is kept may be loaded again
 pub marks_reloaded : (z : Numbers) (states : List PinWord) (v w : View) (marks : List Bool) (b : ℕ) (p : PinWord) → slice_get states b ≡ Some p

@@ -1,10 +1,10 @@
 -- The order in which the blocks of a survey are drained: how it is made, and that its first marked block is the greedy one.
-use Rattle.std.proofs.Common.{◌≡◌, ℕ, ◌+◌, ◌%◌, ◌<◌, ◌≤◌, Bool, false, All, List, [], ◌∷◌, ◌++◌, length, None, Some, get_or, sym, ap, ◌∙◌, subst, arith}
-use Rattle.std.specs.{List.Contains, List.Sorted.IsPermutation, List.Sorted.IsNonDecreasing, Vec.vec_capacity}
-use Rattle.std.proofs.lemmas.{Bool.false≢true, List.Elements.All-nil, List.Elements.All-push, List.Elements.Contains-push, List.Elements.Contains-append_left}
-use Rattle.std.proofs.lemmas.List.{get_or_default, get_or_past, length_push, Sorted.All-permutation, Sorted.Contains-permutation}
+use Rattle.std.proofs.Common.{◌≡◌, ℕ, ◌%◌, ◌<◌, ◌≤◌, Bool, false, All, List, length, None, Some, get_or, sym, ap, ◌∙◌, subst, arith}
+use Rattle.std.specs.{List.Contains, List.Sorted.IsPermutation, List.Sorted.IsNonDecreasing}
+use Rattle.std.proofs.lemmas.{Bool.false≢true}
+use Rattle.std.proofs.lemmas.List.{get_or_default, get_or_past, Sorted.All-permutation, Sorted.Contains-permutation}
 use mathlib.Core.Logic.{dite}
-use native.Mathlib.Decide.{dec_lt, ℕ_discrete}
+use native.Mathlib.Decide.{dec_lt}
 use Rattle.geometry.specs.Greedy.{greedy_of, IsClosed, IsGreedy}
 use Rattle.geometry.proofs.Choosing.{greedy_of-best, greedy_of-none}
 use Rattle.broom.specs.declared.ranking.{Ranking.Ranking, TheConstants.ONE_PAGE}
@@ -14,53 +14,12 @@ use Rattle.broom.specs.Ranking.{key_of, IsKey, IsRanked, Ranks}
 marked_low : (marks : List Bool) (b : ℕ) → IsClosed marks b → b < length marks
 marked_low marks b is = dite (dec_lt b (length marks)) (λ below. below) (λ past. absurd (false≢true (sym (get_or_past marks b false (omega arith)) ∙ is)))
 
--- the number in a key
-pub number_in : (count block : ℕ) → block < ONE_PAGE → key_of count block % ONE_PAGE ≡ block
-number_in count block low = omega arith
-
-pub is_key : (counts : List ℕ) (block : ℕ) → block < length counts → length counts ≤ ONE_PAGE → IsKey counts (key_of (get_or counts block 0) block)
-is_key counts block low few =
-    let n = number_in (get_or counts block 0) block (omega arith) in
-    record { low = omega arith; is = ap (λ (b : ℕ). key_of (get_or counts b 0) b) (sym n) }
-
 -- ---- the ranking is made
 -- The keys of the marked blocks below this one
 pub record KeysTo (counts : List ℕ) (marks : List Bool) (block : ℕ) (keys : List ℕ) : Type 0 where
   pub each : All (IsKey counts) keys
   pub here : (b : ℕ) → b < block → IsClosed marks b → Contains keys (key_of (get_or counts b 0) b)
   pub short : length keys ≤ block
-
-pub keys_none : (counts : List ℕ) (marks : List Bool) (keys : List ℕ) → keys ≡ [] → KeysTo counts marks 0 keys
-keys_none counts marks keys none =
-    record {
-      each = subst (All (IsKey counts)) (sym none) (All-nil (IsKey counts));
-      here = λ b low is. absurd (omega arith);
-      short = let e = ap (length {A = ℕ}) none in omega arith;
-    }
-
-pub keys_more : (counts : List ℕ) (marks : List Bool) (block key : ℕ) (keys after : List ℕ) → block < length counts → length counts ≤ ONE_PAGE
-    → key ≡ key_of (get_or counts block 0) block → after ≡ keys ++ key ∷ []
-    → KeysTo counts marks block keys → KeysTo counts marks (block + 1) after
-keys_more counts marks block key keys after low few is pushed h =
-    let one : IsKey counts key = subst (IsKey counts) (sym is) (is_key counts block low few) in
-    let P : List ℕ → Type 0 = λ l. KeysTo counts marks (block + 1) l in
-    subst P (sym pushed) (record {
-      each = All-push (IsKey counts) keys key h.each one;
-      here = λ b below shut.
-          dite (ℕ_discrete b block)
-          (λ same. subst (λ (k : ℕ). Contains (keys ++ key ∷ []) k) (is ∙ ap (λ (c : ℕ). key_of (get_or counts c 0) c) (sym same)) (Contains-push keys key))
-          (λ other. Contains-append_left keys (key ∷ []) _ (h.here b (omega arith) shut));
-      short = let long = length_push keys key in let s = h.short in omega arith;
-    })
-
-pub keys_same : (counts : List ℕ) (marks : List Bool) (block : ℕ) (keys : List ℕ) → ¬ (IsClosed marks block) → KeysTo counts marks block keys
-    → KeysTo counts marks (block + 1) keys
-keys_same counts marks block keys ajar h =
-    record {
-      each = h.each;
-      here = λ b below shut. dite (ℕ_discrete b block) (λ same. absurd (ajar (subst (IsClosed marks) same shut))) (λ other. h.here b (omega arith) shut);
-      short = let s = h.short in omega arith;
-    }
 
 -- the keys in rising order rank all marked blocks
 pub keys_ranked : (counts : List ℕ) (marks : List Bool) (block : ℕ) (keys sorted : List ℕ) → length marks ≤ block → KeysTo counts marks block keys
@@ -79,22 +38,6 @@ keys_ranked counts marks block keys sorted all h moved rising =
 -- ---- the first marked block
 module _ (counts : List ℕ) (marks : List Bool) (keys : List ℕ) (next : ℕ) (h : IsRanked counts marks keys next) (long : length counts ≡ length marks)
     (few : length counts ≤ ONE_PAGE) where
-  -- the key at this place is of an unmarked block, and is past
-  pub ranked_past : next < length keys → ¬ (IsClosed marks (get_or keys next 0 % ONE_PAGE)) → IsRanked counts marks keys (next + 1)
-  ranked_past low ajar =
-      record {
-        each = h.each;
-        rising = h.rising;
-        left = λ b past shut. h.left b
-            (λ k from below is.
-            dite (ℕ_discrete k next)
-            (λ same.
-            let here : get_or keys next 0 ≡ key_of (get_or counts b 0) b = subst (λ (j : ℕ). get_or keys j 0 ≡ key_of (get_or counts b 0) b) same is in
-            let number = number_in (get_or counts b 0) b (let m = marked_low marks b shut in omega arith) in
-            ajar (subst (IsClosed marks) (sym (ap (λ (n : ℕ). n % ONE_PAGE) here ∙ number)) shut))
-            (λ other. past k (omega arith) below is)) shut;
-      }
-
   -- the key at this place is of a marked block, which is the greedy one
   pub ranked_first : (b : ℕ) → next < length keys → b ≡ get_or keys next 0 % ONE_PAGE → IsClosed marks b → Some b ≡ greedy_of counts marks
   ranked_first b low is shut = sym (greedy_of-best counts marks long b best) where
@@ -137,7 +80,3 @@ pub forgotten : (counts : List ℕ) (marks fewer : List Bool) (r s : Ranking) �
 forgotten counts marks fewer r s long is old h =
     let P : Ranking → Type 0 = λ x. Ranks counts fewer x in
     subst P (sym is) (record { room = let room = h.room in omega arith; ranked = λ made. absurd (false≢true made) })
-
--- one that was just begun
-pub begun : (counts : List ℕ) (marks : List Bool) (r : Ranking) → length marks ≤ vec_capacity r.keys → r.made ≡ false → Ranks counts marks r
-begun counts marks r room none = record { room = room; ranked = λ made. absurd (false≢true (sym none ∙ made)) }

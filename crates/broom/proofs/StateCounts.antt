@@ -11,7 +11,7 @@ use Rattle.flash_rule.specs.declared.view.View.{View}
 use Rattle.flash_table.specs.{declared.flash.Flash.Flash, Flash.geometry_of, Flash.device}
 use Rattle.broom.specs.declared.{block_counts.BlockCounts.BlockCounts, broom.Broom.Broom}
 use Rattle.broom.specs.{Counting.FitsOneMore, Counting.counted_one, Counting.one_in, Handing.HandsNothing, Survey.loads_of}
-use Rattle.broom.specs.Loading.{AllLoaded, HasState, KeepsMarks, StateLoaded, counts_in, erases_in, in_phase}
+use Rattle.broom.specs.Loading.{HasState, KeepsMarks, StateLoaded, counts_in, erases_in, in_phase}
 use Rattle.broom.specs.Ready.{IsInRange, IsReady, view_of_broom, blocks_of_broom, marks_of}
 use Rattle.broom.specs.Told.{counts_kept, states_kept}
 use Rattle.broom.proofs.{Loading.enumerate_more, Loading.loaded_changes, Marking.still_marked}
@@ -183,11 +183,3 @@ loaded_below_more f before k now next counts p low h told range ready queue =
             others_kept b k p now next told (omega arith) (h.survey.kept b q e same marked))
         | inr e ↦ here b q (e.0 ∙ h.long) e.1 same (h.rest b (let at = e.0 in let wide = h.long in omega arith) marked)
       ]
-
-pub loaded_below_all : (f : Flash) (before : Broom) (k : ℕ) (now : Broom) (counts : BlockCounts) → k ≡ blocks_of (geometry_of f)
-    → LoadedBelow f before k now counts → (loaded : List PinWord) × AllLoaded (device f) before loaded now × (counts ≡ counts_in loaded)
-loaded_below_all f before k now counts whole h = (
-  h.loaded,
-  record { whole = h.long ∙ whole; ranges = h.ranges; loaded = h.words; changed = h.changed; blocks = h.blocks; survey = h.survey },
-  h.counted,
-)

@@ -119,9 +119,6 @@ module _ (v w : View) (x : ReclaimedBlock) (n : ℕ) (told : GotStamp v (reclaim
         dead = refl;
       }
 
-  pub stamp_named : n < v.numbers.sectors → w ≡ record v { source = Some (record { page = victim_page x v.cleared; stamp = n; value = None }) }
-  stamp_named low = told.sector low
-
 -- what a step that sets the source and what is cleared leaves as it was
 pub callers_same : (v w : View) (source : Option Source) (cleared : ℕ) → w ≡ record v { source = source; cleared = cleared }
     → AreOfHosts v.numbers v.seen → AreOfHosts w.numbers w.seen

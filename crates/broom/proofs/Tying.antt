@@ -1,14 +1,12 @@
 -- A broom that meets another one, or stands by a page: what goes along with the notes, and what each knows in the end.
 use Rattle.std.proofs.Common.{◌≡◌, ℕ, true, List, [], ◌∷◌, ◌++◌, Option, Some, None, sym, refl, ap, ◌∙◌, subst, arith}
-use Rattle.geometry.specs.{History.held, History.Begins, Limits.Numbers, MapWords.map_word, declared.map_word.MapWord.MapWord}
+use Rattle.geometry.specs.{History.held, History.Begins, MapWords.map_word, declared.map_word.MapWord.MapWord}
 use Rattle.flash_rule.specs.declared.{carried.Carried.Carried, view.View.View}
 use Rattle.flash_rule.specs.declared.facts.{Name.Name, Name.TheVariants.Broom as ABroom, Role.Role, Role.TheVariants.Player}
-use Rattle.flash_rule.specs.{Views.AreOfHosts, Views.is_pass, Plays.Met, Plays.Spared, World.sector_word, BroomPlays.Named}
+use Rattle.flash_rule.specs.{Views.is_pass, Plays.Met, Plays.Spared, World.sector_word, BroomPlays.Named}
 use Rattle.flash_rule.specs.Seats.{name_of, carried, lender, lent_note, host_of, giver, given_note, home}
 use Rattle.flash_rule.proofs.{Owning.none_some, Still.pass_of}
-use Rattle.flash_table.specs.declared.{flash.Flash.Flash, broom_seat.BroomBlocks.BroomBlocks, broom_seat.BroomSeat.BroomSeat}
-use Rattle.flash_table.specs.Flash.{IsBroomOf, broom_view, own_blocks}
-use Rattle.broom.specs.{Ready.IsRested, Meeting.HasHeard, Meeting.BroomsMet, Meeting.StoodTold}
+use Rattle.broom.specs.{Meeting.HasHeard, Meeting.BroomsMet, Meeting.StoodTold}
 
 -- ---- names
 -- a broom's role is that of its name, and a pass's too
@@ -37,27 +35,6 @@ module _ (v w : View) (found : Option MapWord) (told : Named v 0 (sector_word fo
   look_mapped m is =
       let word : sector_word found ≡ map_word m = ap sector_word is in
       let t = told.page (λ e. absurd (let n : map_word m ≡ 0 = sym word ∙ e in omega arith)) in (t.1, t.4)
-
-  pub look_callers : AreOfHosts w.numbers w.seen
-  look_callers = let P : Numbers → Type 0 = λ z. AreOfHosts z w.seen in subst P (sym (ap (λ (x : View). x.numbers) told.changed)) told.callers
-
--- a broom rests again once it has heard of another player
-pub rested_heard : (f : Flash) (s t : BroomSeat) → IsRested f s → IsBroomOf f t → own_blocks t ≡ own_blocks s → HasHeard (broom_view s) (broom_view t)
-    → AreOfHosts (broom_view t).numbers (broom_view t).seen → IsRested f t
-rested_heard f s t h seat blocks told callers =
-    let e = told.changed in
-    record {
-      seat = seat;
-      destination = λ o is. h.destination o (ap (λ (x : BroomBlocks). x.destination) (sym blocks) ∙ is);
-      spare = λ o is. h.spare o (ap (λ (x : BroomBlocks). x.spare) (sym blocks) ∙ is);
-      filed = λ w is.
-          let k = h.filed w (ap (λ (v : View). v.work) (sym e) ∙ is) in (k.0, ap (λ (x : BroomBlocks). x.destination) blocks ∙ k.1, k.2, k.3);
-      reclaiming = ap (λ (x : BroomBlocks). x.reclaiming) blocks ∙ h.reclaiming;
-      source = ap (λ (v : View). v.source) e ∙ h.source;
-      callers = callers;
-      whole = ap (λ (v : View). v.whole) e ∙ h.whole;
-      alone = ap (λ (v : View). v.guest) e ∙ h.alone;
-    }
 
 -- ---- two brooms: the first one, v, has looked with the second one's note
 module _ (v v' w : View) (found : Option MapWord) (mine : v.role ≡ Player (name_of v.role)) (other : v'.role ≡ Player (name_of v'.role))

@@ -116,12 +116,6 @@ other_has_room (suc n) pages b kept few =
     let short = subst (λ (m : ℕ). length kept < m * pages) e few in
     ⊎_elim (λ found. found) (λ full. absurd (omega (arith, short, full.1, below_most (suc n) kept))) (found_or_full (suc n) pages b kept)
 
-pub kept_in_all : (b : ℕ) (kept : List (Option PageAddr)) (s : ℕ) → length kept ≤ s → live_in b (take s kept) ≡ live_in b kept
-kept_in_all b [] zero le = refl
-kept_in_all b [] (suc s) le = refl
-kept_in_all b (k ∷ kept) zero le = absurd (omega arith)
-kept_in_all b (k ∷ kept) (suc s) le = let more = kept_in_all b kept s (omega arith) in omega (arith, more)
-
 -- the step of a count
 pub counted_next : (b : ℕ) (kept : List (Option PageAddr)) (s : ℕ) → s < length kept
     → live_in b (take (s + 1) kept) ≡ live_in b (take s kept) + weight b (get_or kept s None)

@@ -1,9 +1,8 @@
 -- Which sectors an extent has.
-use Rattle.std.proofs.Common.{◌≡◌, ◌≢◌, ◌⊎◌, inl, inr, ⊎_elim, ◌+◌, ◌<◌, ◌≤◌, ℕ, true, false, List, length, Option, None, Some, get_or, sym, ◌∙◌, subst, arith}
-use Rattle.std.proofs.Common.{if◌then◌else◌, ◌-◌, set, refl}
-use Rattle.std.proofs.lemmas.Bool.{cases_eq, cases_lt}
+use Rattle.std.proofs.Common.{◌≡◌, ◌≢◌, ◌⊎◌, inl, inr, ⊎_elim, ◌+◌, ◌<◌, ◌≤◌, ℕ, true, false, List, Option, Some, sym, ◌∙◌, arith}
+use Rattle.std.proofs.Common.{if◌then◌else◌, ◌-◌, refl}
+use Rattle.std.proofs.lemmas.Bool.{cases_lt}
 use Rattle.std.proofs.lemmas.Bool.Decides.{nat_tests}
-use Rattle.std.proofs.lemmas.List.{get_or-set_same, get_or-set_other, length-set}
 use Rattle.geometry.specs.Sectors.{Sector}
 use Rattle.geometry.specs.declared.page_addr.PageAddr.{PageAddr}
 use Rattle.durable.specs.declared.extent.Extent.{Extent}
@@ -65,28 +64,4 @@ maps_none map first to = record {
   size = refl;
   covered = λ s has. absurd (omega (arith, has.0, has.1));
   others = λ s out. refl;
-}
-
--- one sector more is mapped
-pub maps_next : (old map new : List (Option PageAddr)) (first i : ℕ) (to : PageAddr) → first ≤ i → i < length map → MapsAll old map (until first i) to
-    → new ≡ set map i (Some to) → MapsAll old new (until first (i + 1)) to
-maps_next old map new first i to le lt maps is = subst (λ (xs : List (Option PageAddr)). MapsAll old xs (until first (i + 1)) to) (sym is) (record {
-  size = length-set map i (Some to) ∙ maps.size;
-  covered = λ s has. ⊎_elim
-      (λ here. subst (λ (k : ℕ). get_or (set map i (Some to)) k None ≡ Some to) (sym here) (get_or-set_same map i (Some to) None lt))
-      (λ differs. get_or-set_other map i s (Some to) None differs ∙ maps.covered s (has.0, omega (arith, has.0, has.1, differs, le)))
-      (cases_eq s i);
-  others = λ s out. ⊎_elim
-      (λ here. absurd (out (omega (arith, here, le), omega (arith, here, le))))
-      (λ differs. get_or-set_other map i s (Some to) None differs ∙ maps.others s (λ has. out (has.0, omega (arith, has.0, has.1, le))))
-      (cases_eq s i);
-})
-
--- all of them are
-pub maps_end : (old new : List (Option PageAddr)) (extent : Extent) (end : ℕ) (to : PageAddr) → end ≡ extent.first + extent.count
-    → MapsAll old new (until extent.first end) to → MapsAll old new extent to
-maps_end old new extent end to is maps = record {
-  size = maps.size;
-  covered = λ s has. maps.covered s (has.0, omega (arith, has.0, has.1, is));
-  others = λ s out. maps.others s (λ has. out (has.0, omega (arith, has.0, has.1, is)));
 }

@@ -43,9 +43,6 @@ has_of b (Some x ∷ found) is = ⊎_elim
 pub at_is : (b : ℕ) (x : Candidate) → x.at.block ≡ b → is_at b (Some x) ≡ true
 at_is b x is = grind (arith, nat_tests)
 
-pub at_is_not : (b : ℕ) (x : Candidate) → x.at.block ≢ b → is_at b (Some x) ≡ false
-at_is_not b x differs = grind (arith, nat_tests)
-
 pub no_gap : (gaps : List ℕ) (b : ℕ) → has_gap gaps b ≡ false → gaps_in gaps b ≡ 0
 no_gap gaps b is = ⊎_elim
     (λ some. let true_is : has_gap gaps b ≡ true = grind (arith, nat_tests) in absurd (false≢true (sym is ∙ true_is)))

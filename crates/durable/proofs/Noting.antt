@@ -1,13 +1,9 @@
 -- Which page's stamp comes next.
-use Rattle.std.proofs.Common.{◌≡◌, ◌≢◌, ⊎_elim, ◌+◌, ◌<◌, ◌≤◌, ◌^◌, ℕ, Option, None, Some, IfSome, sym, ◌∙◌, subst, arith}
+use Rattle.std.proofs.Common.{◌≡◌, ◌≢◌, ⊎_elim, ◌<◌, ◌≤◌, ℕ, Option, None, Some, IfSome, sym, ◌∙◌, subst, arith}
 use Rattle.std.proofs.lemmas.Bool.{cases_lt}
 use Rattle.std.proofs.lemmas.Bool.Decides.{nat_tests}
 use Rattle.geometry.specs.declared.page_addr.PageAddr.{PageAddr}
-use Rattle.durable.specs.declared.found.Stamp.{Stamp}
-use Rattle.durable.specs.Flash.{Flash}
-use Rattle.durable.specs.Updates.{LiesWithin}
-use Rattle.durable.specs.Device.{Device, IsWrittenOn}
-use Rattle.durable.specs.Mounting.{IsStampOf, page_on}
+use Rattle.durable.specs.Mounting.{page_on}
 
 lies : (blocks : ℕ) (at : PageAddr) → at.block < blocks → page_on blocks at ≡ Some at
 lies blocks at lt = grind (arith, nat_tests)
@@ -29,9 +25,3 @@ some_left blocks at some = ⊎_elim (λ lt. lt) (λ ge. absurd (some (lies_not b
 -- what is said of the next page
 pub of_next : (blocks : ℕ) (at : PageAddr) (P : PageAddr → Type 0) → page_on blocks at ≢ None → IfSome (page_on blocks at) P → P at
 of_next blocks at P some holds = subst (λ (k : Option PageAddr). IfSome k P) (lies blocks at (some_left blocks at some)) holds
-
--- a stamp of the flash is one of the device
-pub fits_device : (f : Flash) (device : Device) (b p : ℕ) (stamp : Option Stamp) → IsWrittenOn device f → IsStampOf f b p stamp
-    → IfSome stamp (λ s. LiesWithin device.sectors s.extent × (s.number + 1 < 2 ^ 64))
-fits_device f device b p None written is = tt
-fits_device f device b p (Some stamp) written is = let w = written b p stamp.extent stamp.number is.0 is.1 in (w.2, w.3)

@@ -1,11 +1,10 @@
 -- Handles that get their seats one after another, from the last one down, and a row of passes or brooms that is taken apart so.
 use Rattle.std.proofs.Common.{◌≡◌, ℕ, Bool, true, false, if◌then◌else◌, nat_le, ◌+◌, ◌<◌, ◌≤◌, ◌++◌, ◌∙◌, All, Some, List, []}
-use Rattle.std.proofs.Common.{◌∷◌, length, slice_set, slice_get, get_or, sym, subst, ap, refl, arith}
+use Rattle.std.proofs.Common.{◌∷◌, length, slice_set, get_or, sym, subst, ap, arith}
 use Rattle.std.proofs.lemmas.List.{get_or-set_same, get_or-set_other, length-set, get_or_append_left}
 use Rattle.std.proofs.Math.Seq.{get_or-append_seam}
 use Rattle.std.proofs.lemmas.Grind.{common_steps}
 use Rattle.std.proofs.lemmas.List.Elements.{All-pop}
-use Rattle.std.proofs.lemmas.Option.{slice_get-get_or}
 use Rattle.geometry.specs.declared.geometry.Geometry.{Geometry}
 use Rattle.geometry.specs.Geometry.{numbers_of as numbers_in}
 use Rattle.volume.specs.declared.volume.Volume.{Volume}
@@ -15,22 +14,12 @@ use Rattle.exports.specs.declared.handle.Handle.{Handle}
 use mathlib.Core.Logic.{dite}
 use native.Mathlib.Decide.{ℕ_discrete}
 
--- the last one of a row is taken: it gets shorter
-pub fewer : {X : Type 0} (items rest : List X) (x : X) → items ≡ rest ++ x ∷ [] → length rest < length items
-fewer items rest x is = grind (arith, common_steps)
-
 -- of a row, those below a number are as they began, and the others are as they end, by their places
 pub record Dealt {X : Type 0} (Begun : X → Type 0) (Ended : ℕ → X → Type 0) (n : ℕ) (xs : List X) : Type 0 where
   pub below : (k : ℕ) (d : X) → k < n → k < length xs → Begun (get_or xs k d)
   pub above : (k : ℕ) (d : X) → n ≤ k → k < length xs → Ended k (get_or xs k d)
 
 module _ {X : Type 0} (Begun : X → Type 0) (Ended : ℕ → X → Type 0) where
-  pub none_dealt : (xs : List X) (n : ℕ) → length xs ≤ n → All Begun xs → Dealt Begun Ended n xs
-  none_dealt xs n all begun = record { below = λ k d low within. begun k d within; above = λ k d high within. absurd (omega arith) }
-
-  pub all_dealt : (xs : List X) (n : ℕ) → n ≡ 0 → Dealt Begun Ended n xs → EachAt Ended xs
-  all_dealt xs n done dealt k d within = dealt.above k d (omega arith) within
-
   pub deals_next : (xs : List X) (n m : ℕ) (x : X) → n ≡ m + 1 → m < length xs → Ended m x → Dealt Begun Ended n xs → Dealt Begun Ended m (slice_set xs m x)
   deals_next xs n m x next within ended dealt =
       record {
@@ -61,11 +50,6 @@ pub record DealsOn {X : Type 0} (Ready : X → Type 0) (First : ℕ → X → Ty
   pub long : length handles ≡ count
 
 module _ {X : Type 0} (Ready : X → Type 0) (First : ℕ → X → Type 0) (Fresh : ℕ → Handle → Type 0) where
-  pub deal_begins : (items : List X) (handles : List Handle) → All Ready items → EachAt First items → length items ≡ length handles
-      → All IsClosed handles → DealsOn Ready First Fresh items handles (length handles)
-  deal_begins items handles ready first same closed =
-      record { ready = ready; first = first; dealt = none_dealt IsClosed Fresh handles (length items) (omega arith) closed; room = omega arith; long = refl }
-
   module _ (items rest : List X) (x : X) (handles : List Handle) (count : ℕ) (is : items ≡ rest ++ x ∷ [])
       (on : DealsOn Ready First Fresh items handles count) where
     one_fewer : length items ≡ length rest + 1
@@ -79,9 +63,6 @@ module _ {X : Type 0} (Ready : X → Type 0) (First : ℕ → X → Type 0) (Fre
 
     pub has_place : length rest < length handles
     has_place = let low = on.room in omega (arith, one_fewer)
-
-    pub place_is_closed : (d : Handle) → IsClosed (get_or handles (length rest) d)
-    place_is_closed d = on.dealt.below (length rest) d (omega (arith, one_fewer)) has_place
 
     pub deal_goes_on : (at : ℕ) (h : Handle) → at ≡ length rest → Fresh (length rest) h → DealsOn Ready First Fresh rest (slice_set handles at h) count
     deal_goes_on at h here fresh =
@@ -97,23 +78,9 @@ module _ {X : Type 0} (Ready : X → Type 0) (First : ℕ → X → Type 0) (Fre
         } in
         subst (λ (i : ℕ). DealsOn Ready First Fresh rest (slice_set handles i h) count) (sym here) there
 
-  pub deal_ends : (items : List X) (handles : List Handle) (count : ℕ) → items ≡ [] → DealsOn Ready First Fresh items handles count → EachAt Fresh handles
-  deal_ends items handles count none on = all_dealt IsClosed Fresh handles (length items) (ap (length {A = X}) none) on.dealt
-
 -- those before a place are closed
 abbrev pub AreClosedTo : ℕ → List Handle → Type 0
 AreClosedTo n handles = (k : ℕ) (d : Handle) → k < n → k < length handles → IsClosed (get_or handles k d)
-
-pub closes_next : (handles : List Handle) (n : ℕ) (h : Handle) → n < length handles → IsClosed h → AreClosedTo n handles
-    → AreClosedTo (n + 1) (slice_set handles n h)
-closes_next handles n h there closed before k d low within =
-    dite (ℕ_discrete k n) (λ same.
-    subst (λ (i : ℕ). IsClosed (get_or (slice_set handles n h) i d)) (sym same) (subst IsClosed (sym (get_or-set_same handles n h d there)) closed))
-    (λ other. subst IsClosed (sym (get_or-set_other handles n k h d other)) (before k d (omega (arith, other)) (omega (arith, length-set handles n h))))
-
--- what holds of each element that a list has at a place holds of each, by its place
-pub each_from : {X : Type 0} (P : ℕ → X → Type 0) (xs : List X) → ((k : ℕ) (x : X) → slice_get xs k ≡ Some x → P k x) → EachAt P xs
-each_from P xs each k d low = each k (get_or xs k d) (slice_get-get_or xs k d low)
 
 -- the handles have what is dealt of a device of these numbers
 pub now_fresh : (v : Volume) (g : Geometry) (hosts brooms : List Handle) → numbers_of v ≡ g → EachAt (IsFreshHost v) hosts

@@ -73,9 +73,6 @@ module _ {z : Numbers} {g : World} {vs : List View} {id : ℕ} {v : View} (sat :
   module _ (b : ℕ) (q : PinWord) (low : b < z.blocks)
       (later : ((g.pins b).generation < q.generation)
       ⊎ (((g.pins b).generation ≡ q.generation) × (rank (g.pins b).phase < rank q.phase) × ((g.pins b).written ≤ q.written))) where
-    reached_later : IsReached (entry_of b (g.pins b)) q
-    reached_later = grind arith
-
     -- no earlier entry is of this turn
     none_yet : (o : Owned) → o.block ≡ b → IsReached o (g.pins b) → o.phase ≡ q.phase → o.generation ≡ q.generation → ⊥
     none_yet o block r phase generation = grind arith
@@ -115,9 +112,6 @@ module _ {z : Numbers} {g : World} {vs : List View} {id : ℕ} {v : View} (sat :
           owners = grind (arith, clash, at_set);
         }
       where
-        onward : (c : ℕ) → IsReached (entry_of c (g.pins c)) (put g.pins b q c)
-        onward c = put_all g.pins b q (λ j p. IsReached (entry_of j (g.pins j)) p) reached_later (λ j _. reached_now j (g.pins j)) c
-
         -- an entry is the new one, or was there before
         last_or : (j k : ℕ) (o : Owned) → IsCededBy (set vs id w) j k o → IsCededBy vs j k o ⊎ ((j ≡ id) × (k ≡ length v.ceded) × (e ≡ o))
         last_or j k o h =

@@ -106,10 +106,6 @@ forced z slots id me b f told low fixes allowed other also t sits =
     let same = state_same z one.3.0 two.3.0 t.views id me.0 one.0 two.0 sits.seat one.3.2 two.3.2 alike b low in
     its ∙ (ap pin_word (sym same) ∙ sym mine)
 
--- two views that are both this one are alike
-both : (u v w : View) → v ≡ u → w ≡ u → Alike v w
-both u v w e f = alike_same v w (e ∙ sym f)
-
 -- what a load before a take fixes: the seat owns, gave up and has pinned what it did before, whatever it found
 tested_alike : (v : View) (b n : ℕ) (w : View) → Tested v b n w → Alike w v
 tested_alike v b n w h = grind arith

@@ -8,22 +8,12 @@ use Rattle.flash_rule.proofs.Owning.{some_same, none_some}
 use Rattle.flash_table.specs.declared.pass.OpenBlock.{OpenBlock}
 use Rattle.flash_table.specs.declared.broom_seat.{ReclaimedBlock.ReclaimedBlock, Reclaiming.Reclaiming, BroomBlocks.BroomBlocks}
 use Rattle.flash_table.specs.Owning.{owned_of, owned_list, reclaimed_as, reclaimed_list, blocks_list, OwnsJust}
-use Rattle.flash_table.proofs.Rows.{at_first, past_first, just_at, just_set, just_without, just_with, stays_without}
+use Rattle.flash_table.proofs.Rows.{at_first, past_first, just_at, just_set, just_without, just_with}
 use Rattle.flash_table.specs.declared.broom_seat.Reclaiming.TheVariants as reclaiming
 
 -- a row of three parts
 abbrev row : Option OpenBlock → Option OpenBlock → List Owned → List Owned
 row d s r = (owned_list d ++ owned_list s) ++ r
-
--- an entry in the middle of a row stands there too where the row is put together from the left
-middle : (d : Option OpenBlock) (e : Owned) (r : List Owned) → owned_list d ++ e ∷ r ≡ (owned_list d ++ e ∷ []) ++ r
-middle None e r = refl
-middle (Some x) e r = refl
-
--- no entry in the middle is none
-parted : (d : Option OpenBlock) (r : List Owned) → (owned_list d ++ []) ++ r ≡ owned_list d ++ r
-parted None r = refl
-parted (Some x) r = refl
 
 last : (d : Option OpenBlock) (e : Owned) → (owned_list d ++ []) ++ e ∷ [] ≡ (owned_list d ++ e ∷ []) ++ []
 last None e = refl
@@ -34,20 +24,11 @@ module _ (x : BroomBlocks) {owns : List Owned} (h : OwnsJust (blocks_list x) own
   with_destination : (o : OpenBlock) → x.destination ≡ Some o → OwnsJust (owned_of o ∷ (owned_list x.spare ++ reclaimed_list x.reclaiming)) owns
   with_destination o is = subst (λ d. OwnsJust (row d x.spare (reclaimed_list x.reclaiming)) owns) is h
 
-  with_spare : (o : OpenBlock) → x.spare ≡ Some o → OwnsJust (owned_list x.destination ++ owned_of o ∷ reclaimed_list x.reclaiming) owns
-  with_spare o is =
-      let there : OwnsJust (row x.destination (Some o) (reclaimed_list x.reclaiming)) owns =
-      subst (λ s. OwnsJust (row x.destination s (reclaimed_list x.reclaiming)) owns) is h in
-      subst (λ l. OwnsJust l owns) (sym (middle x.destination (owned_of o) (reclaimed_list x.reclaiming))) there
-
   with_reclaiming : (r : Reclaiming) → x.reclaiming ≡ r → OwnsJust (row x.destination x.spare (reclaimed_list r)) owns
   with_reclaiming r is = subst (λ r. OwnsJust (row x.destination x.spare (reclaimed_list r)) owns) is h
 
   pub destination_at : {o : OpenBlock} → x.destination ≡ Some o → owned_at o.block owns ≡ Some (owned_of o)
   destination_at {o} is = just_at [] (owned_list x.spare ++ reclaimed_list x.reclaiming) owns (owned_of o) (with_destination o is)
-
-  pub spare_at : {o : OpenBlock} → x.spare ≡ Some o → owned_at o.block owns ≡ Some (owned_of o)
-  spare_at {o} is = just_at (owned_list x.destination) (reclaimed_list x.reclaiming) owns (owned_of o) (with_spare o is)
 
   pub draining_at : {o : ReclaimedBlock} → x.reclaiming ≡ reclaiming.Draining o → owned_at o.block owns ≡ Some (reclaimed_as Victim o)
   draining_at {o} is = just_at (owned_list x.destination ++ owned_list x.spare) [] owns (reclaimed_as Victim o) (with_reclaiming _ is)
@@ -88,16 +69,6 @@ module _ (x : BroomBlocks) {owns : List Owned} (h : OwnsJust (blocks_list x) own
       → OwnsJust (blocks_list (record x { reclaiming = reclaiming.Erasing o })) (with_owned (reclaimed_as Erasing o) owns)
   condemned_just o is fresh =
       just_with (owned_list x.destination ++ owned_list x.spare) [] owns (reclaimed_as Erasing o) fresh (with_reclaiming reclaiming.Nothing is)
-
-  pub spared_just : (e : OpenBlock) → x.spare ≡ None → owned_at e.block owns ≡ None → OwnsJust (blocks_list (record x { spare = Some e })) (owned_of e ∷ owns)
-  spared_just e none fresh =
-      let r : List Owned = reclaimed_list x.reclaiming in
-      let there : OwnsJust (row x.destination None r) owns = subst (λ s. OwnsJust (row x.destination s r) owns) none h in
-      let bare : OwnsJust (owned_list x.destination ++ r) owns = subst (λ l. OwnsJust l owns) (parted x.destination r) there in
-      let more : OwnsJust (owned_list x.destination ++ owned_of e ∷ r) (owned_of e ∷ owns) =
-      subst (λ l. OwnsJust (owned_list x.destination ++ owned_of e ∷ r) (owned_of e ∷ l)) (stays_without e.block owns fresh)
-      (just_with (owned_list x.destination) r owns (owned_of e) fresh bare) in
-      subst (λ l. OwnsJust l (owned_of e ∷ owns)) (middle x.destination (owned_of e) r) more
 
   pub drained_just : {o : ReclaimedBlock} → x.reclaiming ≡ reclaiming.Draining o
       → OwnsJust (blocks_list (record x { reclaiming = reclaiming.Nothing })) (without o.block owns)

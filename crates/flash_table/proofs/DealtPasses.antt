@@ -4,7 +4,7 @@ use Rattle.geometry.specs.Limits.{Numbers}
 use Rattle.atomic_table.specs.declared.shared.Seat.{Seat}
 use Rattle.flash_rule.specs.{declared.facts.Role.TheVariants.Dealer, declared.view.View.View, Views.is_pass, Views.owned_at, Views.without}
 use Rattle.flash_rule.specs.Seats.{dealt_pass, new_pass, spare, spares, next_spare, dealt_broom, new_broom}
-use Rattle.flash_rule.proofs.{Owning.get_last, Owning.nothing, DealingBrooms.first_spare, DealingBrooms.other_spares}
+use Rattle.flash_rule.proofs.{Owning.get_last, DealingBrooms.first_spare, DealingBrooms.other_spares}
 use Rattle.flash_table.specs.declared.{flash.Flash.Flash, pass.Pass.Pass, broom_seat.BroomSeat.BroomSeat}
 use Rattle.flash_table.specs.Flash.{IsPassOf, IsBroomOf, view_of, broom_view, opened_of, own_blocks, device, first_view, first_broom, first_blocks, spare_of}
 
@@ -57,26 +57,6 @@ pub record DealsBrooms (f : Flash) (dealer : Seat (Unit {0}) View) (brooms : Lis
   pub long : length brooms ≡ t
   pub each : (k : ℕ) (b : BroomSeat) → slice_get brooms k ≡ Some b → IsBroomOf f b × (broom_view b ≡ first_broom (device f) k)
       × (own_blocks b ≡ first_blocks (device f) k)
-
--- once all passes are dealt, no broom is
-pub no_broom_yet : (f : Flash) (dealer : Seat (Unit {0}) View) (passes : List Pass) (t : ℕ) (brooms : List BroomSeat) → Deals f dealer passes t
-    → brooms ≡ [] → DealsBrooms f dealer brooms 0
-no_broom_yet f dealer passes t brooms h empty =
-    record {
-      table = h.table;
-      role = h.role;
-      count = h.none;
-      numbers = h.numbers;
-      owns = h.owns ∙ (λ i. spares (whole i) (first i));
-      long = ap (length {A = BroomSeat}) empty;
-      each = λ k b is. absurd (nothing k b (ap (λ l. slice_get l k) (sym empty) ∙ is));
-    }
-  where
-    whole : (device f).brooms ≡ (device f).brooms - 0
-    whole = omega arith
-
-    first : (device f).blocks - (device f).brooms ≡ spare_of (device f) 0
-    first = omega arith
 
 module _ (z : Numbers) (v : View) (t : ℕ) (numbers : v.numbers ≡ z) (count : v.brooms ≡ t) (owns : v.owns ≡ spares (z.brooms - t) (spare_of z t))
     (more : t < z.brooms) where

@@ -19,11 +19,6 @@ use Rattle.flash_table.specs.declared.broom_seat.Reclaiming.TheVariants as recla
 pub same_erased : {r : Reclaiming} {o x : ReclaimedBlock} → r ≡ reclaiming.Erasing o → r ≡ reclaiming.Erasing x → o ≡ x
 same_erased first second = cc
 
--- a place at which the block that a broom erases begins, where another name of that block is asked for
-pub begins_same : (z : Numbers) (start : ℕ) {a b : ReclaimedBlock} {r : Reclaiming} → start ≡ page_index z a.block 0 → r ≡ reclaiming.Erasing a
-    → r ≡ reclaiming.Erasing b → start ≡ page_index z b.block 0
-begins_same z start at p q = at ∙ ap (λ (o : ReclaimedBlock). page_index z o.block 0) (same_erased p q)
-
 -- the place of a word of the block, counted from its first page's first word, lies in the table
 pub wiped_within : (z : Numbers) (b i : ℕ) → b < z.blocks → i < words_in_block z → page_index z b 0 + i < table_words_of z.blocks z.pages z.words z.sectors
 wiped_within z b i low below =

@@ -1,22 +1,22 @@
 -- What a step's play makes of a pass, and of any seat with an open block.
 use Rattle.flash_table.proofs.Permissions.{whose, IsSeatOf, slots_of}
-use Rattle.std.proofs.Common.{◌≡◌, ℕ, ◌+◌, ◌<◌, Bool, true, false, List, [], ◌∷◌, ◌++◌, length, Option, Some, None, sym, refl, ap, ◌∙◌, subst, arith}
+use Rattle.std.proofs.Common.{◌≡◌, ℕ, ◌+◌, ◌<◌, Bool, true, false, List, [], ◌∷◌, ◌++◌, Option, Some, None, sym, refl, ap, ◌∙◌, subst, arith}
 use Rattle.geometry.specs.{PinWords.FitsPin, PinWords.pin_word, Limits.Numbers, Geometry.blocks_of, Geometry.pages_of, MapWords.map_word, MapWords.FitsMap}
 use Rattle.geometry.specs.declared.pin_word.{PinWord.PinWord, TheConstants.NEXT_PHASE, TheConstants.PAGE_WRITTEN, TheConstants.READER}
-use Rattle.flash_rule.specs.declared.facts.{Owned.Owned, Work.Work, Pin.TheVariants.Clear, Pin.TheVariants.Candidate, Pin.TheVariants.Accepted}
+use Rattle.flash_rule.specs.declared.facts.{Owned.Owned, Work.Work, Pin.TheVariants.Candidate, Pin.TheVariants.Accepted}
 use Rattle.flash_rule.specs.{declared.view.View.View, World.data_word, World.Intact, Views.is_pass, Views.owned_at, Views.with_owned, Views.without}
 use Rattle.std.specs.Bool.{MatchBool}
 use mathlib.Core.Option.{none}
 use Rattle.atomic_table.specs.{Table.step, declared.shared.Seat.Seat}
 use Rattle.geometry.specs.declared.{geometry.Geometry.Geometry, map_word.MapWord.MapWord, map_word.TheConstants.UNMAPPED}
 use Rattle.geometry.specs.{History.Write, History.WriteNew, History.Trim, TableOrder.pin_index, TableOrder.page_index}
-use Rattle.flash_rule.specs.Plays.{Sitter, Placed, CanPlace, CanPut, CanCount, CanClose, words_in, next_page, write_told, new_told, trim_told, put_told}
-use Rattle.flash_rule.specs.Plays.{count_told, close_told, IsOn, Pinned, pin_told, unpin_told, get_told}
+use Rattle.flash_rule.specs.Plays.{Sitter, Placed, CanPlace, CanCount, CanClose, write_told, new_told, trim_told}
+use Rattle.flash_rule.specs.Plays.{count_told, close_told, Pinned, pin_told, get_told}
 use Rattle.flash_rule.proofs.{Still.pass_of, Points.eq_self, Owning.some_same}
 use Rattle.geometry.proofs.PinBits.{pin_same}
 use Rattle.flash_table.specs.declared.{flash.Flash.Flash, pass.Pass.Pass, pass.OpenBlock.OpenBlock}
 use Rattle.flash_table.specs.Owning.{owned_of, owned_list, closed_as, closed_list}
-use Rattle.flash_table.specs.{GivingUp.closed_pass, GivingUp.left_closed, Steps.CanGiveUp, Steps.IsFilled, Steps.IsNextWord}
+use Rattle.flash_table.specs.{GivingUp.closed_pass, GivingUp.left_closed, Steps.CanGiveUp, Steps.IsFilled}
 use Rattle.flash_table.specs.Flash.{IsPassOf, Strayed, view_of, device}
 
 pub stays_pass : {f : Flash} {p q : Pass} → IsPassOf f p → q.seat.table_id ≡ p.seat.table_id → whose (view_of q) ≡ whose (view_of p) → IsPassOf f q
@@ -43,10 +43,6 @@ starts_same z start at p q = at ∙ ap (λ (o : OpenBlock). page_index z o.block
 
 -- ---- what is asked of the open block, of the block that is found there
 module _ (g : Geometry) (v : View) {opened : Option OpenBlock} {o : OpenBlock} (is : opened ≡ Some o) where
-  pub put_can : (i : ℕ) → IsNextWord g v opened i → CanPut v (owned_of o) × (i ≡ length (words_in v.work (owned_of o))) × (o.block < blocks_of g)
-  put_can i t = let P : OpenBlock → Type 0 = λ x. CanPut v (owned_of x) × (i ≡ length (words_in v.work (owned_of x))) × (x.block < blocks_of g) in
-      subst P (same_block t.1 is) (t.2, t.3, t.4)
-
   pub count_can : IsFilled g v opened → (x : Work) × CanCount v (owned_of o) x × (o.written < pages_of g) × (o.block < blocks_of g)
   count_can t = let P : OpenBlock → Type 0 = λ y. (x : Work) × CanCount v (owned_of y) x × (y.written < pages_of g) × (y.block < blocks_of g) in
       subst P (same_block t.2 is) (t.1, t.3, t.4, t.5)
@@ -56,13 +52,6 @@ module _ (g : Geometry) (v : View) {opened : Option OpenBlock} {o : OpenBlock} (
 
 -- ---- what a step on it makes of the seat of a pass or a broom
 module _ {f : Flash} {x : Seat (Unit {0}) View} (h : IsSeatOf f x) {after : Sitter} {word : ℕ} (o : OpenBlock) where
-  pub put_view : (i w : ℕ) → CanPut x.me.0 (owned_of o) → i ≡ length (words_in x.me.0.work (owned_of o)) → word ≡ page_index (device f) o.block o.written + i
-      → put_told (step (slots_of f) word w 0 none) x.me 0 after
-      → after.0 ≡ record x.me.0 { work = Some (record { page = next_page (owned_of o); words = words_in x.me.0.work (owned_of o) ++ w ∷ [] }) }
-  put_view i w can here at told =
-      told.1 (owned_of o) can (at ∙ (ap (λ k. page_index (device f) o.block o.written + k) here
-      ∙ ap (λ y. page_index y o.block o.written + length (words_in x.me.0.work (owned_of o))) (sym h.numbers)))
-
   pub count_view : (w : Work) → CanCount x.me.0 (owned_of o) w → word ≡ pin_index (device f) o.block
       → count_told (step (slots_of f) word PAGE_WRITTEN 0 none) x.me 0 after
       → after.0 ≡ record x.me.0 {
@@ -107,10 +96,6 @@ module _ {v w : View} {m : MapWord} {value : List ℕ} {n : ℕ} (told : Pinned 
   pin_no not =
       let a = told.stray (not told.state told.fits (sym told.found)) in
       record { changed = told.changed ∙ (λ i. record v { pin = a.0 i; known = w.known }); rises = a.1; bounded = told.bounded }
-
-pub unpin_view : {f : Flash} {p : Pass} {after : Sitter} {word : ℕ} → IsPassOf f p → (b : ℕ) → IsOn (view_of p).pin b → word ≡ pin_index (device f) b
-    → unpin_told (step (slots_of f) word READER 0 none) p.seat.me 0 after → after.0 ≡ record (view_of p) { pin = Clear }
-unpin_view h b on at told = told.1 b on (at ∙ ap (λ y. pin_index y b) (sym h.numbers))
 
 -- ---- what a step makes of a pass
 module _ {f : Flash} {p : Pass} (h : IsPassOf f p) {n : ℕ} {after : Sitter} where

@@ -1,8 +1,8 @@
 -- A block's live pages are copied one after the other, from its first page on.
 use Rattle.std.proofs.Common.{◌≡◌, ◌≢◌, ℕ, ◌+◌, ◌<◌, ◌≤◌, Bool, true, false, cond, List, [], ◌∷◌, ◌++◌, length, get_or, take, sym, ap, ◌∙◌, refl, arith}
-use Rattle.std.proofs.Common.{length-append, length-set, length-take, get_or-set_other}
+use Rattle.std.proofs.Common.{length-append, length-set, get_or-set_other}
 use Rattle.std.proofs.lemmas.List.{append_assoc, take_more, take_more_set, take_all, append-nil, Elements.filter-append}
-use Rattle.std.proofs.lemmas.List.Sums.{sum_by_push, sum_by-take-le, sum_by_more, length-filter, count_by-le-length}
+use Rattle.std.proofs.lemmas.List.Sums.{sum_by_push, sum_by-take-le, sum_by_more, length-filter}
 use Rattle.geometry.specs.{declared.page_addr.PageAddr.PageAddr, Geometry.blocks_of, Geometry.pages_of}
 use Rattle.ftl_one.specs.{declared.store.Store.Store, Stock.Entry, Stock.live_entries, Entries.live_count}
 use Rattle.ftl_one.specs.Store.{geometry_of, array_of, entries_of, live_at, sector_of, KeepsBlocks, HasRoom, HasRoomFor, Relocates, Clears}
@@ -21,9 +21,6 @@ pub record ClearedTo (old now : Store) (victim spare p copies : ℕ) : Type 0 wh
 abbrev nothing : Entry
 nothing = record { sector = 0; live = false }
 
-pub kept_all : (s : Store) → KeepsBlocks s s
-kept_all s = record { geometry = refl; erases = λ b low. refl; retired = λ b low. refl }
-
 pub keeps_both : (a b c : Store) → KeepsBlocks a b → KeepsBlocks b c → KeepsBlocks a c
 keeps_both a b c first second =
     let same : blocks_of (geometry_of b) ≡ blocks_of (geometry_of a) = ap blocks_of first.geometry in
@@ -31,20 +28,6 @@ keeps_both a b c first second =
       geometry = second.geometry ∙ first.geometry;
       erases = λ k low. second.erases k (omega (arith, same, low)) ∙ first.erases k low;
       retired = λ k low. second.retired k (omega (arith, same, low)) ∙ first.retired k low;
-    }
-
--- at the start nothing is copied
-pub ClearedTo-none : (s : Store) (victim spare : ℕ) → ClearedTo s s victim spare 0 0
-ClearedTo-none s victim spare =
-    record {
-      copied = sym (append-nil (entries_of s spare));
-      size = refl;
-      rest = λ q d h. refl;
-      dead = refl;
-      count = refl;
-      others = λ c first second low. refl;
-      sectors = refl;
-      keeps = kept_all s;
     }
 
 -- the live entries of one more page
@@ -152,10 +135,3 @@ ClearedTo-all old now victim spare p copies h all =
         keeps = h.keeps;
       },
     )
-
--- no more pages are copied than were passed
-pub copies_below : (old now : Store) (victim spare p copies : ℕ) → ClearedTo old now victim spare p copies → copies ≤ p
-copies_below old now victim spare p copies h =
-    let most : live_count (take p (entries_of old victim)) ≤ length (take p (entries_of old victim)) =
-    count_by-le-length (λ (x : Entry). x.live) (take p (entries_of old victim)) in
-    omega (arith, h.count, most, length-take p (entries_of old victim))

@@ -97,9 +97,6 @@ same_collection v a b c d e f r t o p q s = cc
 -- a collection into the spare, and then a page that is put
 module _ (geo : Geometry) (pages s : ℕ) (k new : Stock) (spare v : ℕ) (is_spare_of : spare_of k.blocks ≡ Some spare) (chosen : victim_of k.blocks ≡ Some v)
     (puts : write_of pages s (collected (endurance_of geo) k spare v) ≡ Some new) where
-  after_it : Stock
-  after_it = collected (endurance_of geo) k spare v
-
   whole : Collects k new v
   whole = Collects-then k (collected (endurance_of geo) k spare v) new v (collects (endurance_of geo) k spare v is_spare_of chosen)
       (written pages s (collected (endurance_of geo) k spare v) new (open_of (collected (endurance_of geo) k spare v).blocks) puts)

@@ -1,8 +1,8 @@
 -- The layer's blocks after each of its moves, and what the totals weigh.
 use Rattle.std.proofs.Common.{◌≡◌, ◌≢◌, inl, inr, ℕ, zero, suc, ◌+◌, ◌-◌, ◌*◌, ◌<◌, ◌≤◌, ◌^◌, Bool, true, false, not, cond, eqb, List, [], ◌∷◌, ◌++◌, length}
 use Rattle.std.proofs.Common.{get_or, set, map, sum_by, None, Some, sym, ap, ◌∙◌, refl, subst, arith, length-append, length-set, length-drop, drop, get_or-drop}
-use Rattle.std.{proofs.Common.get_or-set_same, proofs.Common.get_or-set_other, specs.List.position, specs.List.position_or_len, specs.Vec.with_items}
-use Rattle.std.proofs.lemmas.List.{with_items_is, length-map, get_or-map, length_push, FromFn.sum_by-map-range_with_len_more, Quantifiers.position-Some}
+use Rattle.std.{proofs.Common.get_or-set_same, proofs.Common.get_or-set_other, specs.List.position, specs.List.position_or_len}
+use Rattle.std.proofs.lemmas.List.{length-map, get_or-map, length_push, FromFn.sum_by-map-range_with_len_more, Quantifiers.position-Some}
 use Rattle.std.proofs.lemmas.List.Sums.{sum_by-cons, sum_by-set, prefix_len_passes, position_or_len_is, length-filter}
 use Rattle.std.proofs.lemmas.{Bool.false≢true, Bool.cases_eq, Bool.cases_lt, Bool.lt-ltb, Bool.le-ltb, Bool.not-true, Bool.eq-eqb, Bool.ne_eqb, Nat.mul-le}
 use Rattle.geometry.specs.{Geometry.blocks_of, Geometry.pages_of, Geometry.endurance_of, Greedy.greedy_of}
@@ -369,13 +369,6 @@ total_small f =
     let all = mul-le (length f.roles.items) m MAX_BLOCKS ((MAX_PAGES + 1) * MAX_ENDURANCE + MAX_PAGES)
     (omega (arith, f.roles_sized, s.die.geometry.in_limits.blocks_high)) (omega (arith, one, s.die.geometry.in_limits.pages_high)) in
     omega (arith, f.bounded, most, all)
-
--- the roles of the layer once one was rewritten
-pub roles_now : (f : OneFtl) (was new : List Role) (b : ℕ) (r : Role) → new ≡ set was b r → was ≡ f.roles.items
-    → (with_items f.roles new).items ≡ set f.roles.items b r
-roles_now f was new b r e same =
-    let now : new ≡ set f.roles.items b r = e ∙ ap (λ (xs : List Role). set xs b r) same in
-    with_items_is f.roles new (omega (arith, ap (λ (xs : List Role). length xs) now, length-set f.roles.items b r, f.roles.ok.0)) ∙ now
 
 -- where a block is retired there is no spare
 pub no_spare : (f : OneFtl) → HasRetired (stock_of f) → (spare : ℕ) → spare_of (stock_of f).blocks ≡ Some spare → ⊥

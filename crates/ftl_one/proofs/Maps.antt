@@ -199,9 +199,6 @@ module _ (n count sectors : ℕ) (B B' : ℕ → Block) (current : List (Option 
     (last : at.page ≡ length (B at.block).pages) (usable : (B at.block).retired ≡ false)
     (becomes : Becomes count B B' at.block (programmed (B at.block) page))
     (counts : Recounts live live' (get_or current page.stamp None) (Some at)) where
-  put_current : List (Option PageAddr)
-  put_current = set current page.stamp (Some at)
-
   pub entries-put_other : (c : ℕ) → c ≢ at.block → c < count
       → entries_in n (set current page.stamp (Some at)) c (B' c) ≡ map (forgotten page.stamp) (entries_in n current c (B c))
   entries-put_other c apart inside =

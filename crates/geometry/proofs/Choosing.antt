@@ -1,10 +1,10 @@
 -- The greedy choice: the relation of a chosen place to the others fixes what the search of the definition finds.
-use Rattle.std.proofs.Common.{◌≡◌, inl, inr, ℕ, zero, suc, ◌+◌, ◌<◌, ◌≤◌, Bool, true, false, not, ◌&&◌, ◌||◌, List, [], ◌∷◌, length, get_or, Option, None, Some}
-use Rattle.std.proofs.Common.{sym, ap, ◌∙◌, refl, arith, leb, subst}
+use Rattle.std.proofs.Common.{◌≡◌, inl, inr, ℕ, zero, suc, ◌<◌, ◌≤◌, Bool, true, false, not, ◌&&◌, ◌||◌, List, [], ◌∷◌, length, get_or, Option, None, Some}
+use Rattle.std.proofs.Common.{sym, ap, ◌∙◌, refl, arith, leb}
 use Rattle.std.{specs.List.zip, specs.List.position_or_len, specs.List.list_all, proofs.lemmas.List.Sums.position_or_len_is}
 use Rattle.std.proofs.lemmas.Bool.{false≢true, le-leb, leb-true, lt-ltb, le-ltb, and_from, and_parts, or_cases, cases_Bool, not-true, and_left, and_right}
-use Rattle.std.proofs.lemmas.{Bool.or_left, Bool.or_right, Bool.cases_lt, Bool.cases_eq, Bool.ltb-true, List.Quantifiers.position-Some, List.get_or_past}
-use Rattle.geometry.specs.Greedy.{greedy_of, IsClosed, IsGreedy, is_better_than}
+use Rattle.std.proofs.lemmas.{Bool.or_left, Bool.or_right, Bool.cases_lt, List.Quantifiers.position-Some, List.get_or_past}
+use Rattle.geometry.specs.Greedy.{greedy_of, IsClosed, IsGreedy}
 
 -- the pair at a place
 get_or-zip : (counts : List ℕ) (closed : List Bool) (i : ℕ) → length counts ≡ length closed
@@ -115,61 +115,6 @@ pub record IsBestBelow (counts : List ℕ) (closed : List Bool) (i b : ℕ) : Ty
 abbrev pub BestBelow : List ℕ → List Bool → ℕ → Option ℕ → Type 0
 BestBelow counts closed i None = (k : ℕ) → k < i → IsClosed closed k → ⊥
 BestBelow counts closed i (Some b) = IsBestBelow counts closed i b
-
--- a place that is not closed changes nothing
-pub BestBelow-open : (counts : List ℕ) (closed : List Bool) (i : ℕ) (best : Option ℕ) → BestBelow counts closed i best → (IsClosed closed i → ⊥)
-    → BestBelow counts closed (i + 1) best
-BestBelow-open counts closed i None h ajar =
-    λ k low is. elim (cases_eq k i) [ inl e ↦ ajar (subst (λ (j : ℕ). IsClosed closed j) e is) | inr apart ↦ h k (omega arith) is ]
-BestBelow-open counts closed i (Some b) h ajar =
-    record {
-      below = omega (arith, h.below);
-      is_closed = h.is_closed;
-      least = λ k low is. elim (cases_eq k i) [ inl e ↦ absurd (ajar (subst (λ (j : ℕ). IsClosed closed j) e is)) | inr apart ↦ h.least k (omega arith) is ];
-      lowest = h.lowest;
-    }
-
--- nor does one that is no better
-pub BestBelow-keeps : (counts : List ℕ) (closed : List Bool) (i b : ℕ) → IsBestBelow counts closed i b → get_or counts b 0 ≤ get_or counts i 0
-    → IsBestBelow counts closed (i + 1) b
-BestBelow-keeps counts closed i b h no_better =
-    record {
-      below = omega (arith, h.below);
-      is_closed = h.is_closed;
-      least = λ k low is. elim (cases_eq k i) [
-        | inl e ↦ subst (λ (j : ℕ). get_or counts b 0 ≤ get_or counts j 0) (sym e) no_better
-        | inr apart ↦
-            h.least k (omega arith) is
-      ];
-      lowest = h.lowest;
-    }
-
--- a better one is the best
-pub BestBelow-takes : (counts : List ℕ) (closed : List Bool) (i : ℕ) (best : Option ℕ) → BestBelow counts closed i best → IsClosed closed i
-    → is_better_than counts i best ≡ true → IsBestBelow counts closed (i + 1) i
-BestBelow-takes counts closed i None h shut better =
-    record {
-      below = omega arith;
-      is_closed = shut;
-      least = λ k low is. elim (cases_eq k i) [
-        | inl e ↦ subst (λ (j : ℕ). get_or counts i 0 ≤ get_or counts j 0) (sym e) (omega arith)
-        | inr apart ↦
-            absurd (h k (omega arith) is)
-      ];
-      lowest = λ k low is. absurd (h k low is);
-    }
-BestBelow-takes counts closed i (Some b) h shut better =
-    let less = ltb-true (get_or counts i 0) (get_or counts b 0) better in
-    record {
-      below = omega arith;
-      is_closed = shut;
-      least = λ k low is. elim (cases_eq k i) [
-        | inl e ↦ subst (λ (j : ℕ). get_or counts i 0 ≤ get_or counts j 0) (sym e) (omega arith)
-        | inr apart ↦
-            omega (arith, less, h.least k (omega arith) is)
-      ];
-      lowest = λ k low is. omega (arith, less, h.least k low is);
-    }
 
 -- the best of all places is the greedy one
 pub BestBelow-all : (counts : List ℕ) (closed : List Bool) (b : ℕ) → length counts ≡ length closed → IsBestBelow counts closed (length counts) b

@@ -3,7 +3,7 @@ use Rattle.std.proofs.Common.{◌≡◌, List, [], ◌∷◌, refl, lit<}
 use Rattle.std.specs.Prelude.{Option, Some, None, is_some, true}
 use Rattle.std.proofs.lemmas.Bool.{false≢true}
 use lib.Dec.{T}
-use mir.Syntax.{Dict, impl, tcons, tnil, dnil, ty_ptr}
+use mir.Syntax.{Dict, impl, tcons, tnil, dnil}
 use mir.Val.{Val, vstruct, vcons, vnil, has_ty, WT}
 use types.Logic.{Logic}
 use types.Kit.{Goal, Item, Step, step, ‵, ◌$◌, fjoin}
@@ -46,10 +46,6 @@ heap_drop = impl ("handles::Destruct++none::drop" ∷ []) (tcons (raw (layout He
 -- a slot is one word
 abbrev pub word : Ptr → Val
 word p = vstruct (vcons (ptr_val p) vnil)
-
-pub pointer_typed : (p : Ptr) → T (has_ty ty_ptr (ptr_val p)) × WT (ptr_val p)
-pointer_typed (block_ptr b o) = (tt, tt)
-pointer_typed null_ptr = (tt, record { fits = lit< tt })
 
 pub word_typed : (R : RattleType) (p : Ptr) → T (has_ty (layout (slots.the_row R)) (word p)) × WT (word p)
 word_typed R (block_ptr b o) = (tt, (tt, tt))

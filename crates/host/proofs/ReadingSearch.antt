@@ -1,11 +1,10 @@
 -- The looks of a search: each but the last one is followed by a stray pin, by which the pass learns that a block is older than it knew.
-use Rattle.std.proofs.Common.{◌≡◌, ℕ, ◌+◌, ◌-◌, ◌*◌, ◌<◌, ◌≤◌, ◌∙◌, List, true, Option, None, Some, is_some, sym, ap, subst, refl, arith}
-use Rattle.std.specs.Option.{IfSome}
+use Rattle.std.proofs.Common.{◌≡◌, ℕ, ◌+◌, ◌-◌, ◌*◌, ◌<◌, ◌≤◌, ◌∙◌, List, true, None, Some, sym, ap, subst, refl, arith}
 use Rattle.geometry.specs.{History.Call, History.Begins, History.held, MapWords.FitsMap, MapWords.map_word, Limits.Numbers, declared.map_word.MapWord.MapWord}
 use Rattle.geometry.proofs.{Histories.Begins-refl, Histories.Begins-trans, PinBits.map_same}
 use Rattle.flash_rule.specs.declared.{facts.Name.TheVariants.Pass as APass, facts.Role.TheVariants.Player, facts.Owned.Owned, view.View.View}
 use Rattle.flash_rule.specs.declared.facts.Pin.{Pin, TheVariants.Clear, TheVariants.Candidate, TheVariants.Accepted}
-use Rattle.flash_rule.specs.{Views.AreOfHosts, Views.calls_of, Views.sum_of, Views.owned_at, World.sector_word, Rule.IsValue, Plays.Looked, Plays.is_unpinned}
+use Rattle.flash_rule.specs.{Views.AreOfHosts, Views.calls_of, Views.sum_of, Views.owned_at, Rule.IsValue, Plays.Looked, Plays.is_unpinned}
 use Rattle.flash_table.specs.{declared.flash.Flash.Flash, declared.pass.Pass.Pass, Flash.IsPassOf, Flash.device, Flash.view_of, Flash.opened_of}
 use Rattle.host.specs.{Ready.IsRested, Ready.IsReady, Ready.IsPinned, Told.Searched, Told.CameLate}
 
@@ -178,12 +177,6 @@ rested_searched f p q tries h pass opened e own =
     rested_same f p q h pass opened (ap (λ (x : View). x.owns) e) (ap (λ (x : View). x.work) e) (ap (λ (x : View). x.whole) e)
     (ap (λ (x : View). x.guest) e) own
 
-pub rested_pinned : (f : Flash) (p q : Pass) (pin : Pin) → IsRested f p → IsPassOf f q → opened_of q ≡ opened_of p
-    → view_of q ≡ record (view_of p) { pin = pin } → IsRested f q
-rested_pinned f p q pin h pass opened e =
-    rested_same f p q h pass opened (ap (λ (x : View). x.owns) e) (ap (λ (x : View). x.work) e) (ap (λ (x : View). x.whole) e)
-    (ap (λ (x : View). x.guest) e) (pin_knows (view_of p) (view_of q) pin (h.callers, h.own) e)
-
 -- ---- the looks of a search, as its pass tells them
 
 -- A look of the search found a page
@@ -231,24 +224,3 @@ found_empty f p w q tries s h pass look rested now opened =
     let told = search_looks (view_of p) (view_of w) (view_of q) tries s 0 h look in
     let own = look_knows (view_of w) (view_of q) s 0 look in
     (record { rested = rested_searched f p q (tries + 1) rested now opened told.changed own; unpinned = empty.1 }, empty.0)
-
--- ---- one look alone
--- A pass has looked at a sector once: it is ready again, and what it found tells whether the sector is written
-pub record LookedOnce (f : Flash) (p q : Pass) (s : ℕ) (found : Option MapWord) : Type 0 where
-  pub told : Searched (view_of p) 1 (view_of q)
-  pub answer : is_some found ≡ is_some (held (device f).sectors (view_of q).seen s)
-  pub ready : IsReady f q
-
-pub looked_once : (f : Flash) (p q : Pass) (s : ℕ) (found : Option MapWord) → IsReady f p → IsPassOf f q → opened_of q ≡ opened_of p
-    → IfSome found FitsMap → Looked (view_of p) s (sector_word found) (view_of q)
-    → LookedOnce f p q s found
-looked_once f p q s found h pass opened fits look =
-    let told = search_looks (view_of p) (view_of p) (view_of q) 0 s (sector_word found) (search_begins f p h) look in
-    let rested = rested_searched f p q 1 h.rested pass opened told.changed (look_knows (view_of p) (view_of q) s (sector_word found) look) in
-    let seen = what found fits look in record { told = told; answer = seen.0; ready = record { rested = rested; unpinned = seen.1 } }
-  where
-    what : (found : Option MapWord) → IfSome found FitsMap → Looked (view_of p) s (sector_word found) (view_of q)
-        → (is_some found ≡ is_some (held (device f).sectors (view_of q).seen s)) × (is_unpinned (view_of q).pin ≡ true)
-    what None fits look = let t = look_finds_empty f (view_of p) (view_of q) s h.rested.pass.numbers look in (sym (ap is_some t.0), t.1)
-    what (Some page) fits look =
-        let t = look_names f (view_of p) (view_of q) s page h.rested.pass.numbers fits look in (sym (ap is_some t.here), ap is_unpinned t.candidate)

@@ -5,7 +5,7 @@ use Rattle.std.specs.List.{range_with_len}
 use mathlib.Core.Logic.{dite}
 use native.Mathlib.Decide.{ℕ_discrete}
 use Rattle.geometry.specs.Geometry.{blocks_of, pages_of, endurance_of}
-use Rattle.geometry.specs.{History.Call, History.Begins, History.was, Limits.Numbers, MapWords.FitsMap}
+use Rattle.geometry.specs.{History.Call, History.Begins, History.was, Limits.Numbers}
 use Rattle.geometry.specs.declared.{answer.Was.Was, map_word.MapWord.MapWord, pin_word.Phase.TheVariants.Open, pin_word.Phase.TheVariants.Closed}
 use Rattle.flash_rule.specs.{declared.facts.Owned.Owned, declared.facts.Work.Work, declared.view.View.View, Views.AreOfHosts, Views.owned_at, Views.calls_of}
 use Rattle.flash_rule.specs.Plays.{Called, CanPlace, IsSettled, next_page, is_unpinned}
@@ -103,20 +103,6 @@ can_settled v s m value h x e work own =
 -- ---- a write goes on
 module _ (f : Flash) (v : View) (p q : Pass) (o : OpenBlock) (h : Starts f v p o) (s : ℕ) (value : List ℕ) (page : MapWord)
     (x : Filled (view_of p) o s value page (view_of q)) where
-  pub fits_map : FitsMap page
-  fits_map =
-      let limits = (geometry_of f).in_limits in
-      let low = h.low in
-      let left = h.left in
-      let young = h.young in
-      let most_blocks = limits.blocks_high in
-      let most_pages = limits.pages_high in
-      let most_cycles = limits.endurance_high in
-      let generation : page.generation ≡ o.generation = ap (λ (m : MapWord). m.generation) x.next in
-      let block : page.block ≡ o.block = ap (λ (m : MapWord). m.block) x.next in
-      let at : page.page ≡ o.written = ap (λ (m : MapWord). m.page) x.next in
-      record { generation = omega arith; block = omega arith; page = omega arith }
-
   module _ (r : Pass) (c : Call) (answer : Was) (told : Called (view_of q) c s answer (view_of r)) where
     pub placed_settled : IsSettled (view_of r)
     placed_settled = subst (λ (w : View). IsSettled w) (sym told.changed) (can_settled (view_of q) s page value x.placeable)

@@ -1,6 +1,6 @@
 -- The parts of a write, one step after the other: blocks are tried in order, words are put in order, a page is counted.
 use Rattle.std.proofs.Common.{◌≡◌, ℕ, zero, suc, ◌+◌, ◌-◌, ◌<◌, ◌≤◌, List, [], ◌∷◌, ◌++◌, length, None, Some, sym, refl, ap, ◌∙◌}
-use Rattle.std.proofs.Common.{arith, append_assoc, append-nil, length-append, Fits, w8}
+use Rattle.std.proofs.Common.{arith, append_assoc, length-append, Fits, w8}
 use Rattle.std.proofs.{Math.ListN.get_or, Math.ListN.get_or-append, lemmas.List.get_or-append_right}
 use Rattle.std.specs.List.{range_with_len}
 use mathlib.Core.Logic.{dite}
@@ -27,10 +27,6 @@ pub record Tried (f : Flash) (v : View) (block : ℕ) (p : Pass) : Type 0 where
   pub pass : IsPassOf f p
   pub nothing : opened_of p ≡ None
   pub changed : view_of p ≡ record v { denied = v.denied ++ range_with_len 0 block }
-
-pub tried_none : (f : Flash) (p : Pass) → IsPassOf f p → opened_of p ≡ None → Tried f (view_of p) 0 p
-tried_none f p pass nothing =
-    record { pass = pass; nothing = nothing; changed = ap (λ (l : List ℕ). record (view_of p) { denied = l }) (sym (append-nil (view_of p).denied)) }
 
 pub tried_more : (f : Flash) (v : View) (block : ℕ) (p q : Pass) → Tried f v block p → Denied (view_of p) block (view_of q) (opened_of q)
     → IsPassOf f q → Tried f v (block + 1) q

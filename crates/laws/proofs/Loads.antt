@@ -1,5 +1,5 @@
 -- A trace that is too big, and small records.
-use Rattle.std.proofs.Common.{◌≡◌, ℕ, List, [], ◌∷◌, Some, length, take, drop, sym, arith}
+use Rattle.std.proofs.Common.{◌≡◌, ℕ, List, Some, length, take, drop, sym, arith}
 use Rattle.std.proofs.lemmas.List.{length-take-le, take-append-drop}
 use Rattle.trace.specs.Loading.{TookOneTooMany}
 
@@ -12,7 +12,3 @@ took_one_too_many bytes long =
       took = sym (take-append-drop 268435457 bytes);
       count = length-take-le 268435457 bytes (omega (arith, long));
     }
-
--- a byte is left
-pub one_left : (byte : ℕ) (bytes : List ℕ) → ¬ (byte ∷ bytes ≡ [])
-one_left byte bytes e = let left : byte ∷ bytes ≡ [] = e in absurd (cc)

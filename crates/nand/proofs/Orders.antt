@@ -1,31 +1,23 @@
 -- A chip's blocks in the layer's order.
-use Rattle.std.proofs.Common.{◌≡◌, ◌≢◌, ◌∙◌, inl, inr, ⊎_elim, ◌+◌, ◌<◌, ◌≤◌, ℕ, zero, suc, Bool, true, false, List, [], ◌∷◌, length}
-use Rattle.std.proofs.Common.{None, Some, Result, Ok, Err, OnOk, OnErr, ◌++◌, get_or, set, min, max, ◌-◌, ◌*◌, ◌/◌, if◌then◌else◌, refl, sym, ap, subst, arith}
+use Rattle.std.proofs.Common.{◌≡◌, ◌≢◌, ◌∙◌, ⊎_elim, ◌+◌, ◌<◌, ◌≤◌, ℕ, zero, suc, Bool, true, false, List, []}
+use Rattle.std.proofs.Common.{Some, min, max, ◌-◌, ◌*◌, ◌/◌, if◌then◌else◌, refl, sym, ap, subst, arith}
 use Rattle.std.proofs.lemmas.Bool.{cases_eq, cases_lt, false≢true}
 use Rattle.std.proofs.lemmas.Bool.Decides.{nat_tests}
 use Rattle.std.proofs.Math.Nat.{lt-div-mul-add, mul-le-mul_right}
-use Rattle.std.proofs.Math.ListN.{get_or-append}
-use Rattle.std.proofs.lemmas.List.{get_or_default, get_or_past, get_or_push, get_or-set_same, get_or-set_other, length-set}
 use Rattle.std.specs.List.{swap}
 use Rattle.geometry.specs.Sectors.{Sector}
-use Rattle.geometry.specs.declared.page_addr.PageAddr.{PageAddr}
-use Rattle.durable.specs.Flash.{Torn, Version, PageContents, Flash, HoldsNewest, IsErased, SetsPage}
-use Rattle.durable.specs.Commands.{IsSameFlash}
-use Rattle.durable.specs.declared.command.Command.TheVariants.{Program, Copy, Erase}
+use Rattle.durable.specs.Flash.{Flash, HoldsNewest, IsErased}
 use Rattle.durable.specs.Device.{IsWrittenOn}
 use Rattle.durable.specs.Collecting.{HasCapacity}
 use Rattle.durable.specs.Failures.{IsRenumbered, swapped}
 use Rattle.durable.specs.Promise.{IsRecoverable}
 use Rattle.durable.specs.Spare.{IsDuplicated}
-use Rattle.durable.specs.declared.extent.Extent.{Extent}
-use Rattle.durable.specs.Updates.{Update, sole}
+use Rattle.durable.specs.Updates.{Update}
 use Rattle.durable.proofs.Cells.{erased_holds_none, erased_has_none}
 use Rattle.durable.proofs.Promises.{erased_recoverable, version_before, readable, readable_renumbered, written_renumbered}
 use Rattle.durable.proofs.Reserves.{swapped_first, swapped_other, swapped_second, swapped_twice}
-use Rattle.nand.specs.declared.flash.Fault.{Fault}
 use Rattle.nand.specs.declared.flash.Shape.{Shape}
-use Rattle.nand.specs.Nand.{Performs}
-use Rattle.nand.specs.Numbers.{IsOrder, chip_block, chip_page, good_before, is_marked, most_in_use, numbered}
+use Rattle.nand.specs.Numbers.{IsOrder, chip_block, good_before, is_marked, most_in_use, numbered}
 use Rattle.nand.specs.Opened.{IsOpenable, IsReserveBlank, device_on, most_used}
 
 -- the order as it is made
@@ -106,12 +98,6 @@ capacity_of_used sectors good blocks pages capacity =
     subst (λ (n : ℕ). HasCapacity sectors n pages) (sym is) capacity)
     (cases_lt most good)
 
-pub capacity_of_good : (sectors good most pages : ℕ) → HasCapacity sectors (min good most) pages → HasCapacity sectors good pages
-capacity_of_good sectors good most pages capacity =
-    let fewer : min good most - 1 ≤ good - 1 = omega (arith, no_greater good most) in
-    let fits = mul-le-mul_right pages fewer in
-    omega (arith, fits, capacity)
-
 -- at least two blocks are in use, if they are good
 pub at_least_two : (shape : Shape) (sectors : ℕ) → 2 ≤ most_used shape sectors
 at_least_two shape sectors = grind (arith, nat_tests)
@@ -133,23 +119,6 @@ erased_opens f shape bad sectors erased some =
         λ s p v lt needed. absurd (erased_has_none f good.0 p s needed.newest.number v (erased good.0 p) needed.newest.held),
       );
       blank = λ b lt is p s n v held. erased_holds_none s n v (sym (erased b p) ∙ held);
-    }
-
--- a bad block keeps its number for now
-pub skips : (numbers : List ℕ) (bad : List Bool) (i : ℕ) → is_marked bad i ≡ true → IsOrder numbers bad i → IsOrder numbers bad (i + 1)
-skips numbers bad i marked is =
-    let good = next_good bad i true marked in
-    record {
-      to = is.to;
-      found = is.found;
-      put = is.put;
-      good = λ c lt. is.good c (omega (arith, lt, good));
-      ranked = λ c lt. is.ranked c (omega (arith, lt, good));
-      others = λ c le lt. ⊎_elim
-          (λ here. ap (is_marked bad) (is.rest c (omega (arith, here)) ∙ here) ∙ marked)
-          (λ differs. is.others c (omega (arith, le, good)) (omega (arith, lt, differs)))
-          (cases_eq c i);
-      rest = λ c le. is.rest c (omega (arith, le));
     }
 
 -- a good block takes the next number of the good ones
@@ -183,37 +152,6 @@ takes old new bad i marked is swap =
           (cases_eq c i);
       rest = λ c le. stays c (λ e. omega (arith, e, le, few)) (λ e. omega (arith, e, le)) ∙ is.rest c (omega (arith, le));
     }
-
--- two elements that are exchanged
-pub swap_is : (xs : List ℕ) (a b : ℕ) → a < length xs → b < length xs → (c : ℕ) → chip_block (swap xs a b) c ≡ chip_block xs (swapped a b c)
-swap_is [] a b a_lt b_lt c = absurd (omega (arith, a_lt))
-swap_is (x ∷ xs) a b a_lt b_lt c =
-    let all = x ∷ xs in
-    let first = set all a (get_or all b x) in
-    ⊎_elim
-    (λ at_b. ap (λ (k : ℕ). get_or (set first b (get_or all a x)) k k) at_b
-    ∙ (get_or-set_same first b (get_or all a x) b (omega (arith, length-set all a (get_or all b x), b_lt))
-    ∙ (get_or_default all a x a a_lt ∙ sym (ap (chip_block all) (ap (swapped a b) at_b ∙ swapped_second a b)))))
-    (λ not_b. get_or-set_other first b c (get_or all a x) c not_b ∙ ⊎_elim
-    (λ at_a. ap (λ (k : ℕ). get_or first k k) at_a ∙ (get_or-set_same all a (get_or all b x) a a_lt
-    ∙ (get_or_default all b x b b_lt ∙ sym (ap (chip_block all) (ap (swapped a b) at_a ∙ swapped_first a b)))))
-    (λ not_a. get_or-set_other all a c (get_or all b x) c not_a ∙ sym (ap (chip_block all) (swapped_other a b c not_a not_b)))
-    (cases_eq c a))
-    (cases_eq c b)
-
--- the next number, put behind those before it
-pushed_length : (xs : List ℕ) (x : ℕ) → length (xs ++ x ∷ []) ≡ length xs + 1
-pushed_length [] x = refl
-pushed_length (y ∷ xs) x = omega (arith, pushed_length xs x)
-
-pub pushed : (xs : List ℕ) (n : ℕ) → length xs ≡ n → ((c : ℕ) → chip_block xs c ≡ c) → (c : ℕ) → chip_block (xs ++ n ∷ []) c ≡ c
-pushed xs n is same c = ⊎_elim
-    (λ lt. get_or-append xs (n ∷ []) c c (omega (arith, lt, is)) ∙ same c)
-    (λ le. ⊎_elim
-    (λ here. get_or_push xs n c c (is ∙ sym here) ∙ sym here)
-    (λ differs. get_or_past (xs ++ n ∷ []) c c (omega (arith, pushed_length xs n, is, le, differs)))
-    (cases_eq c n))
-    (cases_lt c n)
 
 -- the pages of the blocks in this order are those of a flash that is numbered anew
 module _ (numbers : List ℕ) (bad : List Bool) (blocks : ℕ) (is : IsOrder numbers bad blocks) where
@@ -319,55 +257,3 @@ module _ (f : Flash) (shape : Shape) (bad : List Bool) (numbers : List ℕ) (sec
   pub written_in_order : IsWrittenOn (device_on shape bad sectors) f → IsWrittenOn (device_on shape bad sectors) (numbered numbers f)
   written_in_order written = let device = device_on shape bad sectors in
       written_renumbered f (numbered numbers f) shape.blocks (anew numbers bad shape.blocks is f) device device (refl, refl, refl) refl written
-
--- the commands of the chip, told of the blocks in order
-module _ (f t : Flash) (numbers : List ℕ) (bad : List Bool) (blocks : ℕ) (is : IsOrder numbers bad blocks) where
-  same_there : IsSameFlash f t → IsSameFlash (numbered numbers f) (numbered numbers t)
-  same_there same c p = same (chip_block numbers c) p
-
-  sets_there : (c p : ℕ) (x : PageContents) → SetsPage f t (chip_block numbers c) p x → SetsPage (numbered numbers f) (numbered numbers t) c p x
-  sets_there c p x sets = record {
-    put = sets.put;
-    others = λ d q differs. sets.others (chip_block numbers d) q (⊎_elim (λ block. inl (other_chip_block numbers bad blocks is c d block)) inr differs);
-  }
-
-  on_ok : {T P Q : Type 0} (r : Result T Fault) → (P → Q) → OnOk r P → OnOk r Q
-  on_ok (Ok v) to h = to h
-  on_ok (Err e) to h = tt
-
-  on_err : {T P Q : Type 0} (r : Result T Fault) → (P → Q) → OnErr r P → OnErr r Q
-  on_err (Ok v) to h = tt
-  on_err (Err e) to h = to h
-
-  pub programs_there : (at : PageAddr) (n : ℕ) (s : Extent) (v : Sector) (r : Result (Unit {0}) Fault)
-      → Performs (Program (chip_page numbers at) n) s v r f t → Performs (Program at n) s v r (numbered numbers f) (numbered numbers t)
-  programs_there at n s v r does allowed =
-      let done = does allowed in (
-        on_ok r (sets_there at.block at.page (Version s n v)) done.0,
-        on_err r (λ cut. ⊎_elim (λ same. inl (same_there same)) (λ more. inr (⊎_elim
-            (λ torn. inl (sets_there at.block at.page Torn torn))
-            (λ put. inr (sets_there at.block at.page (Version s n v) put)) more)) cut) done.1,
-      )
-
-  pub copies_there : (k : ℕ) (from to : PageAddr) (s : Extent) (v : Sector) (r : Result (Unit {0}) Fault)
-      → Performs (Copy 0 (chip_page numbers from) (chip_page numbers to)) (sole 0) None r f t
-      → Performs (Copy k from to) s v r (numbered numbers f) (numbered numbers t)
-  copies_there k from to s v r does allowed =
-      let done = does allowed in
-      let x = f (chip_block numbers from.block) from.page in (
-        on_ok r (sets_there to.block to.page x) done.0,
-        on_err r (λ cut. ⊎_elim (λ same. inl (same_there same)) (λ more. inr (⊎_elim
-            (λ torn. inl (sets_there to.block to.page Torn torn))
-            (λ put. inr (sets_there to.block to.page x put)) more)) cut) done.1,
-      )
-
-  pub erases_there : (b : ℕ) (s : Extent) (v : Sector) (r : Result (Unit {0}) Fault) → Performs (Erase (chip_block numbers b)) (sole 0) None r f t
-      → Performs (Erase b) s v r (numbered numbers f) (numbered numbers t)
-  erases_there b s v r does allowed =
-      let done = does allowed in (
-        on_ok r (λ erased. (erased.0, λ d p differs. erased.1 (chip_block numbers d) p (other_chip_block numbers bad blocks is b d differs))) done.0,
-        on_err r (λ loses. record {
-          within = λ c p q m w e. loses.within (chip_block numbers c) p q m w e;
-          outside = λ c p differs. loses.outside (chip_block numbers c) p (other_chip_block numbers bad blocks is b c differs);
-        }) done.1,
-      )

@@ -1,5 +1,5 @@
 -- The versions that the commands of a call leave.
-use Rattle.std.proofs.Common.{◌≡◌, ◌⊎◌, ◌∙◌, inl, inr, ⊎_elim, ◌≤◌, ◌<◌, ◌+◌, ◌-◌, ◌%◌, ◌^◌, ℕ, Bool, true, false}
+use Rattle.std.proofs.Common.{◌≡◌, ◌⊎◌, ◌∙◌, inl, inr, ⊎_elim, ◌≤◌, ◌+◌, ◌-◌, ◌%◌, ◌^◌, ℕ, Bool, true, false}
 use Rattle.std.proofs.Common.{List, Result, Ok, Err, OnOk, refl, sym, ap, subst, arith}
 use Rattle.std.proofs.lemmas.Bool.{cases_eq, false≢true}
 use Rattle.geometry.specs.Sectors.{Sector}
@@ -135,21 +135,6 @@ still_spent before mid now Refused pages old new is spent counted spends = recor
   one = spent.one;
   opened = omega (arith, spent.opened, spends);
 }
-
-pub tallies_once : (before mid now : Tally) (m : Command) (pages old new : ℕ) → is_program m ≡ true → HasSpent before mid pages old
-    → now ≡ tally_after m mid → Spends m pages old new → TalliesOnce before now pages
-tallies_once before mid now (Program at n) pages old new is spent counted spends = record {
-  copies = spent.copies;
-  erases = spent.erases;
-  programmed = ap (λ (t : Tally). t.programs) counted ∙ ap (λ (k : ℕ). (k + 1) % 2 ^ 64) spent.programmed;
-  copied = ap (λ (t : Tally). t.copies % 2 ^ 64) counted ∙ spent.copied;
-  erased = ap (λ (t : Tally). t.erases % 2 ^ 64) counted ∙ spent.erased;
-  few = omega (arith, spent.few, spends);
-  one = spent.one;
-}
-tallies_once before mid now (Copy k from to) pages old new is spent counted spends = absurd (false≢true is)
-tallies_once before mid now (Erase b) pages old new is spent counted spends = absurd (false≢true is)
-tallies_once before mid now Refused pages old new is spent counted spends = absurd (false≢true is)
 
 -- a call that programs nothing, or once
 pub or_once : (P Q : Type 0) (result : Result (Unit {0}) Failure) → OnOk result Q → OnOk result (P ⊎ Q)

@@ -1,5 +1,5 @@
 -- What a look says of a sector.
-use Rattle.std.proofs.Common.{◌≡◌, ◌≢◌, ◌∙◌, ⊎_elim, ◌<◌, ℕ, Bool, true, false, List, Option, Some, None, Result, Ok, Err, IfErr}
+use Rattle.std.proofs.Common.{◌≡◌, ◌∙◌, ◌<◌, ℕ, Bool, true, false, List, Option, Some, None, Result, Ok}
 use Rattle.std.proofs.Common.{refl, sym, ap, subst, arith, if◌then◌else◌}
 use Rattle.geometry.specs.declared.answer.Was.{Was}
 use Rattle.geometry.specs.declared.answer.Was.TheVariants as was
@@ -10,11 +10,11 @@ use Rattle.durable.specs.Flash.{Flash, PageContents, Erased, Torn, Version, Hold
 use Rattle.durable.specs.Memory.{IsMappedTo, map_entry}
 use Rattle.durable.specs.Updates.{Covers, Update, array_after, is_covered, sole}
 use Rattle.durable.specs.declared.extent.Extent.{Extent}
-use Rattle.durable.proofs.Extents.{cases_covered, covered, not_covered}
+use Rattle.durable.proofs.Extents.{covered}
 use Rattle.nand.specs.declared.failure.Failure.{Failure}
 use Rattle.nand.specs.declared.failure.Failure.TheVariants as failure
-use Rattle.nand.specs.Stored.{AreEmptyBefore, ReadsStored, StopsLook, StopsUpdate, TellsStored, WereStored, stored_value, told_of, value_at, value_for}
-use Rattle.nand.specs.Nand.{HasBytes, ReadsMain}
+use Rattle.nand.specs.Stored.{AreEmptyBefore, ReadsStored, TellsStored, WereStored, stored_value, told_of, value_at, value_for}
+use Rattle.nand.specs.Nand.{ReadsMain}
 use Rattle.nand.specs.Numbers.{chip_page, numbered}
 use Rattle.nand.specs.declared.flash.Shape.{Shape}
 use Rattle.nand.specs.declared.layer.Durable.{Durable}
@@ -53,25 +53,6 @@ pub data_in : (page : PageContents) (s : ℕ) (out : List ℕ) → told_of (valu
     → value_for page s ≡ Some (Some out)
 data_in page s out told main = is_data s (value_for page s) out told (λ bytes is. reads_main page s bytes out main is)
 
-bytes_at : (f : Flash) (b p s : ℕ) (out : List ℕ) (page : PageContents) → f b p ≡ page → value_for page s ≡ Some (Some out) → HasBytes f s out
-bytes_at f b p s out (Version e n value) is has = ⊎_elim
-    (λ on. (
-      b,
-      p,
-      e,
-      n,
-      on,
-      is ∙ ap (Version e n)
-          (cc (sym (ap (λ (x : Bool). if x then Some value else None) (covered e s on.0 on.1)) ∙ has)),
-    ))
-    (λ out. absurd (cc (sym (ap (λ (x : Bool). if x then Some value else None) (not_covered e s out)) ∙ has)))
-    (cases_covered e s)
-bytes_at f b p s out Erased is has = absurd (cc has)
-bytes_at f b p s out Torn is has = absurd (cc has)
-
-pub has_bytes : (f : Flash) (b p s : ℕ) (out : List ℕ) → value_for (f b p) s ≡ Some (Some out) → HasBytes f s out
-has_bytes f b p s out has = bytes_at f b p s out (f b p) refl has
-
 -- a sector that was told to be empty
 pub empty_there : (has : Option Sector) → told_of has ≡ Ok was.Empty → has ≡ Some None
 empty_there None told = absurd (cc told)
@@ -98,43 +79,6 @@ module _ (has before : ℕ → Option Sector) (e : Extent) (s : ℕ) (on : Cover
 
   pub empty_within : WereStored has (sole s) was.Empty → before s ≡ Some None
   empty_within empty = sym (same s) ∙ empty s (omega arith, omega arith)
-
-  pub written_within : WereStored has (sole s) was.Written → WereStored before e was.Written
-  written_within is = (s, on, first, is.3, there (Some (Some is.3)) is.0 is.1 is.4)
-
-  pub stops_within : (cause : Failure) → StopsLook has (sole s) cause → StopsLook before e cause
-  stops_within failure.Lost is = (s, on, first, there None is.0 is.1 is.3)
-  stops_within failure.PowerGone is = tt
-  stops_within failure.Closed is = tt
-  stops_within failure.Failed is = is
-  stops_within failure.OutOfMemory is = is
-  stops_within failure.NoNumber is = is
-  stops_within failure.Written is = is
-
--- how a call fails that looks first
-module _ (wanted : Was) (has : ℕ → Option Sector) (e : Extent) where
-  pub stops_first : (cause : Failure) → StopsLook has e cause → StopsUpdate wanted has e cause
-  stops_first failure.Lost is = is
-  stops_first failure.PowerGone is = is
-  stops_first failure.Closed is = is
-  stops_first failure.Failed is = absurd is
-  stops_first failure.OutOfMemory is = absurd is
-  stops_first failure.NoNumber is = absurd is
-  stops_first failure.Written is = absurd is
-
-  stops_so : (cause : Failure) → WereStored has e wanted → cause ≢ failure.Lost → cause ≢ failure.Written → StopsUpdate wanted has e cause
-  stops_so failure.Lost were lost written = absurd (lost refl)
-  stops_so failure.PowerGone were lost written = tt
-  stops_so failure.Closed were lost written = tt
-  stops_so failure.Failed were lost written = were
-  stops_so failure.OutOfMemory were lost written = were
-  stops_so failure.NoNumber were lost written = were
-  stops_so failure.Written were lost written = absurd (written refl)
-
-  pub stops_then : {T : Type 0} (result : Result T Failure) → WereStored has e wanted → result ≢ Err failure.Lost → result ≢ Err failure.Written
-      → IfErr result (StopsUpdate wanted has e)
-  stops_then {T} (Ok value) were lost written = tt
-  stops_then {T} (Err cause) were lost written = stops_so cause were (λ is. lost (ap Err is)) (λ is. written (ap Err is))
 
 -- what a layer has of a sector
 module _ {N : Type 0} (flash : N → Flash) (layer : Durable N) (s : ℕ) where

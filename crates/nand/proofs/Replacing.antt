@@ -68,9 +68,6 @@ module _ (bad marks : List Bool) (d : ℕ) (is : Marks bad marks d) where
   still_good : (c : ℕ) → is_marked marks c ≡ false → is_marked bad c ≡ false
   still_good c good = sym (is.1 c (λ e. false≢true (sym good ∙ (ap (is_marked marks) e ∙ is.0)))) ∙ good
 
-  pub stays_marked : (c : ℕ) → is_marked bad c ≡ true → is_marked marks c ≡ true
-  stays_marked c was = ⊎_elim (λ here. ap (is_marked marks) here ∙ is.0) (λ differs. is.1 c differs ∙ was) (cases_eq c d)
-
 -- the first block of the reserve comes in use
 module _ (f : Flash) (shape : Shape) (bad marks : List Bool) (numbers : List ℕ) (sectors number : ℕ) (order : IsOrder numbers bad shape.blocks)
     (is : Marks bad marks (chip_block numbers number)) where

@@ -1,5 +1,5 @@
 -- The commands of one call.
-use Rattle.std.proofs.Common.{◌≡◌, ◌≢◌, ◌⊎◌, ◌∙◌, inl, ⊎_elim, ◌+◌, ◌-◌, ◌%◌, ◌^◌, ◌<◌, ℕ, Bool, true, false}
+use Rattle.std.proofs.Common.{◌≡◌, ◌≢◌, ◌⊎◌, ◌∙◌, inl, ⊎_elim, ◌+◌, ◌-◌, ◌%◌, ◌^◌, ℕ, Bool, true, false}
 use Rattle.std.proofs.Common.{List, Vec, ◌∷◌, None, Some, Result, Ok, Err, OnOk, IfErr, sym, refl}
 use Rattle.std.proofs.Common.{ap, subst, arith}
 use Rattle.std.proofs.lemmas.Bool.{false≢true}
@@ -9,7 +9,7 @@ use Rattle.geometry.specs.declared.answer.Was.TheVariants as was
 use Rattle.durable.specs.declared.command.Command.{Command}
 use Rattle.durable.specs.declared.command.Command.TheVariants.{Program, Copy, Erase, Refused}
 use Rattle.durable.specs.declared.memory.Core.{Core}
-use Rattle.durable.specs.Choice.{Spends, number_after}
+use Rattle.durable.specs.Choice.{number_after}
 use Rattle.durable.specs.Commands.{is_program, updates_with}
 use Rattle.durable.specs.Device.{Device, device_of}
 use Rattle.durable.specs.Flash.{Flash}
@@ -27,8 +27,8 @@ use Rattle.nand.specs.declared.flash.Fault.TheVariants as fault
 use Rattle.nand.specs.declared.flash.Shape.{Shape}
 use Rattle.nand.specs.declared.flash.Tally.{Tally}
 use Rattle.nand.specs.declared.layer.Durable.{Durable}
-use Rattle.nand.specs.Numbers.{IsOrder, good_before, is_marked, numbered}
-use Rattle.nand.specs.Opened.{CanOpen, Fails, HasMarkedFailed, IsOpenLayer, IsSameDevice, IsSpent, IsTrueCause, KeepsDevice, device_on}
+use Rattle.nand.specs.Numbers.{IsOrder, good_before, numbered}
+use Rattle.nand.specs.Opened.{CanOpen, Fails, HasMarkedFailed, IsOpenLayer, IsSpent, IsTrueCause, device_on}
 use Rattle.nand.specs.Opened.{layer_sectors, number_of, update_of}
 use Rattle.nand.specs.Stored.{stored_value, value_at}
 use Rattle.nand.specs.Looks.{Looks}
@@ -56,12 +56,6 @@ same_number (Program at k) n is = absurd (false≢true (sym is))
 same_number (Copy k from to) n is = refl
 same_number (Erase b) n is = refl
 same_number Refused n is = refl
-
-pub nearer : (m : Command) (pages old new : ℕ) → Spends m pages old new → is_program m ≡ false → m ≢ Refused → new < old
-nearer (Program at k) pages old new spends is goes = absurd (false≢true (sym is))
-nearer (Copy k from to) pages old new spends is goes = omega (arith, spends.1)
-nearer (Erase b) pages old new spends is goes = omega (arith, spends.0, spends.1)
-nearer Refused pages old new spends is goes = absurd (goes refl)
 
 -- an open layer's map is that of the array after its updates
 pub array_is : (f : Flash) (core : Core) (updates : List Update) (is : IsConsistent f core updates updates) (s : ℕ)
@@ -140,17 +134,6 @@ module _ {N : Type 0} {flash : N → Flash} {shape : N → Shape} {bad : N → L
   true_after new failure.Written is = tt
   true_after new failure.Lost is = tt
 
-  -- a device that was kept
-  pub keeps_after : {new : Durable N} → KeepsDevice shape bad faults mid new → KeepsDevice shape bad faults old new
-  keeps_after {new} keeps =
-      let same = looks.device in
-      record {
-        sectors = keeps.sectors ∙ same.sectors;
-        chip = keeps.chip ∙ same.chip;
-        marks = λ b is. keeps.marks b (ap (λ (m : List Bool). is_marked m b) same.marks ∙ is);
-        same = λ none. keeps.same (none ∙ sym (looks.counts fault.Failed)) ∙ same.marks;
-      }
-
   -- what was marked
   pub marked_after : (new : Durable N) → HasMarkedFailed shape bad faults mid new → HasMarkedFailed shape bad faults old new
   marked_after new is =
@@ -159,13 +142,6 @@ module _ {N : Type 0} {flash : N → Flash} {shape : N → Shape} {bad : N → L
       subst (λ (s : Shape). marked s (bad old.nand) (faults old.nand fault.Failed)) looks.device.chip
       (subst (λ (m : List Bool). marked (shape mid.nand) m (faults old.nand fault.Failed)) looks.device.marks
       (subst (λ (n : ℕ). marked (shape mid.nand) (bad mid.nand) n) (looks.counts fault.Failed) is))
-
-  pub none_marked : HasMarkedFailed shape bad faults old mid
-  none_marked =
-      let was = good_before (bad old.nand) (shape old.nand).blocks in
-      let now = good_before (bad mid.nand) (shape old.nand).blocks in
-      let none : was - now ≡ 0 = omega (arith, ap (λ (m : List Bool). good_before m (shape old.nand).blocks) looks.device.marks) in
-      ap (λ (n : ℕ). n % 2 ^ 64) (looks.counts fault.Failed ∙ omega (arith, none))
 
   -- what the call programs
   pub once_after : (new : Durable N) (update : Update) → ProgramsOnce flash shape bad tally mid new update
@@ -205,32 +181,14 @@ module _ {N : Type 0} {flash : N → Flash} {shape : N → Shape} {bad : N → L
     };
   }
 
--- a device that was left as it was
-pub keeps_same : {N : Type 0} {shape : N → Shape} {bad : N → List Bool} {faults : N → Fault → ℕ} {old new : Durable N}
-    → IsSameDevice shape bad old new → KeepsDevice shape bad faults old new
-keeps_same {N} {shape} {bad} {faults} {old} {new} same = record {
-  sectors = same.sectors;
-  chip = same.chip;
-  marks = λ b is. ap (λ (m : List Bool). is_marked m b) same.marks ∙ is;
-  same = λ _. same.marks;
-}
-
 pub not_failed : {T : Type 0} (cause : Failure) → ◌≡◌ {A = Result T Failure} (Err cause) (Err failure.PowerGone) → cause ≢ failure.Failed
 not_failed {T} cause is failed = cc (is, failed)
 
 pub not_lost : {T : Type 0} (cause : Failure) → ◌≡◌ {A = Result T Failure} (Err cause) (Err failure.PowerGone) → cause ≢ failure.Lost
 not_lost {T} cause is lost = cc (is, lost)
 
-pub not_memory : {T U : Type 0} (cause : Failure) → ◌≡◌ {A = Result T Failure} (Err cause) (Err failure.PowerGone)
-    → ◌≡◌ {A = Result U Failure} (Err cause) (Err failure.OutOfMemory) → ⊥
-not_memory {T} {U} cause is memory = cc (is, memory)
-
 pub power_gone : (failure.PowerGone ≢ failure.Lost) × (failure.PowerGone ≢ failure.Failed)
 power_gone = (λ e. cc e, λ e. cc e)
-
-pub on_ok : {T E P : Type 0} (r : Result T E) → P → OnOk r P
-on_ok (Ok v) h = h
-on_ok (Err e) h = tt
 
 -- a trim of an empty sector changes nothing
 no_value : (value : Sector) → was_of value ≡ was.Empty → value ≡ None

@@ -3,7 +3,7 @@ use Rattle.std.proofs.Common.{◌≡◌, ◌≢◌, ℕ, zero, suc, ◌+◌, ◌
 use Rattle.std.proofs.Common.{refl, sym, ◌∙◌, ap, ap₂, subst, arith, ⊎_elim, take, Result, Ok, Err, is_ok, IsOk, if◌then◌else◌}
 use Rattle.std.proofs.lemmas.Bool.{cases_eq, cases_lt, false≢true}
 use Rattle.std.proofs.lemmas.Bool.Decides.{nat_tests}
-use Rattle.std.proofs.lemmas.List.{length_push, get_or_push, get_or_append_left, get_or-append_right, get_or-set_same, get_or-set_other}
+use Rattle.std.proofs.lemmas.List.{length_push, get_or_push, get_or_append_left, get_or-set_same, get_or-set_other}
 use Rattle.std.proofs.lemmas.List.{get_or-replicate, get_or_past, length-set, length-append, length-replicate, ext_get_or, replicate_more, take_all}
 use Rattle.packed_map.specs.Groups.{number_at, grouped_numbers, share, shared_in, AreGrouped}
 
@@ -135,36 +135,6 @@ pub numbers_unused : (places kept : List ℕ) (used n i : ℕ) → AreGrouped pl
     → get_or (grouped_numbers places kept n) i 0 ≡ 0
 numbers_unused places kept used n i was one lt all =
     numbers_get places kept n i lt ∙ zero_at places kept used i was (omega (arith, was.within (i / 256) (omega (arith, lt, all)), one))
-
--- and each number is as before
-pub opened_same : (places kept : List ℕ) (used g k : ℕ) → AreGrouped places kept used → g < length places → get_or places g 0 ≡ 0 → k / 256 < length places
-    → number_at (set places g used) (kept ++ replicate 256 0) k ≡ number_at places kept k
-opened_same places kept used g k was lt is below = ⊎_elim
-    (λ (same : k / 256 ≡ g).
-    let here : get_or (set places g used) (k / 256) 0 ≡ used =
-    ap (λ (j : ℕ). get_or (set places g used) j 0) same ∙ get_or-set_same places g used 0 lt in
-    let there : get_or places (k / 256) 0 ≡ 0 = ap (λ (j : ℕ). get_or places j 0) same ∙ is in
-    ap (λ (p : ℕ). get_or (kept ++ replicate 256 0) (p * 256 + k % 256) 0) here
-    ∙ get_or-append_right kept (replicate 256 0) (used * 256) (used * 256 + k % 256) 0 was.size (omega arith)
-    ∙ zeros_at 256 (used * 256 + k % 256 - used * 256)
-    ∙ sym (zero_at places kept used k was there))
-    (λ (differs : k / 256 ≢ g).
-    ap (λ (p : ℕ). get_or (kept ++ replicate 256 0) (p * 256 + k % 256) 0) (get_or-set_other places g (k / 256) used 0 differs)
-    ∙ get_or_append_left kept (replicate 256 0) 0 (get_or places (k / 256) 0 * 256 + k % 256) (kept_within places kept used k was below))
-    (cases_eq (k / 256) g)
-
--- a number is stored in a group with a place of its own
-pub stored : (places kept : List ℕ) (used i x : ℕ) → AreGrouped places kept used → get_or places (i / 256) 0 ≢ 0
-    → AreGrouped places (set kept (get_or places (i / 256) 0 * 256 + i % 256) x) used
-stored places kept used i x was own =
-    let at = get_or places (i / 256) 0 * 256 + i % 256 in record {
-      size = length-set kept at x ∙ was.size;
-      first = was.first;
-      zeros = λ r small. get_or-set_other kept at r x 0 (λ e. own (omega (arith, small, e))) ∙ was.zeros r small;
-      within = was.within;
-      apart = was.apart;
-      counted = was.counted;
-    }
 
 pub stored_here : (places kept : List ℕ) (used i x : ℕ) → AreGrouped places kept used → i / 256 < length places
     → number_at places (set kept (get_or places (i / 256) 0 * 256 + i % 256) x) i ≡ x

@@ -1,21 +1,18 @@
 -- How a session ends, by how its run did.
-use Rattle.std.proofs.Common.{◌≡◌, ◌≢◌, ◌∙◌, ℕ, zero, suc, Bool, true, false, List, None, Some, Option, refl, inl, inr, ap, subst, sym}
-use Rattle.std.specs.Prelude.{⊤, MatchOption, Result, Ok, Err, OnErr, OnOk, is_some, option_map}
+use Rattle.std.proofs.Common.{◌≡◌, ◌∙◌, ℕ, zero, suc, Bool, false, List, None, Some, Option, refl, inl, ap, subst, sym}
+use Rattle.std.specs.Prelude.{⊤, MatchOption, Result, Ok, Err, is_some, option_map}
 use Rattle.geometry.specs.{Geometry.hosts_of, declared.geometry.Geometry.Geometry}
-use Rattle.streams.specs.declared.named_file.OpenFault.{OpenFault}
 use Rattle.streams.specs.declared.named_file.OpenFault.TheVariants as open_fault
-use Rattle.answers.specs.{Streams.Passage, Streams.Stream, declared.delivery.OutputFailed.OutputFailed, declared.fault.RunFault.RunFault}
-use Rattle.answers.specs.Streams.{Tells, TellsIf}
-use Rattle.clap.specs.{Words.HasKind, Words.IsAmong, Words.Kinds, Words.Text, Words.kind_of, declared.error.Error.Error}
-use Rattle.clap.specs.declared.error.kind.ErrorKind.{ErrorKind}
+use Rattle.answers.specs.{Streams.Passage, Streams.Stream, declared.delivery.OutputFailed.OutputFailed}
+use Rattle.answers.specs.Streams.{TellsIf}
+use Rattle.clap.specs.{Words.Text}
 use Rattle.clap.specs.declared.error.kind.ErrorKind.TheVariants as kind
-use Rattle.player.specs.{CommandLine.faults_given, declared.command_line.Options.Options, Session.outcome_of, Session.refusal_by, Session.stop_of_open}
-use Rattle.player.specs.declared.{refusal.Refusal.Refusal, run_files.FileStop.FileStop, stop.Stop.Stop}
-use Rattle.player.specs.Session.{AnswersClap, AreUntouched, AsksClap, EndsOn, Explains, Filing, Filings, IsDescribed, IsIdle, IsLogFor, FailsToOpen}
-use Rattle.player.specs.Session.{IsOpened, portion_left_by, WritesFile, Finishes, ExplainsFile, Helped, WritesSome}
-use Rattle.player.specs.Session.{IsUntouched, LeavesFiles, OpensFiles, PlaysOn, counted_refusals, name_given}
+use Rattle.player.specs.{declared.command_line.Options.Options, Session.outcome_of, Session.refusal_by}
+use Rattle.player.specs.declared.{refusal.Refusal.Refusal, stop.Stop.Stop}
+use Rattle.player.specs.Session.{EndsOn, Explains, Filing, Filings, IsDescribed, IsLogFor}
+use Rattle.player.specs.Session.{IsOpened, WritesFile, Finishes}
+use Rattle.player.specs.Session.{IsUntouched, PlaysOn, counted_refusals, name_given}
 use Rattle.runs.specs.{Wear.IsWearOf}
-use Rattle.runs.specs.Collections.{IsLogOf}
 use Rattle.player.specs.declared.run_files.RunFile.TheVariants as run_file
 use Rattle.player.specs.declared.stop.Stop.TheVariants as stop
 
@@ -67,43 +64,11 @@ run_ended (Ok x) (Err e) why count = finishes (Ok x) (Err e) why count
 run_ended (Ok x) (Ok y) why zero = finishes (Ok x) (Ok y) why 0
 run_ended (Ok x) (Ok y) why (suc n) = finishes (Ok x) (Ok y) why (suc n)
 
--- a run that stopped leaves its files, which were opened
-pub files_left : (found : RunFault) (wanted : Bool) (geo : Geometry) (given : Options) (input : Stream) (files : Filings) (mid_wear mid_log : Stream)
-    → mid_wear ≡ files.wear.stream.before → mid_log ≡ files.collections.stream.before → wanted ≡ is_some given.collections → files.wear.stream.after ≡ mid_wear
-    → Tells (portion_left_by (hosts_of geo) found wanted) (IsLogOf geo) input (record { before = mid_log; after = files.collections.stream.after })
-    → LeavesFiles found geo given input files
-files_left found wanted geo given input files mid_wear mid_log same_wear same_log asked no_wear left = (
-  no_wear ∙ same_wear,
-  subst (λ w. Tells (portion_left_by (hosts_of geo) found w) (IsLogOf geo) input files.collections.stream) asked
-      (subst (λ (s : Stream). Tells (portion_left_by (hosts_of geo) found wanted) (IsLogOf geo) input
-      (record { before = s; after = files.collections.stream.after })) same_log left),
-)
-
 -- a file that is not named
 pub unnamed : {X : Type 0} (f : X → Text) (o : Option X) (IsTextOf : List ℕ → List ℕ → Type 0) (input : Stream) (file : Filing) → is_some o ≡ false
     → IsUntouched file → WritesFile (option_map f o) IsTextOf input file (Ok tt)
 unnamed f None IsTextOf input file none same = (tt, (ap (λ (s : Stream). s.failures) same, same))
 unnamed f (Some x) IsTextOf input file none same = cc
-
-pub is_named : {X : Type 0} (f : X → Text) (o : Option X) → is_some o ≡ true → is_some (option_map f o) ≡ true
-is_named f o some = sym (is_some_map f o) ∙ some
-
--- a run whose files were not opened
-pub not_opened : (s : Stop) (geo : Geometry) (given : Options) (input output : Passage) (files : Filings) → OpensFiles (Err s) given files
-    → IsIdle input output → EndsOn (Err s) geo given input output files
-not_opened (stop.Arguments text) geo given input output files never idle = absurd never
-not_opened (stop.Encoding place) geo given input output files never idle = absurd never
-not_opened (stop.Geometry found) geo given input output files never idle = absurd never
-not_opened (stop.Run found) geo given input output files never idle = absurd never
-not_opened stop.Help geo given input output files never idle = absurd never
-not_opened stop.Memory geo given input output files never idle = absurd never
-not_opened (stop.Refused why count) geo given input output files never idle = absurd never
-not_opened (stop.File file why) geo given input output files (fault, is, asked, fails) idle =
-    subst (λ (w : FileStop). ExplainsFile file w geo given input output files) (sym is) (by fault fails)
-  where
-    by : (f : OpenFault) → FailsToOpen file f given files → ExplainsFile file (stop_of_open f) geo given input output files
-    by open_fault.Refused failed = (asked, idle, failed)
-    by open_fault.InUse failed = (asked, idle, failed)
 
 -- a run on the device ends the session as it ended itself
 pub from_run : (words : List Text) (geo : Geometry) (device : IsDescribed words geo) (input output : Passage) (files : Filings) (r : Result (Unit {0}) Stop)
@@ -124,46 +89,3 @@ same_stream a b p q =
   where
     the : ℕ → Option (List ℕ) → Stream
     the failures bytes = record { failures = failures; bytes = bytes }
-
-pub ok_of : {T E : Type 0} (P : Type 0) (r : Result T E) (x : T) → r ≡ Ok x → OnOk r P → P
-ok_of P r x is holds = subst (λ s. OnOk s P) is holds
-
-pub err_of : {T E : Type 0} (P : Type 0) (r : Result T E) (e : E) → r ≡ Err e → OnErr r P → P
-err_of P r e is holds = subst (λ s. OnErr s P) is holds
-
-asks_known : (k : ErrorKind) → AsksClap k → k ≢ kind.OutOfMemory
-asks_known k (inl help) memory = cc
-asks_known k (inr version) memory = cc
-
-among_of : (kinds : Kinds) (error : Error) → HasKind kinds error → kind_of error ≢ kind.OutOfMemory → IsAmong (kind_of error) kinds
-among_of kinds error (inl memory) other = absurd (other memory)
-among_of kinds error (inr among) other = among
-
-helped : (words : List Text) (error : Error) (input output : Passage) (files : Filings) (r : Result (Unit {0}) OutputFailed)
-    → HasKind (faults_given words) error → input.after ≡ input.before → AreUntouched files → AsksClap (kind_of error) → WritesSome r output
-    → Helped r words input output files
-helped words error input output files r has unread same asks out = record {
-  error = error;
-  asked = among_of (faults_given words) error has (asks_known (kind_of error) asks);
-  is_request = asks;
-  unread = unread;
-  out = out;
-  no_file = same;
-}
-
--- a session whose words clap refused
-pub from_refusal : (words : List Text) (error : Error) (input output : Passage) (files : Filings) → HasKind (faults_given words) error
-    → input.after ≡ input.before → AreUntouched files
-    → (r : Result (Unit {0}) Stop) → AnswersClap error r output → Explains r words input output files
-from_refusal words error input output files has unread same (Ok x) (asks, out) =
-    inr (helped words error input output files (Ok x) has unread same asks out)
-from_refusal words error input output files has unread same (Err (stop.Arguments text)) (known, no_request, unwritten) =
-    (record { error = error; found = among_of (faults_given words) error has known; no_request = no_request }, (unread, unwritten), same)
-from_refusal words error input output files has unread same (Err (stop.Encoding place)) never = absurd never
-from_refusal words error input output files has unread same (Err (stop.Geometry found)) never = absurd never
-from_refusal words error input output files has unread same (Err (stop.Run found)) never = absurd never
-from_refusal words error input output files has unread same (Err stop.Help) (asks, failed, out) =
-    (failed, helped words error input output files (Err failed) has unread same asks out)
-from_refusal words error input output files has unread same (Err stop.Memory) unwritten = ((unread, unwritten), same)
-from_refusal words error input output files has unread same (Err (stop.File file why)) never = absurd never
-from_refusal words error input output files has unread same (Err (stop.Refused why count)) never = absurd never

@@ -2,16 +2,15 @@
 use Rattle.std.proofs.Common.{◌≡◌, ◌≢◌, ℕ, zero, suc, List, Option, refl, sym, subst}
 use Rattle.std.specs.Prelude.{Bool, not, IfSome, Result}
 use Rattle.geometry.specs.{Geometry.hosts_of, declared.geometry.Geometry.Geometry}
-use Rattle.answers.specs.{Delivery.AppendsText, Outcome.ExplainsRun, Streams.Passage, Streams.Stream, Streams.Tells}
-use Rattle.answers.specs.declared.{fault.RunFault.RunFault, delivery.OutputFailed.OutputFailed}
+use Rattle.answers.specs.{Delivery.AppendsText, Streams.Passage, Streams.Stream, Streams.Tells}
+use Rattle.answers.specs.declared.{delivery.OutputFailed.OutputFailed}
 use Rattle.answers.specs.declared.fault.RunFault.TheVariants as run
-use Rattle.answers.specs.Streams.{Portion, Part, TellsIf}
+use Rattle.answers.specs.Streams.{Portion, TellsIf}
 use Rattle.runs.specs.{Brooms.IsBroomLogOf, Collections.IsLogOf, ByWorkers.WasPlayed, ByWorkers.answers_played, ByWorkers.commands_played}
 use Rattle.runs.specs.{Outputs.IsOutputByWorkers, Outputs.IsOutputOf, Refusals.IsRefusedCount, Refusals.refused_by_workers}
 use Rattle.runs.specs.declared.played_by_workers.PlayedByWorkers.{PlayedByWorkers}
-use Rattle.runs.specs.Logs.{portion_left}
 use Rattle.player.specs.declared.command_line.Options.{Options}
-use Rattle.player.specs.Session.{IsLogBy, IsLogFor, IsOneRun, IsTextBy, IsTextFor, refusal_by, run_options_of, portion_left_by}
+use Rattle.player.specs.Session.{IsLogBy, IsLogFor, IsOneRun, IsTextBy, IsTextFor, refusal_by, run_options_of}
 use Rattle.player.specs.declared.refusal.Refusal.TheVariants as refusal
 
 -- without hosts the text is that of one thread
@@ -20,36 +19,16 @@ pub one_text : (given : Options) (geo : Geometry) (input old new : Option (List 
     → IfSome input (λ bytes. AppendsText (IsTextFor given geo) bytes old new)
 one_text given geo input old new none text = subst (λ h. IfSome input (λ bytes. AppendsText (IsTextBy h (not given.quiet) geo) bytes old new)) (sym none) text
 
-pub one_why : (given : Options) (geo : Geometry) (fault : RunFault) (input output : Passage) → hosts_of geo ≡ 0
-    → ExplainsRun (IsOutputOf (not given.quiet)) geo input output fault → ExplainsRun (IsTextFor given) geo input output fault
-one_why given geo (run.Trace found) input output none why = why
-one_why given geo run.Memory input output none why = why
-one_why given geo run.Threads input output none why = why
-one_why given geo run.Output input output none (reads, failed, part) =
-    (reads, failed, subst (λ h. Tells Part (IsTextBy h (not given.quiet) geo) input.before output) (sym none) part)
-
 -- with hosts it is that of their workers
 pub shared_text : (hosts : ℕ) (answers : Bool) (geo : Geometry) (portion : Portion) (input : Stream) (output : Passage) → hosts ≢ 0
     → Tells portion (IsOutputByWorkers answers geo) input output → Tells portion (IsTextBy hosts answers geo) input output
 shared_text zero answers geo portion input output some text = absurd (some refl)
 shared_text (suc others) answers geo portion input output some text = text
 
-pub shared_why : (given : Options) (geo : Geometry) (fault : RunFault) (input output : Passage) → hosts_of geo ≢ 0
-    → ExplainsRun (IsOutputByWorkers (not given.quiet)) geo input output fault → ExplainsRun (IsTextFor given) geo input output fault
-shared_why given geo (run.Trace found) input output some why = why
-shared_why given geo run.Memory input output some why = why
-shared_why given geo run.Threads input output some why = why
-shared_why given geo run.Output input output some (reads, failed, part) =
-    (reads, failed, shared_text (hosts_of geo) (not given.quiet) geo Part input.before output some part)
-
 -- and so is the log
 pub one_log : (given : Options) (geo : Geometry) (wanted : Bool) (input : Stream) (file : Passage) (r : Result (Unit {0}) OutputFailed) → hosts_of geo ≡ 0
     → TellsIf wanted (IsLogOf geo) input file r → TellsIf wanted (IsLogFor given geo) input file r
 one_log given geo wanted input file r none ends = subst (λ h. TellsIf wanted (IsLogBy h given.drains geo) input file r) (sym none) ends
-
-pub one_left : (geo : Geometry) (fault : RunFault) (wanted : Bool) (input : Stream) (file : Passage) → hosts_of geo ≡ 0
-    → Tells (portion_left fault wanted) (IsLogOf geo) input file → Tells (portion_left_by (hosts_of geo) fault wanted) (IsLogOf geo) input file
-one_left geo fault wanted input file none left = subst (λ h. Tells (portion_left_by h fault wanted) (IsLogOf geo) input file) (sym none) left
 
 shared_end : (hosts drains : ℕ) (geo : Geometry) (wanted : Bool) (input : Stream) (file : Passage) (r : Result (Unit {0}) OutputFailed) → hosts ≢ 0
     → TellsIf wanted (IsBroomLogOf drains geo) input file r → TellsIf wanted (IsLogBy hosts drains geo) input file r
@@ -59,11 +38,6 @@ shared_end (suc others) drains geo wanted input file r some ends = ends
 pub shared_log : (given : Options) (geo : Geometry) (wanted : Bool) (input : Stream) (file : Passage) (r : Result (Unit {0}) OutputFailed) → hosts_of geo ≢ 0
     → TellsIf wanted (IsBroomLogOf given.drains geo) input file r → TellsIf wanted (IsLogFor given geo) input file r
 shared_log given geo wanted input file r some ends = shared_end (hosts_of geo) given.drains geo wanted input file r some ends
-
-pub shared_left : (hosts : ℕ) (geo : Geometry) (fault : RunFault) (wanted : Bool) (input : Stream) (file : Passage) → hosts ≢ 0
-    → file.after ≡ file.before → Tells (portion_left_by hosts fault wanted) (IsLogOf geo) input file
-shared_left zero geo fault wanted input file some same = absurd (some refl)
-shared_left (suc others) geo fault wanted input file some same = same
 
 -- and so many writes were refused
 pub one_run : (given : Options) (geo : Geometry) (input : Stream) (output log : Passage) (refused : ℕ) → hosts_of geo ≡ 0

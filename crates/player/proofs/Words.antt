@@ -1,8 +1,8 @@
 -- The words of a command line, one argument more.
-use Rattle.std.proofs.Common.{◌≡◌, ◌∙◌, ℕ, ◌+◌, List, [], ◌∷◌, ◌++◌, Option, None, Some, length, map, take, refl, ap, subst, sym, inl, inr}
+use Rattle.std.proofs.Common.{◌≡◌, ◌∙◌, ℕ, ◌+◌, List, [], ◌∷◌, ◌++◌, Option, None, Some, map, take, refl, ap, subst, sym}
 use Rattle.std.specs.Prelude.{IfOk, IfSome, IsOk, Result, Ok, Err, option_map, slice_get}
-use Rattle.std.{specs.Str.IsUtf8, proofs.lemmas.Bool.cases_lt}
-use Rattle.std.proofs.lemmas.{List.map-append, List.take_all, List.take_more, Option.get_or_from_slice_get, Option.slice_get-get_or, Option.slice_get_within}
+use Rattle.std.{specs.Str.IsUtf8}
+use Rattle.std.proofs.lemmas.{List.map-append, List.take_more, Option.get_or_from_slice_get, Option.slice_get_within}
 use Rattle.player.specs.Arguments.{IsNoText}
 use Rattle.clap.specs.Words.{Text}
 
@@ -25,19 +25,6 @@ words_more f (Some ws) place old new word text grown before next =
     ∙ (ap (λ (t : Text). text ∷ (take place ws ++ t ∷ [])) (sym (get_or_from_slice_get ws place (f word) (f word) (sym next)))
     ∙ ap (λ (ts : List Text). text ∷ ts) (sym (take_more ws place (f word) inside)))))
 
--- behind the last argument all words are there
-pub words_all : {X : Type 0} (f : X → Text) (all : Option (List Text)) (place : ℕ) (words : List X) (text : Text)
-    → IfSome all (λ ws. map f words ≡ text ∷ take place ws)
-    → IfSome all (λ ws. option_map f None ≡ slice_get ws place) → IfSome all (λ ws. map f words ≡ text ∷ ws)
-words_all f None place words text before none = tt
-words_all f (Some ws) place words text before none = elim (cases_lt place (length ws)) [
-  | inl inside ↦ absurd (clash (none ∙ slice_get-get_or ws place [] inside))
-  | inr past ↦ before ∙ ap (λ (ts : List Text). text ∷ ts) (take_all place ws past)
-]
-  where
-    clash : {t : Text} → None ≡ Some t → ⊥
-    clash is = cc
-
 -- what was found at a place
 pub found_there : {A E : Type 0} (items : A → Text) (all : Option (List Text)) (place : ℕ) (r : Result (Option A) E) (found : Option A) → r ≡ Ok found
     → IfSome all (λ ws. IfOk r (λ it. option_map items it ≡ slice_get ws place)) → IfSome all (λ ws. option_map items found ≡ slice_get ws place)
@@ -49,12 +36,6 @@ pub word_there : {A X : Type 0} (items : A → Text) (f : X → Text) (all : Opt
     → IfSome all (λ ws. option_map items (Some bytes) ≡ slice_get ws place) → IfSome all (λ ws. option_map f (Some word) ≡ slice_get ws place)
 word_there items f None place bytes word is it = tt
 word_there items f (Some ws) place bytes word is it = ap Some is ∙ it
-
--- no word is at a place
-pub none_there : {A X : Type 0} (items : A → Text) (f : X → Text) (all : Option (List Text)) (place : ℕ)
-    → IfSome all (λ ws. option_map items None ≡ slice_get ws place) → IfSome all (λ ws. option_map f None ≡ slice_get ws place)
-none_there items f None place it = tt
-none_there items f (Some ws) place it = it
 
 -- an argument that is no text
 pub no_text : {A : Type 0} (items : A → Text) (all : Option (List Text)) (place : ℕ) (bytes : A) → (IsUtf8 (items bytes) → ⊥)

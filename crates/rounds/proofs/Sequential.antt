@@ -91,10 +91,6 @@ module _ {X : Type 0} (worker sector : X → ℕ) (calls : X → List Call) (rig
         (λ u low. subst (λ cs. AreBy s t cs) (sym (of_host u low))
         (made_by_owner s t (lines_of worker u xs) (All-filter (λ x. worker x == u) (IsOwner s t) xs all)))
 
-    -- the sectors that a line names are its worker's
-    owner_of : (x : X) → All (λ y. ¬ (calls y ≡ []) → sector y ≡ sector x → worker y ≡ worker x) xs → All (IsOwner (sector x) (worker x)) xs
-    owner_of x all = all
-
     -- the value at a line's own history is that after all lines before it
     at_place : (done : List X) (x : X) (rest : List X) → done ++ x ∷ rest ≡ xs → right x (held n (first ++ made calls done) (sector x))
     unfolding since

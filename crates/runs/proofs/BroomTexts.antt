@@ -1,5 +1,5 @@
 -- The log of one broom more.
-use Rattle.std.proofs.Common.{◌≡◌, ℕ, ◌+◌, ◌-◌, ◌<◌, ◌≤◌, List, [], ◌++◌, Option, None, Some, get_or, length, refl, subst, sym, ap, ◌∙◌, append-nil}
+use Rattle.std.proofs.Common.{◌≡◌, ℕ, ◌+◌, ◌-◌, ◌<◌, ◌≤◌, List, [], ◌++◌, Option, None, Some, get_or, length, refl, subst, sym, ap, ◌∙◌}
 use Rattle.std.{proofs.Common.append_assoc, proofs.Common.arith, specs.List.flat_map, specs.List.range_with_len, proofs.lemmas.Option.slice_get_read}
 use Rattle.std.specs.{Prelude.IfSome, Prelude.Ok, Option.option_map_or}
 use Rattle.geometry.specs.{History.Begins, declared.geometry.Geometry.Geometry}
@@ -8,9 +8,6 @@ use Rattle.answers.specs.{Answers.broom_names, Delivery.IsUnderWay}
 use Rattle.answers.proofs.{Deliveries.IsUnderWay-more, Deliveries.IsUnderWay-trans, Texts.flat_map_begins, Texts.flat_map_more}
 use Rattle.workers.specs.{Served.AllHaveServed, declared.collector.collector_end.CollectorEnd.CollectorEnd}
 use Rattle.runs.specs.Brooms.{IsBroomLogOf, brooms_before, brooms_text, end_line, line_of_broom}
-
-pub brooms_none : (ends : List CollectorEnd) → brooms_before ends 0 ≡ broom_names
-brooms_none ends = append-nil broom_names
 
 pub line_is : (ends : List CollectorEnd) (k : ℕ) (end : CollectorEnd) → k < length ends → end ≡ get_or ends k end → line_of_broom ends k ≡ end_line k end
 line_is ends k end low is = ap (λ (o : Option CollectorEnd). option_map_or (end_line k) o []) (slice_get_read ends (length ends) k end refl low is)

@@ -1,16 +1,16 @@
 -- The log of one command more, and how a log ends.
 use Rattle.std.proofs.Common.{◌≡◌, ◌≢◌, ℕ, ◌+◌, ◌-◌, ◌≤◌, Bool, true, List, ◌++◌, Option, None, Some, length, refl, subst, sym, ap, ◌∙◌, append_assoc}
 use Rattle.std.{proofs.Common.append-nil, proofs.Common.arith, specs.List.flat_map, specs.List.range_with_len, specs.Io.KnownBytes.Appends}
-use Rattle.std.specs.Prelude.{IfSome, OnOk, Result, Ok, Err}
+use Rattle.std.specs.Prelude.{IfSome, Result}
 use Rattle.geometry.specs.{History.Begins, declared.geometry.Geometry.Geometry}
 use Rattle.ftl_one.specs.{Collections.collection_between, Stock.Stock, declared.collection.Collection.Collection}
-use Rattle.trace.specs.{Trace.commands_of, declared.commands.Command.Command}
+use Rattle.trace.specs.{declared.commands.Command.Command}
 use Rattle.answers.specs.{Answers.collection_names, Lines.waiting_of, Streams.Passage, Streams.Stream, Streams.WritesOut, declared.lines.Lines.Lines}
 use Rattle.answers.specs.Delivery.{AppendsBeginning, AppendsPart, AppendsText, IsUnderWay}
 use Rattle.answers.specs.Streams.{Nothing, Part, Portion, Tells, TellsIf, Whole, Writes, WritesIf, portion_of}
 use Rattle.answers.{specs.declared.delivery.OutputFailed.OutputFailed, proofs.Texts.flat_map_begins, proofs.Texts.flat_map_more}
 use Rattle.answers.proofs.Deliveries.{AppendsBeginning-part, IsUnderWay-more, IsUnderWay-trans, WritesOut-rest}
-use Rattle.runs.specs.Collections.{IsLogOf, log_before, log_line, log_part, log_text, told_at}
+use Rattle.runs.specs.Collections.{log_before, log_line, log_part, log_text, told_at}
 use Rattle.runs.specs.{Logs.IsLogged, Logs.is_wanted, Playing.stock_before}
 use Rattle.runs.specs.{Wear.IsStockOf, Wear.IsWearOf, Wear.wear_text, declared.log.Log.Log}
 use Rattle.runs.specs.declared.log.Log.TheVariants as log
@@ -118,12 +118,6 @@ pub ends_file : (wanted : Bool) (IsTextOf : List ℕ → List ℕ → Type 0) (i
     → IfSome input.bytes (λ bytes. IsTextOf bytes text) → WritesIf wanted text file r → TellsIf wanted IsTextOf input file r
 ends_file wanted IsTextOf input file text r right (fails, writes) = (fails, tells_right (portion_of wanted r) IsTextOf input file text right writes)
 
--- the log of the commands that the bytes mean
-pub log_right : (geo : Geometry) (input : Option (List ℕ)) (commands : List Command) → IfSome input (λ bytes. commands_of bytes geo ≡ Ok commands)
-    → IfSome input (λ bytes. IsLogOf geo bytes (log_text geo commands))
-log_right geo None commands means = tt
-log_right geo (Some bytes) commands means = record { commands = commands; meaning = means; log = refl }
-
 -- the wear of the stock of the device
 pub wear_right : (geo : Geometry) (input : Option (List ℕ)) (stock : Stock) → IfSome input (λ bytes. IsStockOf geo bytes stock)
     → IfSome input (λ bytes. IsWearOf geo bytes (wear_text geo stock))
@@ -147,7 +141,3 @@ pub log_left_of : (geo : Geometry) (commands : List Command) (n : ℕ) (first st
 log_left_of geo commands n first state file low same logged =
     subst (λ w. Writes (beginning_if w) (log_text geo commands) file) same
     (leaves state file (log_before geo commands n) (log_text geo commands) logged (log_begins geo commands n low))
-
-pub OnOk-any : {T E : Type 0} (P : Type 0) (r : Result T E) → P → OnOk r P
-OnOk-any P (Ok x) p = p
-OnOk-any P (Err e) p = tt

@@ -4,18 +4,13 @@ use Rattle.std.proofs.Common.{is_some, refl, sym, ap, ◌∙◌, arith, eqb-true
 use Rattle.std.proofs.lemmas.{Bool.eqb-false, List.Elements.All-from_get_or, List.Elements.All-get_or}
 use Rattle.std.specs.{Prelude.◌==◌, Prelude.Bool, Prelude.IsErr, Prelude.MatchBool, Result.result_unwrap_or}
 use Rattle.hex.specs.{Hex.decode_of, Hex.hex_digit_value, Hex.is_hex_digit, Hex.pair_value, declared.error.FromHexError.FromHexError}
-use Rattle.hex.proofs.HexLemmas.{decode_of-digits, decode_of-odd, decode_of-ok}
+use Rattle.hex.proofs.HexLemmas.{decode_of-digits, decode_of-ok}
 use Rattle.text.specs.Digits.{EndsDigits, bytes_of}
 
 -- a value below 16 is a digit's
 some_below : (o : Option ℕ) (v : ℕ) → v ≡ unwrap_or o 16 → v ≤ 15 → o ≡ Some v
 some_below (Some w) v e small = ap Some (sym e)
 some_below None v e small = absurd (omega arith)
-
--- 16 and above is no digit's
-none_above : (o : Option ℕ) (v : ℕ) → v ≡ unwrap_or o 16 → ((w : ℕ) → o ≡ Some w → w < 16) → 15 < v → o ≡ None
-none_above (Some w) v e small big = let below = small w refl in absurd (omega arith)
-none_above None v e small big = refl
 
 digit_small : (c v : ℕ) → hex_digit_value c ≡ Some v → v < 16
 digit_small c v h = grind (arith)
@@ -25,13 +20,6 @@ pub pair_read : (a b i high low : ℕ) → high ≡ unwrap_or (hex_digit_value a
     → high ≤ 15 → low ≤ 15 → pair_value a b i ≡ Ok (high * 16 + low)
 pair_read a b i high low first second high_small low_small =
     rw (some_below (hex_digit_value a) high first high_small, some_below (hex_digit_value b) low second low_small) refl
-
--- a digit, by its value
-pub digit_below : (c v : ℕ) → v ≡ unwrap_or (hex_digit_value c) 16 → v ≤ 15 → is_hex_digit c ≡ true
-digit_below c v e small = ap is_some (some_below (hex_digit_value c) v e small)
-
-pub digit_above : (c v : ℕ) → v ≡ unwrap_or (hex_digit_value c) 16 → 15 < v → is_hex_digit c ≡ false
-digit_above c v e big = ap is_some (none_above (hex_digit_value c) v e (digit_small c) big)
 
 pub value_below : (c v : ℕ) → v ≡ unwrap_or (hex_digit_value c) 16 → is_hex_digit c ≡ true → v ≤ 15
 value_below c v e h = by (hex_digit_value c) e h (digit_small c)
@@ -65,9 +53,6 @@ refused_at digits k below h = by (decode_of digits) refl
     by : (r : Result (List ℕ) FromHexError) → decode_of digits ≡ r → IsErr r
     by (Ok bytes) e = absurd (cc (sym h ∙ digit_at digits bytes k e below))
     by (Err e) q = refl
-
-pub refused_odd : (digits : List ℕ) → length digits % 2 ≡ 1 → IsErr (decode_of digits)
-refused_odd digits odd = rw (decode_of-odd digits odd) refl
 
 -- an even number of bytes is digits just where digits go to their end
 pub pairs_told : (digits : List ℕ) (end : ℕ) → length digits % 2 ≡ 0 → EndsDigits digits 0 end

@@ -1,11 +1,9 @@
 -- Texts put at places of one buffer, one after another.
-use Rattle.std.proofs.Common.{◌≡◌, ℕ, Bool, true, false, refl, ◌+◌, ◌<◌, ◌≤◌, List, [], ◌∷◌, ◌++◌, length, set, take, drop, ap, sym, ◌∙◌, arith, append_assoc}
-use Rattle.std.proofs.Common.{length-set, length-take-le, length-drop, take-add, take-take, take_at, drop_at, subst}
-use Rattle.std.proofs.lemmas.{List.take_more_set, Simd.take_more_put_chunk, Simd.length-put_chunk, Slice.take-put_mid}
-use Rattle.std.specs.{Prelude.if◌then◌else◌, Fmt.decimal}
-use borrow.Rule.Slice.PartMut.{put_mid, same_len_mid}
+use Rattle.std.proofs.Common.{◌≡◌, ℕ, ◌+◌, ◌<◌, ◌≤◌, List, [], ◌∷◌, ◌++◌, length, set, take, ap, sym, ◌∙◌, arith, append_assoc}
+use Rattle.std.proofs.Common.{length-set, length-take-le, take-add, take-take, take_at, drop_at, subst}
+use Rattle.std.proofs.lemmas.{List.take_more_set, Simd.take_more_put_chunk, Simd.length-put_chunk}
+use Rattle.std.specs.{Fmt.decimal}
 use lib.Lanes.{put_chunk}
-use mir.Val.{bool_byte}
 use Rattle.text.specs.Placed.{Placed}
 
 -- a second text begins where the first one ended
@@ -37,12 +35,6 @@ Placed-store a ys i n long fits =
     let same = length-put_chunk i a ys in
     record { bytes = take_more_put_chunk i a ys (i + n) (omega arith) fits; within = omega arith; len = same }
 
--- a part of the buffer
-pub Placed-part : (a ys : List ℕ) (i k : ℕ) → i + k ≤ length a → length ys ≡ k → Placed a (put_mid i k a ys) i ys (i + k)
-Placed-part a ys i k fits long =
-    let same : length (put_mid i k a ys) ≡ length a = same_len_mid i k a ys (omega (arith, length-take-le k (drop i a) (omega (arith, length-drop i a)))) in
-    record { bytes = take-put_mid i k a ys (i + k) (omega arith) (omega arith); within = omega arith; len = same }
-
 -- a text with other words for it
 pub Placed-as : {a b xs ys : List ℕ} {i j : ℕ} → xs ≡ ys → Placed a b i xs j → Placed a b i ys j
 Placed-as {a} {b} {xs} {ys} {i} {j} e p = subst (λ (l : List ℕ). Placed a b i l j) e p
@@ -58,7 +50,3 @@ Placed-number {a} {b} {c} {xs} {i} {j} {k} {n} {m} end same p q = Placed-on (dec
 
 pub first_number : {a b : List ℕ} {i j n m : ℕ} (end : ℕ) → n ≡ m → Placed a b i (decimal n ++ end ∷ []) j → Placed a b i (decimal m ++ end ∷ []) j
 first_number end same p = Placed-as (ap (λ (r : ℕ). decimal r ++ end ∷ []) same) p
-
-pub bit_is : (b : Bool) → bool_byte b ≡ (if b then 1 else 0)
-bit_is true = refl
-bit_is false = refl

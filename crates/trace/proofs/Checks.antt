@@ -1,7 +1,7 @@
 -- The check of one record, field by field, and of all records.
 use Rattle.std.proofs.Common.{◌≡◌, ◌≢◌, ℕ, ◌+◌, inl, inr, true, List, [], ◌∷◌, ◌++◌, length, map, Result, Ok, Err, refl, ap, ◌∙◌, arith, append_assoc}
 use Rattle.std.{proofs.lemmas.List.map-append, specs.Bool.OnTrue, specs.Str.bytes_eq}
-use Rattle.std.specs.Prelude.{Bool, false, MatchBool, if◌then◌else◌, slice_index_or}
+use Rattle.std.specs.Prelude.{Bool, false, MatchBool, if◌then◌else◌}
 use Rattle.geometry.specs.{Geometry.page_bytes_of, Geometry.sectors_of, declared.geometry.Geometry.Geometry}
 use Rattle.hex.specs.{Hex.decode_of, declared.error.FromHexError.FromHexError}
 use Rattle.trace.specs.{Parsing.Adds, Parsing.RefusesBy, Parsing.fault_at, Trace.whole_fault, Trace.workers_of, Trace.◌>>=◌, declared.commands.Command.Command}
@@ -11,11 +11,6 @@ use Rattle.trace.specs.declared.commands.Op.TheVariants as op
 use Rattle.trace.specs.declared.fault.TraceFaultKind.TheVariants as fault
 
 -- ---- the steps of one check
-
--- a record of four fields
-pub four : (fs : List (List ℕ)) → length fs ≡ 4 → fs ≡ slice_index_or fs 0 [] ∷ slice_index_or fs 1 [] ∷ slice_index_or fs 2 [] ∷ slice_index_or fs 3 [] ∷ []
-four (x ∷ y ∷ z ∷ w ∷ []) n = refl
-four xs n = absurd (omega arith)
 
 -- a record of another number of fields
 pub refuses_fields : (geo : Geometry) (fs : List (List ℕ)) → length fs ≢ 4 → command_of geo fs ≡ Err fault.Fields
@@ -51,11 +46,6 @@ module _ (geo : Geometry) (a b c d : List ℕ) where
             → command_of geo (a ∷ b ∷ c ∷ d ∷ []) ≡ Ok (record { worker = worker; op = o; sector = sector; page = page })
         unfolding command_of
         accepts page s = rw (p, q, r, s) refl
-
--- a check that gave this command, which is added
-pub adds_accepted : (check : Result Command TraceFaultKind) (command : Command) (old new : List Command) → check ≡ Ok command
-    → new ≡ old ++ command ∷ [] → Adds check old new
-adds_accepted check command old new is grown = rw is grown
 
 -- ---- the faults of a check are those of a record
 

@@ -29,9 +29,6 @@ behind at text = drop-drop 1 at text
 pub begins-at : (byte at : ℕ) (text : List ℕ) → at < length text → begins_with byte (drop at text) ≡ (get_or text at 0 == byte)
 begins-at byte at text h = ap (begins_with byte) (drop_more text at 0 h)
 
-pub begins-end : (byte at : ℕ) (text : List ℕ) → length text ≤ at → begins_with byte (drop at text) ≡ false
-begins-end byte at text h = ap (begins_with byte) (drop_all at text h)
-
 -- ---- a field
 
 -- a byte that ends no field joins one that has no quotes open
@@ -89,9 +86,6 @@ plain-run text start at (suc run) h fits joins =
 -- a field ends at a byte that ends fields, and at the end of the text
 pub stops-at : (text : List ℕ) (at : ℕ) → at < length text → is_field_end (get_or text at 0) ≡ true → ends_field (drop at text) ≡ true
 stops-at text at below h = ap ends_field (drop_more text at 0 below) ∙ h
-
-pub stops-end : (text : List ℕ) (at : ℕ) → length text ≤ at → ends_field (drop at text) ≡ true
-stops-end text at h = ap ends_field (drop_all at text h)
 
 -- bytes that only join the field at hand
 reads-joined : (s : State) (text : List ℕ) (start end : ℕ) (fields : List (List ℕ)) (field : List ℕ) → Joins s text start end

@@ -1,6 +1,6 @@
 -- The commands that are kept, by the places of their digits.
-use Rattle.std.proofs.Common.{◌≡◌, ℕ, zero, suc, ◌+◌, ◌-◌, ◌<◌, ◌≤◌, inl, inr, List, [], ◌∷◌, ◌++◌, length, map, take, drop, refl, sym, subst, ap, ap₂, ◌∙◌}
-use Rattle.std.proofs.{Common.append_assoc, Common.arith, Common.length-append, Math.Seq.drop-append-add, Math.Seq.drop-append_seam}
+use Rattle.std.proofs.Common.{◌≡◌, ℕ, zero, suc, ◌+◌, ◌<◌, ◌≤◌, inl, inr, List, [], ◌∷◌, ◌++◌, length, map, take, drop, refl, sym, subst, ap, ap₂, ◌∙◌}
+use Rattle.std.proofs.{Common.append_assoc, Common.arith, Common.length-append, Math.Seq.drop-append_seam}
 use Rattle.std.proofs.lemmas.List.{length-map, map-append, take-append-le, take_all, Elements.All-append, Elements.All-cons, Elements.All-nil}
 use Rattle.std.specs.Prelude.{All, Some, slice_get, slice_index_or}
 use Rattle.trace.specs.{Digits.IsData, Parsing.page_len}
@@ -23,12 +23,6 @@ part-append (suc start) count (x ∷ xs) ys h = part-append start count xs ys (o
 -- digits that stand in the text
 pub digits-text : (text odd : List ℕ) (s : Stored) → s.start + s.brief.digits ≤ length text → digits_at text odd s ≡ take s.brief.digits (drop s.start text)
 digits-text text odd s h = part-append s.start s.brief.digits text odd h
-
--- digits that stand behind it
-pub digits-odd : (text odd : List ℕ) (s : Stored) → length text ≤ s.start → digits_at text odd s ≡ take s.brief.digits (drop (s.start - length text) odd)
-digits-odd text odd s h =
-    let there : s.start ≡ length text + (s.start - length text) = omega arith in
-    ap (λ n. take s.brief.digits (drop n (text ++ odd))) there ∙ ap (take s.brief.digits) (drop-append-add text odd (s.start - length text))
 
 -- digits that are put behind the odd ones
 digits-new : (text odd digits : List ℕ) (s : Stored) → s.start ≡ length text + length odd → s.brief.digits ≡ length digits
@@ -90,10 +84,6 @@ module _ (text odd : List ℕ) (size : ℕ) (xs : List Stored) (s : Stored) (hea
 -- one whose digits stand in the text
 module _ (text odd : List ℕ) (size : ℕ) (xs : List Stored) (s : Stored) (head : Head) (is : head_of s.brief ≡ head)
     (within : s.start + s.brief.digits ≤ length text) where
-  pub push-commands : map (command_at text odd size) (xs ++ s ∷ []) ≡ map (command_at text odd size) xs
-      ++ with_digits head size (take s.brief.digits (drop s.start text)) ∷ []
-  push-commands = pushed text odd size xs s head is _ (digits-text text odd s within)
-
   pub push-kept : All (IsKept text odd size) xs → IsData (page_len head.op size) (take s.brief.digits (drop s.start text))
       → All (IsKept text odd size) (xs ++ s ∷ [])
   push-kept before h = kept text odd size xs s head is before record {

@@ -1,14 +1,14 @@
 -- Each call of a broom leaves the array of sectors to the hosts.
-use Rattle.std.proofs.Common.{◌≡◌, ℕ, All, Bool, true, false, List, [], ◌∷◌, ◌++◌, inl, inr, refl, sym, ap, ◌∙◌, subst, append_assoc, append-nil}
+use Rattle.std.proofs.Common.{◌≡◌, ℕ, All, true, false, List, [], ◌∷◌, ◌++◌, inl, inr, refl, sym, ap, ◌∙◌, subst, append_assoc, append-nil}
 use Rattle.std.proofs.lemmas.List.Elements.{All-head, All-tail}
-use Rattle.geometry.specs.{History.Call, History.Write, History.WriteNew, History.Trim, History.held, History.Begins, Limits.Numbers, PinWords.pin_word}
+use Rattle.geometry.specs.{History.Call, History.Write, History.WriteNew, History.Trim, History.held, History.Begins, PinWords.pin_word}
 use Rattle.geometry.proofs.Histories.{Begins-refl, Begins-trans, held_by_new, held_by_trim, held_by_write}
 use Rattle.geometry.specs.declared.pin_word.PinWord.{PinWord}
 use Rattle.flash_rule.specs.{Views.AreOfHosts, declared.view.View.View}
 use Rattle.broom.specs.{declared.broom.Broom.Broom, declared.answer.Drain.Drain, declared.answer.Erase.Erase, Erasing.EraseTold, Meeting.BroomsMet}
 use Rattle.broom.{specs.Dead.DeadBySurvey, specs.Dead.DeadTold, specs.Dead.InspectedTold, proofs.Loading.loaded_changes}
 use Rattle.broom.specs.Handing.{DrainedAfterPut, DrainedBy, EraseOneTold, FetchedAndErased, IsElse, TurnTold}
-use Rattle.broom.specs.{Loading.AllLoaded, Loading.StateLoaded, Ready.view_of_broom, Restocking.RestockTold, Told.DrainTold, Told.NextTold}
+use Rattle.broom.specs.{Loading.StateLoaded, Ready.view_of_broom, Told.DrainTold, Told.NextTold}
 use Rattle.broom.specs.declared.answer.Drain.TheVariants as drain
 use Rattle.broom.specs.declared.answer.Erase.TheVariants as erase
 use Rattle.broom.specs.declared.turns.Choice.{Choice}
@@ -109,24 +109,11 @@ erased b a block erase.Pinned t hosts = by_change (view_of_broom b) (view_of_bro
 erased b a block erase.Stale t hosts = by_change (view_of_broom b) (view_of_broom a) _ t.0.changed refl refl hosts
 erased b a block erase.QueueEmpty t hosts = absurd t
 
-pub restocked : (b a : Broom) (answer : Bool) → RestockTold b answer a → AreOfHosts (view_of_broom a).numbers (view_of_broom a).seen
-    → LeavesArray (view_of_broom b) (view_of_broom a)
-restocked b a true t hosts = elim t [
-  | inl had ↦ same (view_of_broom b) (view_of_broom a) had.view hosts
-  | inr took ↦ by_change (view_of_broom b) (view_of_broom a) _ took.changed refl refl hosts
-]
-restocked b a false t hosts = by_change (view_of_broom b) (view_of_broom a) _ t.changed refl refl hosts
-
 -- a load of a block's state changes no sector
 pub loaded : (b a : Broom) (block : ℕ) (state : PinWord) → StateLoaded b block state a → AreOfHosts (view_of_broom a).numbers (view_of_broom a).seen
     → LeavesArray (view_of_broom b) (view_of_broom a)
 loaded b a block state t hosts =
     by_change (view_of_broom b) (view_of_broom a) _ (loaded_changes (view_of_broom b) (view_of_broom a) block (pin_word state) t.loaded) refl refl hosts
-
--- and neither does a load of each block's state
-pub all_loaded : (z : Numbers) (b a : Broom) (states : List PinWord) → AllLoaded z b states a → AreOfHosts (view_of_broom a).numbers (view_of_broom a).seen
-    → LeavesArray (view_of_broom b) (view_of_broom a)
-all_loaded z b a states t hosts = by_change (view_of_broom b) (view_of_broom a) _ t.changed refl refl hosts
 
 -- ---- turns
 -- what the queue has to do with a turn is nothing that the view knows

@@ -6,7 +6,7 @@ use native.Mathlib.Decide.{ℕ_discrete}
 use Rattle.geometry.proofs.Histories.{Begins-refl, Begins-trans}
 use Rattle.flash_rule.specs.declared.view.View.{View}
 use Rattle.flash_table.specs.{declared.flash.Flash.Flash, declared.pass.Pass.Pass, Flash.view_of}
-use Rattle.host.specs.{Ready.IsReady, Told.Searched, Told.MetTold}
+use Rattle.host.specs.{Ready.IsReady, Told.MetTold}
 use Rattle.volume.specs.{Closing.HasLooked, Gathering.Tied, Gathering.MetEach}
 
 pub looked-refl : (v : View) → HasLooked v v
@@ -18,16 +18,6 @@ looked-trans u v w a b =
       changed = b.changed ∙ ap (λ (x : View).
           record x { seen = w.seen; looks = w.looks; pin = w.pin; known = w.known; copy = w.copy; older = w.older }) a.changed;
       later = Begins-trans u.seen v.seen w.seen a.later b.later;
-    }
-
-pub searched : (v w : View) (tries : ℕ) → Searched v tries w → HasLooked v w
-searched v w tries told =
-    let looks = ap (λ (x : View). x.looks) told.changed in
-    let copy = ap (λ (x : View). x.copy) told.changed in
-    let older = ap (λ (x : View). x.older) told.changed in
-    record {
-      changed = told.changed ∙ (λ i. record v { seen = w.seen; looks = sym looks i; pin = w.pin; known = w.known; copy = sym copy i; older = sym older i });
-      later = told.later;
     }
 
 module _ (v v' w w' : View) (told : MetTold v v' w w') where

@@ -1,7 +1,7 @@
 -- One answer more, behind others.
 use Rattle.std.proofs.Common.{◌≡◌, ℕ, ◌+◌, ◌<◌, ◌≤◌, List, [], ◌∷◌, ◌++◌, length, take, drop, get_or, sym, refl, ap, ◌∙◌, subst, arith, append_assoc}
-use Rattle.std.proofs.Common.{append-nil, length-append}
-use Rattle.std.proofs.{lemmas.List.drop_all, lemmas.List.drop_more, lemmas.List.length_push, lemmas.List.take_all, Math.Seq.drop-append_seam}
+use Rattle.std.proofs.Common.{append-nil}
+use Rattle.std.proofs.{lemmas.List.drop_more, lemmas.List.length_push, lemmas.List.take_all, Math.Seq.drop-append_seam}
 use Rattle.flash_rule.specs.declared.facts.{Name.TheVariants.Pass as APass, Role.TheVariants.Player}
 use Rattle.flash_table.specs.{declared.pass.Pass.Pass, Flash.view_of}
 use Rattle.trace.specs.declared.commands.{Command.Command, Op.Op}
@@ -9,7 +9,7 @@ use Rattle.volume.specs.{declared.volume.Volume.Volume, Volume.flash_of}
 use Rattle.rounds.specs.{Lines.Said, Lines.is_full, Pages.bytes_of, Playing.Played, declared.answer.Kind.Kind, declared.answer_list.Answers.Answers}
 use Rattle.rounds.specs.Answers.{page_size_of, said_in, space_for, space_of, HasSpace, HasSpaceFor}
 use Rattle.host.specs.Ready.{IsReady}
-use Rattle.workers.specs.{Line.HasPlayedLine, Playable.HasAnswered, Playable.added, Playable.lines_at}
+use Rattle.workers.specs.{Line.HasPlayedLine, Playable.added, Playable.lines_at}
 use Rattle.workers.proofs.PlayedLines.{Playing, count_lines, other_page, playing_none, playing_more, playing_end}
 use Rattle.trace.specs.declared.commands.Op.TheVariants as op
 use Rattle.rounds.specs.declared.answer.Kind.TheVariants as kind
@@ -108,11 +108,3 @@ module _ (volume : Volume) (patience : ℕ) (first now : Pass) (commands : List 
   adding_end t role =
       subst (λ l. Played t patience (view_of first) lines l (view_of now)) (sym added_is)
       (playing_end volume patience first now lines i all.more all.playing none_left t role)
-
-  pub all_answered : HasAnswered lines old answers
-  all_answered = record {
-    kept = all.grown ∙ ap (λ l. said_in old ++ l) (sym added_is);
-    count = ap (length {A = Said}) all.grown ∙ (let count = all.count in omega (arith, length-append (said_in old) all.more, count_lines commands places));
-    page = all.page;
-    space = λ rest space. subst (λ l. HasSpaceFor answers (l ++ rest)) (drop_all i lines none_left) (all.space rest space);
-  }

@@ -1,12 +1,12 @@
 -- A turn of a broom, call by call.
 use Rattle.std.proofs.Common.{◌≡◌, ℕ, ◌+◌, ◌-◌, ◌≤◌, Bool, true, false, List, [], ◌∷◌, ◌++◌, length, refl, sym, ap, ◌∙◌, subst, append_assoc, append-nil, arith}
-use Rattle.std.proofs.Common.{inl, inr}
+use Rattle.std.proofs.Common.{inr}
 use Rattle.std.specs.{Prelude.◌||◌, List.flat_map, List.list_any}
 use mathlib.Core.Bool.{true≢false}
 use Rattle.std.proofs.lemmas.List.{length-append, Folds.list_any-append, Concat.flat_map-append}
 use Rattle.broom.specs.{contracts.answer.DrainPartialEq.TheImpl.eq-value, declared.answer.Drain.Drain, declared.answer.Erase.Erase}
 use Rattle.workers.specs.declared.collector.{broom_answer.BroomAnswer.BroomAnswer, Collector.Collector}
-use Rattle.workers.specs.Collecting.{HasCollectedBy, HasFollowed, HasSearched, HasTakenTurn}
+use Rattle.workers.specs.Collecting.{HasCollectedBy, HasFollowed, HasSearched}
 use Rattle.workers.specs.Turns.{Follows, GoesOn, TurnDrain, by_last_survey, by_new_survey, found_no_spare, has_drained, has_erased, has_gained, is_last}
 use Rattle.workers.proofs.BroomCalls.{collected_by_then}
 use Rattle.broom.specs.declared.answer.Drain.TheVariants as drain
@@ -94,14 +94,6 @@ next_drain s t u v made given next programmed gained more now so_far goes low dr
           (collected_by_then t u v (by.DrainNext next programmed ∷ []) followed.behind drained followed.collected));
     }
 
-pub turn_done : (s t : Collector) (made : ℕ) (given : Drain) (gained : Bool) → TurnSoFar s made given gained t → HasTakenTurn s gained t
-turn_done s t made given gained before = record {
-  answers = by_new_survey before.first ++ flat_map by_last_survey before.others;
-  turn = record { first = before.first; others = before.others; few = before.few; on = before.on; are = refl };
-  told = before.told;
-  collected = before.collected;
-}
-
 -- whether a drain found no spare is its comparison with that result
 pub is_spareless : (given : Drain) → eq-value.it given drain.NoSpare ≡ found_no_spare given
 is_spareless (drain.Drained block copied) = refl
@@ -109,15 +101,6 @@ is_spareless drain.NothingToGain = refl
 is_spareless drain.NoSpare = refl
 is_spareless drain.Lost = refl
 is_spareless drain.QueueFull = refl
-
--- a search that found a spare, and one that went on to a drain of a block without live pages
-pub searched_found : (s t : Collector) (found : Bool) → found ≡ true → HasCollectedBy s (by.Restock found ∷ []) t → HasSearched s true t
-searched_found s t found is restock = record {
-  answers = by.Restock true ∷ [];
-  search = inl refl;
-  told = refl;
-  collected = subst (λ (b : Bool). HasCollectedBy s (by.Restock b ∷ []) t) is restock;
-}
 
 pub searched_dead : (s t u : Collector) (found : Bool) (dead : Drain) (gained : Bool) → found ≡ false → HasCollectedBy s (by.Restock found ∷ []) t
     → HasCollectedBy t (by.DrainDead dead ∷ []) u → gained ≡ has_drained dead → HasSearched s gained u

@@ -1,5 +1,5 @@
 -- One line: what a read, a trim, a write that was done and one that was turned away tell, as one record.
-use Rattle.std.proofs.Common.{◌≡◌, ℕ, suc, ◌+◌, ◌<◌, ◌≤◌, ◌⊎◌, Bool, true, false, List, [], ◌∷◌, ◌++◌, Option, None, Some, sym, refl, ap, ◌∙◌, subst, arith}
+use Rattle.std.proofs.Common.{◌≡◌, ℕ, ◌+◌, ◌<◌, ◌≤◌, ◌⊎◌, Bool, true, false, List, [], ◌∷◌, ◌++◌, Option, None, Some, sym, refl, ap, ◌∙◌, subst, arith}
 use Rattle.std.proofs.Common.{append_assoc, append-nil, length-append}
 use Rattle.std.specs.{Prelude.if◌then◌else◌, List.range_with_len}
 use mathlib.Core.Logic.{inl, inr}
@@ -8,7 +8,7 @@ use Rattle.geometry.specs.{Sectors.Sector, Sectors.Answers, Sectors.was_of, decl
 use Rattle.geometry.proofs.Histories.{Begins-refl}
 use Rattle.flash_rule.specs.{declared.view.View.View, Plays.Called}
 use Rattle.flash_table.specs.{declared.pass.OpenBlock.OpenBlock, Owning.owned_list, Owning.owned_of}
-use Rattle.host.specs.Told.{Searched, Programmed, Refused}
+use Rattle.host.specs.Told.{Searched, Programmed}
 use Rattle.trace.specs.declared.commands.Op.{Op}
 use Rattle.rounds.specs.{declared.answer.Kind.Kind, Lines.kind_of, Lines.is_full, Lines.calls_by, Lines.IsFound, Lines.IsRight}
 use Rattle.rounds.specs.Playing.{one_done, all_taken, with_play, WriteFound, LineFound, PlayAdds}
@@ -69,12 +69,6 @@ was_not_full : (a : Was) → is_full (kind_of a) ≡ false
 was_not_full was.Empty = refl
 was_not_full was.Written = refl
 
--- one try more that finds no block
-taken_more : (blocks tries : ℕ) → all_taken blocks (tries + 1) ≡ all_taken blocks tries ++ range_with_len 0 blocks
-taken_more blocks tries =
-    let next : suc tries ≡ tries + 1 = omega arith in
-    subst (λ k. all_taken blocks k ≡ all_taken blocks tries ++ range_with_len 0 blocks) next refl
-
 -- a look that is done is one line
 pub read_line : (t patience : ℕ) (v : View) (s tries : ℕ) (value old page : List ℕ) (g : Got) (k : Kind) (w : View) → Searched v tries w
     → Answers (held v.numbers.sectors w.seen s) g old page → k ≡ kind_found g
@@ -112,22 +106,6 @@ trim_line t patience v s value page a k w told is =
 pub record Waited (tries : ℕ) (v u : View) : Type 0 where
   pub changed : u ≡ record v { denied = u.denied }
   pub denied : u.denied ≡ v.denied ++ all_taken v.numbers.blocks tries
-
-pub waited_none : (v : View) → Waited 0 v v
-waited_none v = record { changed = refl; denied = sym (append-nil v.denied) }
-
-pub waited_more : (tries : ℕ) (v u w : View) → Waited tries v u → Refused u w → Waited (tries + 1) v w
-waited_more tries v u w waited refused =
-    record {
-      changed = refused.changed ∙ ap (λ (x : View). record x { denied = w.denied }) waited.changed;
-      denied =
-          let n = v.numbers.blocks in
-          let row : range_with_len 0 u.numbers.blocks ≡ range_with_len 0 n = ap (λ (x : View). range_with_len 0 x.numbers.blocks) waited.changed in
-          refused.grown
-          ∙ (ap (λ l. u.denied ++ l) row
-          ∙ (ap (λ l. l ++ range_with_len 0 n) waited.denied
-          ∙ (append_assoc v.denied (all_taken n tries) (range_with_len 0 n) ∙ ap (λ l. v.denied ++ l) (sym (taken_more n tries)))));
-    }
 
 -- An op that makes this kind of call, by a page that it programs, and may be turned away
 pub record IsWrite (o : Op) (call : ℕ → ℕ → List ℕ → Call) : Type 0 where

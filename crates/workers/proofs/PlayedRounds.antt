@@ -1,9 +1,7 @@
 -- Workers play a round, meet, and stay manned.
 use Rattle.std.proofs.Common.{◌≡◌, ℕ, zero, suc, ◌+◌, ◌<◌, All, List, [], ◌∷◌, map, length, ◌++◌, get_or, refl, sym, ap, ◌∙◌, subst, arith, append-nil}
 use Rattle.std.specs.Arc.{arc_value}
-use Rattle.std.proofs.lemmas.List.{drop_all, get_or-map, get_or_default, length-map, Elements.All-head, Elements.All-tail}
-use mathlib.Core.Logic.{dite}
-use native.Mathlib.Decide.{ℕ_discrete}
+use Rattle.std.proofs.lemmas.List.{drop_all, get_or-map, length-map, Elements.All-head, Elements.All-tail}
 use Rattle.flash_rule.specs.declared.{facts.Name.TheVariants.Pass as APass, facts.Role.TheVariants.Player, view.View.View}
 use Rattle.flash_table.specs.{declared.pass.Pass.Pass, Flash.view_of}
 use Rattle.trace.specs.declared.commands.Command.{Command}
@@ -99,14 +97,3 @@ idle_played n p idle =
 pub idles_played : (n : RoundLimits) (workers : List Worker) → All (IsIdle n.end) workers → HavePlayed n workers workers
 idles_played n [] idle = tt
 idles_played n (p ∷ workers) idle = (idle_played n p (All-head (IsIdle n.end) p workers idle), idles_played n workers (All-tail (IsIdle n.end) p workers idle))
-
--- one idle worker more
-pub idle_more : (end : ℕ) (workers : List Worker) (i : ℕ) (p : Worker) → p ≡ get_or workers i p → IsIdle end p
-    → ((k : ℕ) (d : Worker) → k < i → k < length workers → IsIdle end (get_or workers k d))
-    → (k : ℕ) (d : Worker) → k < i + 1 → k < length workers → IsIdle end (get_or workers k d)
-idle_more end workers i p there idle all k d low below =
-    dite (ℕ_discrete k i)
-    (λ same.
-    let here : p ≡ get_or workers k d = there ∙ (ap (λ j. get_or workers j p) (sym same) ∙ get_or_default workers k p d below) in
-    subst (IsIdle end) here idle)
-    (λ other. all k d (omega arith) below)

@@ -171,8 +171,3 @@ module _ (volume : Volume) (workers : List Worker) (first now last : Worker) (ot
       (all_met volume first.pass now.pass last.pass (passes_of others) (passes_of qs) (passes_of rs) one two (all_ready volume (first ∷ others) here)
       (ready_at volume now at_now)
       (all_ready volume (last ∷ rs) (All-cons (IsAt volume) last rs at_last at_rs)) (subst (λ l. AreSeated (passes_of l)) row seated) count)
-
-  pub rests_met : rest_of now ≡ rest_of first → rest_of last ≡ rest_of now → map rest_of qs ≡ map rest_of others → map rest_of rs ≡ map rest_of qs
-      → map rest_of (last ∷ rs) ≡ map rest_of workers
-  rests_met same_now same_last same_qs same_rs =
-      ap (λ r. r ∷ map rest_of rs) (same_last ∙ same_now) ∙ (ap (λ l. rest_of first ∷ l) (same_rs ∙ same_qs) ∙ sym (ap (map rest_of) row))

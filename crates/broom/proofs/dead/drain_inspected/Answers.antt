@@ -7,7 +7,7 @@ use Rattle.flash_table.proofs.BroomResults.{loaded_changed}
 use Rattle.broom.specs.Ready.{IsRested}
 use Rattle.broom.proofs.DeadBlocks.{blocks_back, drained_dead, load_listed, rested_as, rested_drained}
 use Rattle.broom.proofs.Unmarking.{ready_unmarked}
-use Rattle.broom.proofs.dead.drain_inspected.{Given.Over, Goals.Then-ne, Goals.Then-not-inspect, Goals.Else-not-inspect}
+use Rattle.broom.proofs.dead.drain_inspected.{Given.Over, Goals.Else-not-inspect}
 use Rattle.broom.proofs.dead.drain_inspected.Goals as goal
 
 -- the block isn't closed

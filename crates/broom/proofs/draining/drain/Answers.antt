@@ -1,4 +1,3 @@
-use Rattle.std.proofs.Common.{ap, sym, ◌∙◌, is_some}
 use Rattle.broom.proofs.Drains.{drain_told, drain_left}
 use Rattle.broom.proofs.draining.drain.Goals as goal
 

@@ -4,7 +4,7 @@ use Rattle.geometry.specs.declared.pin_word.Phase.TheVariants.{Victim}
 use Rattle.flash_table.specs.Flash.{IsBroomOf, broom_view, own_blocks}
 use Rattle.broom.specs.{Ready.IsRested, Ready.view_of_broom, Relocating.Sweeps, Told.DidDrainAgain}
 use Rattle.broom.proofs.{Unmarking.ready_unseen, Choosing.rested_lost}
-use Rattle.broom.proofs.Drains.{low_mark, low_block, state_closed, last_loaded, victim_of_state, claimed_sweeps, claimed_room, drained_so}
+use Rattle.broom.proofs.Drains.{low_mark, last_loaded, victim_of_state, claimed_sweeps, drained_so}
 use Rattle.broom.proofs.draining.drain_marked.{Given.Over, Goals.Else-not-claim, Goals.After-relocate-copied}
 use Rattle.broom.proofs.draining.drain_marked.Goals.{After-drain}
 use Rattle.broom.proofs.draining.drain_marked.Goals as goal

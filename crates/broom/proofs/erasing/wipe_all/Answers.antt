@@ -1,5 +1,4 @@
-use Rattle.std.proofs.Common.{◌≡◌, ◌+◌, ◌*◌, sym, ap, ◌∙◌, arith}
-use Rattle.broom.proofs.{Wiping.wiped_none, Wiping.wiped_more, Wiping.still_erases, erasing.wipe_all.Goals.In-Erasing}
+use Rattle.broom.proofs.{Wiping.wiped_none}
 use Rattle.broom.proofs.erasing.wipe_all.Goals as goal
 
 pub loop-i-init : goal.loop-i-init

@@ -1,4 +1,4 @@
-use Rattle.std.proofs.Common.{sym, ap, ◌∙◌, subst, refl}
+use Rattle.std.proofs.Common.{sym, ap, ◌∙◌, subst}
 use Rattle.flash_rule.specs.{World.sector_word, BroomPlays.Named, declared.view.View.View, Seats.host_of, Seats.lent_note, Seats.home}
 use Rattle.flash_table.specs.Flash.{broom_view, note_view}
 use Rattle.broom.specs.{Ready.view_of_broom, Meeting.BroomsMet}

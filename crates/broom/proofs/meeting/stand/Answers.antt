@@ -1,4 +1,4 @@
-use Rattle.std.proofs.Common.{◌≡◌, sym, ap, ◌∙◌, subst, arith}
+use Rattle.std.proofs.Common.{◌≡◌, sym, ap, ◌∙◌, subst}
 use Rattle.flash_rule.specs.{World.sector_word, declared.view.View.View, Plays.Spared, BroomPlays.Named}
 use Rattle.flash_rule.specs.Seats.{carried, host_of, lent_note, home, giver, given_note}
 use Rattle.flash_table.specs.Flash.{broom_view, note_view, view_of}

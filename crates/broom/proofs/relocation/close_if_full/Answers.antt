@@ -1,9 +1,9 @@
-use Rattle.broom.proofs.{Leaving.can_close, relocation.close_if_full.Goals.In-Some, relocation.close_if_full.Goals.After-pages}
+use Rattle.broom.proofs.{relocation.close_if_full.Goals.In-Some, relocation.close_if_full.Goals.After-pages}
 use Rattle.std.proofs.Common.{◌≡◌, Some, sym, ap, ◌∙◌, arith}
 use Rattle.geometry.specs.Geometry.{pages_of}
 use Rattle.flash_rule.specs.Views.{without}
 use Rattle.flash_table.specs.{declared.broom_seat.BroomBlocks.BroomBlocks, Flash.broom_view, Flash.own_blocks, Flash.geometry_of}
-use Rattle.broom.proofs.Clearing.{closed_tidied, closed_sweeps, left_tidied, left_sweeps}
+use Rattle.broom.proofs.Clearing.{closed_tidied, closed_sweeps, left_tidied}
 use Rattle.broom.proofs.relocation.close_if_full.Goals as goal
 
 opened : (c : In-Some) → (own_blocks c.args.seat.now).destination ≡ Some c.in-Some.destination

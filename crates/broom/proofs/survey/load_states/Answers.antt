@@ -1,7 +1,7 @@
 use Rattle.std.proofs.Common.{◌≡◌, ◌+◌, Bool, set, sym, ap, ◌∙◌, subst, arith}
 use Rattle.geometry.specs.Geometry.{blocks_of}
 use Rattle.flash_table.specs.Flash.{broom_view, own_blocks, geometry_of}
-use Rattle.broom.proofs.Loading.{LoadedTo, loaded_more, loaded_all}
+use Rattle.broom.proofs.Loading.{LoadedTo, loaded_more}
 use Rattle.broom.proofs.survey.load_states.Goals as goal
 
 pub loop-block-preserved : goal.loop-block-preserved

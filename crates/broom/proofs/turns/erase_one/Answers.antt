@@ -1,4 +1,3 @@
-use Rattle.std.proofs.Common.{◌<◌, subst}
 use Rattle.broom.proofs.{Turning.erased_one, Turning.pinned_one}
 use Rattle.broom.proofs.turns.erase_one.Goals as goal
 

@@ -1,6 +1,6 @@
-use Rattle.std.proofs.Common.{◌<◌, ◌≤◌, ◌+◌, length, ap, arith}
+use Rattle.std.proofs.Common.{◌<◌, ◌+◌, length, ap, arith}
 use Rattle.durable.specs.Collecting.{weight}
-use Rattle.durable.proofs.Counts.{counted_next, live_take, kept_in_all}
+use Rattle.durable.proofs.Counts.{counted_next, live_take}
 use Rattle.durable.proofs.counting.counts_of.Goals as goal
 
 pub count-requires : goal.count-requires

@@ -1,5 +1,5 @@
-use Rattle.std.proofs.Common.{◌<◌, length, refl, ◌∙◌, arith}
-use Rattle.durable.proofs.Extents.{maps_none, maps_next, maps_end}
+use Rattle.std.proofs.Common.{refl, arith}
+use Rattle.durable.proofs.Extents.{maps_none}
 use Rattle.durable.proofs.counting.remap_all.Goals as goal
 
 pub loop-sector-init : goal.loop-sector-init

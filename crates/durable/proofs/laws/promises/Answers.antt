@@ -1,7 +1,7 @@
-use Rattle.std.proofs.Common.{◌≢◌, inl, inr, ⊎_elim, ℕ, List, [], ◌∷◌, None, Some, refl, ◌∙◌, subst, arith}
-use Rattle.durable.specs.Updates.{Update, array_after, IsSubsequence, sole}
-use Rattle.durable.specs.Flash.{Flash, IsErased, RecoversSector}
-use Rattle.durable.proofs.Cells.{erased_has_none, some_none, shown_value}
+use Rattle.std.proofs.Common.{List, None, refl, subst, arith}
+use Rattle.durable.specs.Updates.{Update, array_after}
+use Rattle.durable.specs.Flash.{RecoversSector}
+use Rattle.durable.proofs.Cells.{shown_value}
 use Rattle.durable.proofs.laws.promises.Goals as goal
 
 pub returns-clause-not_begun : goal.returns-clause-not_begun

@@ -1,4 +1,4 @@
-use Rattle.std.proofs.Common.{◌+◌, ℕ, refl, subst}
+use Rattle.std.proofs.Common.{◌+◌, ℕ, subst}
 use Rattle.durable.specs.Failures.{IsSwapped}
 use Rattle.durable.specs.Runs.{failures_in}
 use Rattle.durable.proofs.laws.reserves.Goals as goal

@@ -1,4 +1,4 @@
-use Rattle.std.proofs.Common.{refl, sym, ◌∙◌, subst}
+use Rattle.std.proofs.Common.{sym, ◌∙◌}
 use Rattle.durable.proofs.Cells.{erased_holds_none}
 use Rattle.durable.proofs.laws.runs.Goals as goal
 

@@ -1,4 +1,4 @@
-use Rattle.std.proofs.Common.{ap, arith, subst}
+use Rattle.std.proofs.Common.{arith}
 use Rattle.durable.proofs.laws.unharmed.Goals as goal
 
 pub returns-clause-alone : goal.returns-clause-alone

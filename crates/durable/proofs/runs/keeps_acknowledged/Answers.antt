@@ -1,5 +1,5 @@
 use Rattle.durable.proofs.Exact.{runs_each}
-use Rattle.durable.proofs.Promises.{erased_recoverable, runs_consistent, runs_keep}
+use Rattle.durable.proofs.Promises.{runs_consistent, runs_keep}
 use Rattle.durable.proofs.runs.keeps_acknowledged.Goals as goal
 
 pub returns-clause-keeps : goal.returns-clause-keeps

@@ -1,4 +1,4 @@
-use Rattle.durable.proofs.Promises.{readable_renumbered, blank_recoverable}
+use Rattle.durable.proofs.Promises.{readable_renumbered}
 use Rattle.durable.proofs.runs.survives_failures.Goals as goal
 
 pub returns-clause-renumbered : goal.returns-clause-renumbered

@@ -1,4 +1,4 @@
-use Rattle.durable.proofs.Unharmed.{erased_unharmed, runs_of, runs_whole}
+use Rattle.durable.proofs.Unharmed.{runs_of, runs_whole}
 use Rattle.durable.proofs.runs.tells_no_false_loss.Goals as goal
 
 pub returns-clause-runs : goal.returns-clause-runs

@@ -1,4 +1,4 @@
-use Rattle.std.proofs.{Common.◌≡◌, Common.sym, Common.ap, Common.◌∙◌, Common.subst, Common.arith, lemmas.Grind.common_steps}
+use Rattle.std.proofs.{Common.◌≡◌, Common.sym, Common.ap, Common.◌∙◌, Common.subst}
 use Rattle.flash_rule.specs.{World.sector_word, Plays.Looked, declared.view.View.View}
 use Rattle.flash_rule.specs.Seats.{host_of, lent_note, home, lender, given_note}
 use Rattle.flash_table.specs.Flash.{view_of, note_view}

@@ -1,4 +1,4 @@
-use Rattle.std.proofs.{Common.arith, Common.rules, lemmas.Grind.common_steps}
+use Rattle.std.proofs.{Common.rules}
 use Rattle.host.proofs.reading.read_gated.Goals as goal
 
 pub returns-in_default-clause-answer : goal.returns-in_default-clause-answer

@@ -1,4 +1,4 @@
-use Rattle.std.proofs.{Common.◌+◌, Common.refl, Common.◌∙◌, Common.arith, lemmas.Grind.common_steps}
+use Rattle.std.proofs.{Common.◌+◌, Common.refl, Common.◌∙◌}
 use Rattle.flash_rule.specs.declared.facts.Pin.TheVariants.{Accepted}
 use Rattle.flash_table.specs.Flash.{device, view_of}
 use Rattle.host.proofs.ReadingSearch.{search_begins, search_pins, search_goes_on, late_nearer, sighted, found, found_empty}

@@ -2,8 +2,8 @@ use Rattle.std.proofs.Common.{◌≡◌, ◌∙◌, Err, ap, arith}
 use Rattle.durable.specs.declared.fault.MountFault.TheVariants as mount_fault
 use Rattle.nand.specs.declared.failure.OpenFailure.TheVariants as why
 use Rattle.nand.specs.Numbers.{good_before}
-use Rattle.nand.specs.Opened.{most_used, used_blocks}
-use Rattle.nand.proofs.Orders.{capacity_of_good, capacity_of_used, mountable, written_in_order}
+use Rattle.nand.specs.Opened.{used_blocks}
+use Rattle.nand.proofs.Orders.{capacity_of_used, mountable, written_in_order}
 use Rattle.nand.proofs.mounting.mount.Goals as goal
 
 pub returns-in-Ok-clause-reserve : goal.returns-in-Ok-clause-reserve

@@ -1,7 +1,7 @@
 use Rattle.std.proofs.Common.{◌∙◌, Err, refl, sym, ap, subst, arith}
 use Rattle.durable.specs.Device.{Device, IsWrittenOn}
 use Rattle.durable.specs.Mounting.{next_in}
-use Rattle.durable.specs.Promise.{IsReadable, IsRecoverable}
+use Rattle.durable.specs.Promise.{IsRecoverable}
 use Rattle.nand.specs.declared.flash.Shape.{Shape}
 use Rattle.nand.specs.Numbers.{numbered}
 use Rattle.nand.specs.Opened.{device_using}

@@ -1,4 +1,4 @@
-use Rattle.std.proofs.Common.{◌∙◌, ℕ, length, ap}
+use Rattle.std.proofs.Common.{◌∙◌, ℕ, ap}
 use Rattle.durable.specs.Failures.{swapped}
 use Rattle.nand.specs.Numbers.{chip_block}
 use Rattle.nand.proofs.Orders.{takes}

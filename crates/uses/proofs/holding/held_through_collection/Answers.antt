@@ -1,4 +1,4 @@
-use Rattle.std.proofs.Common.{◌≡◌, ◌∙◌, ap, refl, sym}
+use Rattle.std.proofs.Common.{◌∙◌, sym}
 use Rattle.uses.proofs.holding.held_through_collection.Goals as goal
 
 pub returns-clause-same : goal.returns-clause-same

@@ -1,4 +1,3 @@
-use Rattle.std.proofs.Common.{◌≡◌, sym, ap, subst, List}
 use Rattle.uses.proofs.standing.held_beside_a_writer.Goals as goal
 
 pub returns-clause-brought : goal.returns-clause-brought

@@ -1,4 +1,4 @@
-use Rattle.std.proofs.Common.{◌≡◌, zero, suc, true, false, List, [], ◌∷◌, ap, sym, refl, ◌∙◌, arith}
+use Rattle.std.proofs.Common.{[], refl, arith}
 use Rattle.uses.specs.Together.{read_by}
 use Rattle.uses.proofs.together.reads_may_be_shared.Goals as goal
 

@@ -1,5 +1,5 @@
 use Rattle.std.proofs.Common.{All, List, ◌∷◌, sym, refl, subst}
-use Rattle.std.proofs.lemmas.List.Elements.{All-cons, All-head, All-rest}
+use Rattle.std.proofs.lemmas.List.Elements.{All-rest}
 use Rattle.geometry.specs.Geometry.{sectors_of, hosts_of}
 use Rattle.flash_rule.proofs.Owning.{some_same}
 use Rattle.flash_table.specs.{declared.pass.Pass.Pass, Flash.geometry_of, Flash.device, Flash.view_of}

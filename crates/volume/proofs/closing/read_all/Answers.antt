@@ -1,4 +1,4 @@
-use Rattle.std.proofs.{Common.◌+◌, Common.sym, Common.arith, Common.subst, Common.List, lemmas.Grind.common_steps}
+use Rattle.std.proofs.{Common.◌+◌, Common.sym, Common.arith, Common.subst, Common.List}
 use Rattle.std.specs.Option.{option_map}
 use Rattle.geometry.specs.{Sectors.Sector, Geometry.sectors_of}
 use Rattle.flash_table.specs.Flash.{view_of, geometry_of}

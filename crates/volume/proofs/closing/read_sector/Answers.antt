@@ -1,4 +1,4 @@
-use Rattle.std.proofs.{Common.arith, Common.rules, lemmas.Grind.common_steps}
+use Rattle.std.proofs.{Common.arith, lemmas.Grind.common_steps}
 use Rattle.flash_table.specs.Flash.{view_of}
 use Rattle.volume.proofs.Looks.{looked-refl}
 use Rattle.volume.proofs.closing.read_sector.Goals as goal

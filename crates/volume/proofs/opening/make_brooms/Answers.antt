@@ -1,4 +1,4 @@
-use Rattle.std.proofs.{Common.◌≡◌, Common.None, Common.length, Common.sym, Common.ap, Common.arith, lemmas.Grind.common_steps, lemmas.List.length_push}
+use Rattle.std.proofs.{Common.◌≡◌, Common.None, Common.length, Common.sym, Common.ap, Common.arith, lemmas.List.length_push}
 use Rattle.std.{proofs.lemmas.List.Elements.All-weaker, specs.Vec.Iter.into_iter_items}
 use Rattle.flash_table.specs.declared.broom_seat.BroomSeat.{BroomSeat}
 use Rattle.broom.specs.{declared.broom.Broom.Broom, Handing.aside_of, Ready.IsReady, Ready.IsRested}

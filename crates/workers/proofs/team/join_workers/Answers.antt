@@ -1,4 +1,4 @@
-use Rattle.std.proofs.Common.{◌≡◌, List, [], ◌∷◌, refl, sym, ◌∙◌, subst, map, append-nil, append_assoc, arith}
+use Rattle.std.proofs.Common.{◌≡◌, List, [], sym, ◌∙◌, subst, map, append-nil}
 use Rattle.std.proofs.lemmas.List.{nil_from_length}
 use Rattle.workers.specs.{declared.worker.Worker.Worker, declared.worker.tasks.Task.Task, Tasks.asked, Tasks.WerePlayed}
 use Rattle.workers.proofs.team.join_workers.Goals as goal

@@ -6,7 +6,7 @@ use Rattle.die.specs.{Die.block_of, Die.ChangesBlock, Pages.Page, Pages.page_at,
 use Rattle.die.{specs.declared.die.Die.Die, specs.Slots.PutsSlot, specs.Slots.slot, proofs.Blocks.Adds}
 use Rattle.die.proofs.Dies.{state_of, state_read, next_small, counted, sound-set, sound-counted, adds_page, changes_by_adding, pages_within, page-stored}
 use Rattle.die.proofs.die.Die.copyback.Goals as goal
-use Rattle.die.proofs.die.Die.copyback.Goals.{After-deref_mut, After-index_mut-2}
+use Rattle.die.proofs.die.Die.copyback.Goals.{After-index_mut-2}
 
 pub place_of-source-requires-clause-page : goal.place_of-source-requires-clause-page
 place_of-source-requires-clause-page c =

@@ -1,8 +1,8 @@
-use Rattle.std.proofs.Common.{refl, arith, ◌≡◌, ◌+◌, ◌<◌, ◌^◌, ◌∙◌, sym, subst, ℕ, List, length, IfSome}
+use Rattle.std.proofs.Common.{refl, arith, ◌≡◌, ◌+◌, ◌<◌, sym, subst, ℕ, List, length}
 use Rattle.geometry.specs.declared.page_addr.PageAddr.{PageAddr}
 use Rattle.durable.specs.Mounting.{IsStampOf, TellsValues}
 use Rattle.durable.specs.Candidates.{IsFoundWith}
-use Rattle.durable.proofs.Noting.{of_next, some_left, fits_device}
+use Rattle.durable.proofs.Noting.{of_next, some_left}
 use Rattle.durable.proofs.Kept.{found_size, values_next, values_wrap}
 use Rattle.durable.proofs.Scans.{finds_wrap}
 use Rattle.durable.proofs.Counted.{noted_all, counts_wrap, prefers_wrap}

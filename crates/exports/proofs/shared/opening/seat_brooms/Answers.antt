@@ -3,7 +3,7 @@ use Rattle.volume.specs.declared.volume.Volume.{Volume}
 use Rattle.std.specs.Arc.{arc_value}
 use Rattle.volume.specs.Brooms.{IsBroomReady}
 use Rattle.exports.specs.Opening.{IsFirstBroom, IsFreshBroom}
-use Rattle.exports.proofs.DealtSeats.{fewer, taken_ready, taken_first, deal_goes_on}
+use Rattle.exports.proofs.DealtSeats.{taken_ready, taken_first, deal_goes_on}
 use Rattle.exports.proofs.shared.opening.seat_brooms.Goals as goal
 
 pub loop-broom-preserved : goal.loop-broom-preserved

@@ -3,7 +3,7 @@ use Rattle.std.specs.Arc.{arc_value}
 use Rattle.host.specs.Ready.{IsReady}
 use Rattle.volume.specs.Volume.{flash_of}
 use Rattle.exports.specs.Opening.{IsFirstPass, IsFreshHost}
-use Rattle.exports.proofs.DealtSeats.{fewer, taken_first, deal_goes_on}
+use Rattle.exports.proofs.DealtSeats.{taken_first, deal_goes_on}
 use Rattle.exports.proofs.shared.opening.seat_hosts.Goals as goal
 
 pub loop-pass-preserved : goal.loop-pass-preserved

@@ -1,4 +1,4 @@
-use Rattle.flash_table.proofs.{Permissions.of_broom, flash.Flash.put_copy_word.Goals.After-store}
+use Rattle.flash_table.proofs.{Permissions.of_broom}
 use Rattle.std.proofs.Common.{arith}
 use Rattle.flash_table.specs.{Owning.owned_of}
 use Rattle.flash_table.proofs.{PassSteps.put_here, PassSteps.put_fits, PassSteps.put_place}

@@ -1,6 +1,6 @@
-use Rattle.flash_table.proofs.{Permissions.whose, Permissions.of_pass, PassSteps.put_here, PassSteps.put_fits, PassSteps.put_place}
-use Rattle.std.proofs.Common.{◌+◌, ap, arith}
-use Rattle.flash_table.specs.{Flash.view_of, Owning.owned_of, Steps.HasPut}
+use Rattle.flash_table.proofs.{Permissions.of_pass, PassSteps.put_here, PassSteps.put_fits, PassSteps.put_place}
+use Rattle.std.proofs.Common.{arith}
+use Rattle.flash_table.specs.{Owning.owned_of}
 use Rattle.flash_table.proofs.flash.Flash.put_word.Goals as goal
 
 pub overflow_add-place : goal.overflow_add-place

@@ -1,4 +1,4 @@
-use Rattle.flash_table.proofs.{Permissions.of_pass, PassSteps.unpin_here, flash.Flash.unpin.Goals.After-fetch_sub}
+use Rattle.flash_table.proofs.{Permissions.of_pass, PassSteps.unpin_here}
 use Rattle.flash_table.proofs.flash.Flash.unpin.Goals as goal
 
 pub fetch_sub-requires : goal.fetch_sub-requires

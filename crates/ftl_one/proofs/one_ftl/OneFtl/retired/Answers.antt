@@ -1,6 +1,6 @@
 use Rattle.std.proofs.{Common.◌≡◌, Common.◌∙◌, Common.false, Common.sym, Common.ap, Common.refl, Common.arith, lemmas.List.get_or_read}
 use Rattle.ftl_one.{specs.declared.role.Role.Role, specs.OneFtl.geometry_of, specs.OneFtl.stock_of, specs.Laws.block_at, proofs.Layers.block_at-stock}
-use Rattle.ftl_one.specs.declared.role.Role.TheVariants.{Free, Open, Closed, Spare, Retired}
+use Rattle.ftl_one.specs.declared.role.Role.TheVariants.{Retired}
 use Rattle.ftl_one.specs.Stock.{Block, is_retired}
 use Rattle.ftl_one.proofs.one_ftl.OneFtl.retired.Goals as goal
 use Rattle.ftl_one.proofs.one_ftl.OneFtl.retired.Goals.{After-index}

@@ -2,7 +2,7 @@ use Rattle.std.proofs.Common.{◌∙◌, All, List, Bool, ℕ, refl, sym, ap, ar
 use Rattle.std.proofs.lemmas.List.Elements.{All-nil}
 use Rattle.nand.specs.Histories.{Leads}
 use Rattle.nand.specs.Opened.{CanOpen}
-use Rattle.nand.proofs.Histories.{Explains, all_more, leads_more, one_longer, same_chip}
+use Rattle.nand.proofs.Histories.{Explains, all_more, leads_more, one_longer}
 use Rattle.nand.proofs.layer.Durable.make_all.Goals as goal
 
 pub loop-i-init : goal.loop-i-init

@@ -1,8 +1,8 @@
-use Rattle.std.proofs.Common.{◌≡◌, ◌∙◌, ⊎_elim, ◌+◌, ℕ, List, Bool, refl, ap, subst, arith}
+use Rattle.std.proofs.Common.{◌≡◌, ◌∙◌, ◌+◌, ℕ, List, Bool, refl, ap, subst, arith}
 use Rattle.nand.specs.declared.flash.Shape.{Shape}
-use Rattle.nand.specs.Numbers.{Marks, chip_block, good_before, is_marked}
+use Rattle.nand.specs.Numbers.{Marks, chip_block, good_before}
 use Rattle.nand.specs.Opened.{layer_sectors, most_used, reserve_of, used_blocks}
-use Rattle.nand.proofs.Replacing.{fewer_good, mounted_open, one_less, openable_there, stays_marked}
+use Rattle.nand.proofs.Replacing.{fewer_good, mounted_open, one_less, openable_there}
 use Rattle.nand.proofs.layer.Durable.replace.Goals as goal
 
 pub returns-in-Ok-clause-replaced : goal.returns-in-Ok-clause-replaced

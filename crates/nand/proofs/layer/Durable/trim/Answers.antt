@@ -2,8 +2,8 @@ use Rattle.std.proofs.Common.{◌≡◌, None, Err, ap, subst}
 use Rattle.durable.specs.Updates.{array_after}
 use Rattle.nand.specs.Opened.{Were, update_of}
 use Rattle.nand.specs.declared.failure.Failure.TheVariants as failure
-use Rattle.nand.proofs.Steps.{fails_after, fails_open, keeps_after, keeps_same, marked_after, none_marked, not_failed, not_lost, not_memory, once_after}
-use Rattle.nand.proofs.Steps.{trims_nothing, true_after}
+use Rattle.nand.proofs.Steps.{fails_after, fails_open, marked_after, not_failed, not_lost, once_after}
+use Rattle.nand.proofs.Steps.{trims_nothing}
 use Rattle.nand.proofs.layer.Durable.trim.Goals as goal
 
 pub returns-in-Ok-Empty-clause-was : goal.returns-in-Ok-Empty-clause-was

@@ -4,7 +4,7 @@ use Rattle.geometry.specs.Sectors.{was_of}
 use Rattle.geometry.specs.declared.answer.Was.TheVariants as was
 use Rattle.durable.specs.Updates.{array_after, sole}
 use Rattle.nand.specs.Stored.{WereStored, stored_value}
-use Rattle.nand.proofs.Readings.{empty_within, stops_within, written_within}
+use Rattle.nand.proofs.Readings.{empty_within}
 use Rattle.nand.proofs.Steps.{stored_after, looks_after}
 use Rattle.nand.proofs.layer.Durable.were.Goals as goal
 

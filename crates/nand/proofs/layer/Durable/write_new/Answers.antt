@@ -1,10 +1,10 @@
-use Rattle.std.proofs.Common.{◌∙◌, Some, sym, subst}
+use Rattle.std.proofs.Common.{Some}
 use Rattle.durable.specs.Updates.{sole}
 use Rattle.geometry.specs.declared.answer.Was.TheVariants as was
 use Rattle.nand.specs.Opened.{update_of}
 use Rattle.nand.specs.declared.failure.Failure.TheVariants as failure
-use Rattle.nand.proofs.Steps.{fails_after, fails_open, if_err, if_ok, keeps_after, keeps_same, marked_after, not_failed, not_lost, not_memory, on_ok}
-use Rattle.nand.proofs.Steps.{once_after, true_after}
+use Rattle.nand.proofs.Steps.{fails_after, fails_open, if_err, if_ok, marked_after, not_failed, not_lost}
+use Rattle.nand.proofs.Steps.{once_after}
 use Rattle.nand.proofs.layer.Durable.write_new.Goals as goal
 
 pub returns-in-Ok-Empty-clause-fails : goal.returns-in-Ok-Empty-clause-fails

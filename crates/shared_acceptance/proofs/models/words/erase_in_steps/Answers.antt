@@ -1,8 +1,8 @@
 use Rattle.std.proofs.Common.{rules, ◌≡◌, sym, ap, ◌∙◌, arith}
 use Rattle.geometry.specs.{Geometry.endurance_of, Limits.Numbers, PinWords.pin_word, declared.pin_word.Phase.TheVariants.Drained}
 use Rattle.flash_rule.specs.declared.view.View.{View}
-use Rattle.flash_table.specs.declared.broom_seat.{BroomBlocks.BroomBlocks, Reclaiming.TheVariants.Nothing}
-use Rattle.flash_table.specs.Flash.{broom_view, own_blocks, geometry_of}
+use Rattle.flash_table.specs.declared.broom_seat.{BroomBlocks.BroomBlocks}
+use Rattle.flash_table.specs.Flash.{broom_view, own_blocks}
 use Rattle.broom.proofs.Renewing.{was_wiped, its, did_retire, rested_retired}
 use Rattle.shared_acceptance.proofs.Rested.{rested_loaded}
 use Rattle.shared_acceptance.proofs.models.words.erase_in_steps.Goals as goal

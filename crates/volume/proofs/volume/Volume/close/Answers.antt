@@ -1,4 +1,4 @@
-use Rattle.std.proofs.Common.{◌≡◌, ℕ, All, List, ◌∷◌, ◌++◌, Some, length, take, drop, sym, ap, ◌∙◌, subst, slice_get, arith}
+use Rattle.std.proofs.Common.{◌≡◌, ℕ, List, ◌∷◌, ◌++◌, Some, length, take, drop, sym, ap, ◌∙◌, subst, slice_get, arith}
 use Rattle.std.{proofs.Math.Seq.take-append_seam, specs.Vec.Iter.into_iter_items}
 use Rattle.geometry.specs.{Geometry.hosts_of, History.Call}
 use Rattle.flash_rule.specs.declared.view.View.{View}

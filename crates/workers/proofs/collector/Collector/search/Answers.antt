@@ -1,4 +1,4 @@
-use Rattle.workers.proofs.BroomTurns.{searched_dead, searched_found}
+use Rattle.workers.proofs.BroomTurns.{searched_dead}
 use Rattle.workers.proofs.collector.Collector.search.Goals as goal
 
 pub returns : goal.returns

@@ -1,6 +1,6 @@
 use Rattle.std.proofs.Common.{◌≡◌, ◌∙◌, sym, ap, arith}
 use Rattle.std.specs.Prelude.{◌||◌}
-use Rattle.workers.proofs.BroomTurns.{first_drain, next_drain, turn_done}
+use Rattle.workers.proofs.BroomTurns.{first_drain, next_drain}
 use Rattle.workers.proofs.collector.Collector.turn.Goals.{then-follow, else-follow}
 use Rattle.workers.proofs.collector.Collector.turn.Goals as goal
 

@@ -1,9 +1,9 @@
-use Rattle.std.proofs.{Common.◌≡◌, Common.ℕ, Common.List, Common.length, Common.sym, Common.ap, Common.◌∙◌, Common.subst, Common.arith, lemmas.List.length-map}
+use Rattle.std.proofs.{Common.◌≡◌, Common.ℕ, Common.List, Common.sym, Common.ap, Common.◌∙◌, Common.subst, Common.arith}
 use Rattle.std.specs.Arc.{arc_value}
-use Rattle.rounds.specs.{declared.answer_list.Answers.Answers, Plans.ends_of}
+use Rattle.rounds.specs.{Plans.ends_of}
 use Rattle.volume.specs.{declared.volume.Volume.Volume, Volume.flash_of}
 use Rattle.flash_table.specs.Flash.{geometry_of}
-use Rattle.workers.specs.{Served.AreAtRunStart, Runs.HasBegun, Workers.answers_kept}
+use Rattle.workers.specs.{Served.AreAtRunStart, Runs.HasBegun}
 use Rattle.workers.proofs.{FinalRows.all_paged, FinalRows.all_played, BroomCalls.collected_long, BroomServices.all_served}
 use Rattle.workers.proofs.runs.commands.play_commands.Goals as goal
 

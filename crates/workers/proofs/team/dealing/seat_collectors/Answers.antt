@@ -1,4 +1,4 @@
-use Rattle.std.proofs.{Common.length, Common.refl, Common.sym, Common.ap, Common.subst, Common.arith, lemmas.Grind.common_steps}
+use Rattle.std.proofs.{Common.length, Common.refl, Common.sym, Common.ap, Common.subst, Common.arith}
 use Rattle.broom.specs.declared.broom.Broom.{Broom}
 use Rattle.volume.specs.{declared.volume.Volume.Volume, Brooms.IsBroomReady}
 use Rattle.volume.proofs.FreshBrooms.{taken}

@@ -1,4 +1,4 @@
-use Rattle.std.proofs.{Common.length, Common.sym, Common.ap, Common.◌∙◌, Common.subst, Common.arith, lemmas.Grind.common_steps}
+use Rattle.std.proofs.{Common.length, Common.sym, Common.ap, Common.◌∙◌, Common.subst, Common.arith}
 use Rattle.flash_table.specs.{declared.pass.Pass.Pass, Flash.geometry_of}
 use Rattle.host.specs.Ready.{IsReady}
 use Rattle.volume.specs.{declared.volume.Volume.Volume, Volume.flash_of}

@@ -1,4 +1,4 @@
-use Rattle.std.proofs.{Common.sym, Common.subst, Common.arith, lemmas.Grind.common_steps}
+use Rattle.std.proofs.{Common.sym, Common.subst}
 use Rattle.volume.specs.declared.volume.Volume.{Volume}
 use Rattle.workers.specs.Dealing.{AreNew, AreReady}
 use Rattle.workers.proofs.team.opening.open_shared.Goals as goal

@@ -1,4 +1,4 @@
-use Rattle.std.proofs.Common.{◌≡◌, ℕ, ◌<◌, ◌≤◌, All, List, length, refl, sym, ap, ◌∙◌, subst}
+use Rattle.std.proofs.Common.{◌≡◌, ℕ, All, List, length, refl, sym, ap, ◌∙◌, subst}
 use Rattle.std.proofs.lemmas.List.{with_items_is}
 use Rattle.std.specs.{Arc.arc_value, Vec.with_items, List.slice_range}
 use Rattle.flash_table.specs.Flash.{view_of, geometry_of}
@@ -7,8 +7,7 @@ use Rattle.trace.specs.declared.commands.Command.{Command}
 use Rattle.rounds.specs.{Answers.HasSpaceFor, Playing.Played}
 use Rattle.workers.specs.{Playable.IsLine, Playable.HasAnswered, Playable.added, Playable.lines_at, Workers.answered, Workers.round_lines, Workers.round_places}
 use Rattle.volume.specs.{declared.volume.Volume.Volume, Volume.flash_of}
-use Rattle.workers.proofs.{Cursors.All-part, ReadyWorkers.able_again, ReadyWorkers.range_is, ReadyWorkers.round_all, ReadyWorkers.round_room}
-use Rattle.workers.proofs.{ReadyWorkers.round_size}
+use Rattle.workers.proofs.{ReadyWorkers.able_again, ReadyWorkers.range_is, ReadyWorkers.round_all, ReadyWorkers.round_room}
 use Rattle.workers.proofs.worker.Worker.play_before.{Given.Over, Goals.After-deref-4}
 use Rattle.workers.proofs.worker.Worker.play_before.Goals as goal
 

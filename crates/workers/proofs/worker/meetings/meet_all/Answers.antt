@@ -1,6 +1,6 @@
-use Rattle.std.proofs.{Common.All, Common.subst, lemmas.List.Elements.All-head, lemmas.List.Elements.All-tail}
+use Rattle.std.proofs.{Common.All, Common.subst, lemmas.List.Elements.All-tail}
 use Rattle.workers.specs.Meetings.{IsAt}
-use Rattle.workers.proofs.RoundMeetings.{same_at, all_same_at, workers_met, workers_seated, rests_met}
+use Rattle.workers.proofs.RoundMeetings.{all_same_at, workers_met, workers_seated}
 use Rattle.workers.proofs.worker.meetings.meet_all.Goals as goal
 
 pub meet_others-requires-2-clause-others : goal.meet_others-requires-2-clause-others

@@ -5,7 +5,7 @@ use Rattle.trace.specs.declared.commands.Command.{Command}
 use Rattle.volume.specs.Volume.{flash_of}
 use Rattle.workers.specs.Playable.{IsLine, lines_at}
 use Rattle.workers.proofs.PlayedLines.{line_there, count_lines, told_of_read}
-use Rattle.workers.proofs.AddedAnswers.{adding_none, adding_more, adding_end, all_answered, room_next}
+use Rattle.workers.proofs.AddedAnswers.{adding_none, adding_more, adding_end, room_next}
 use Rattle.workers.proofs.worker.plays.play_at.Goals as goal
 
 pub loop-i-init : goal.loop-i-init

@@ -1,4 +1,4 @@
-use Rattle.std.proofs.Common.{◌≡◌, ℕ, List, sym, ap, subst}
+use Rattle.std.proofs.Common.{◌≡◌, sym, ap, subst}
 use Rattle.geometry.specs.{Sectors.Answers, Geometry.sectors_of, History.held, Limits.Numbers}
 use Rattle.flash_table.specs.Flash.{view_of, geometry_of}
 use Rattle.trace.specs.declared.commands.Op.{Op}

@@ -1,7 +1,7 @@
 use Rattle.std.proofs.Common.{◌∙◌, ap, arith}
 use Rattle.flash_rule.specs.declared.view.View.{View}
 use Rattle.flash_table.specs.Flash.{view_of}
-use Rattle.workers.proofs.OneLine.{a_write, waited_none, waited_more, full_line, write_line}
+use Rattle.workers.proofs.OneLine.{a_write, full_line, write_line}
 use Rattle.workers.proofs.worker.plays.write_patiently.Goals as goal
 
 pub returns-in-Some-clause-played : goal.returns-in-Some-clause-played
