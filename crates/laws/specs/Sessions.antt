@@ -1,5 +1,6 @@
 -- Sessions as the laws of their ends name them.
-use Rattle.std.specs.{Prelude.◌≡◌, Prelude.ℕ, Prelude.List, Prelude.Option, Prelude.None, Prelude.Some, Prelude.Result, Prelude.codes, Io.KnownBytes.IsAtEnd}
+use Rattle.std.specs.Prelude.{◌≡◌, ⊤, ℕ, List, Option, None, Some, Result, codes}
+use Rattle.std.specs.Io.KnownBytes.{IsAtEnd}
 use Rattle.answers.specs.Streams.{Passage, Tells, Whole}
 use Rattle.clap.specs.Words.{Text, one_of}
 use Rattle.geometry.specs.{Geometry.numbers_of, declared.geometry.Geometry.Geometry}
@@ -9,7 +10,7 @@ use Rattle.player.specs.{declared.command_line.Options.Options}
 use Rattle.player.specs.declared.{run_files.RunFile.RunFile, stop.Stop.Stop}
 use Rattle.player.specs.declared.stop.Stop.TheVariants as stop
 use Rattle.runs.specs.declared.files.RunFiles.{RunFiles}
-use Rattle.streams.specs.declared.named_file.OpenFault.{OpenFault}
+use Rattle.streams.specs.{Watched.failures_of, declared.named_file.OpenFault.OpenFault}
 use Rattle.streams.specs.declared.named_file.OpenFault.TheVariants as open_fault
 
 -- a session ended with this status, whatever its files were; their names, why they were not opened, and their bytes are known by functions of
@@ -73,3 +74,14 @@ untold_bytes file = None
 -- files of a session, of which it is only known how often their calls failed
 abbrev pub unknown_files : RunFiles ℕ → RunFiles ℕ → Filings
 unknown_files old new = filings untold_name untold untold_bytes old new
+
+-- a session stopped before it opened a file
+abbrev pub IsEarly : Stop → Type 0
+IsEarly (stop.Arguments text) = ⊤
+IsEarly (stop.Geometry found) = ⊤
+IsEarly stop.Memory = ⊤
+IsEarly _ = ⊥
+
+-- no call of a file of a run failed
+abbrev pub NeitherFails : RunFiles ℕ → RunFiles ℕ → Type 0
+NeitherFails old new = (failures_of new.wear ≡ failures_of old.wear) × (failures_of new.collections ≡ failures_of old.collections)

@@ -54,7 +54,8 @@ pub use traces::lines::{
 };
 pub use traces::reports::{names_of_faults, stops_of_a_run, texts_of_a_stock};
 pub use traces::sessions::{
-    ends_of_a_session, files_of_a_session, options_of_a_session, refusals_of_files,
+    ends_of_a_session, files_left_by_a_session, files_of_a_session, options_of_a_session,
+    refusals_of_files,
 };
 pub use traces::texts::{logs_of_a_trace, texts_of_a_trace};
 pub use traces::{

@@ -1,4 +1,4 @@
-ghost use Rattle.std.specs.Prelude.{◌≡◌, ◌+◌, ℕ, IfSome, List, Option, [], ◌∷◌, Err, None, Ok, Result, Some, codes, false, not, true};
+ghost use Rattle.std.specs.Prelude.{◌≡◌, ◌+◌, ℕ, IfSome, List, Option, [], ◌∷◌, Err, None, Ok, Result, Some, codes, false, is_some, not, true};
 ghost use Rattle.answers.specs.{Answers.end_text, Outcome.ExplainsRun, declared.fault.RunFault.RunFault};
 ghost use Rattle.answers.specs.Streams.{Passage, Stream, stream_of, Part, Whole, Writes, Tells};
 ghost use Rattle.answers.specs.declared.delivery.OutputFailed.{OutputFailed};
@@ -7,9 +7,10 @@ ghost use Rattle.geometry.specs.{Geometry.hosts_of, Geometry.numbers_of, declare
 ghost use Rattle.geometry.specs.Limits.{first_fault, numbers};
 ghost use Rattle.player.specs.CommandLine.{AreOptionsOf, IsNumberIn, faults_given, numbers_given, rows_given, rows_named};
 ghost use Rattle.player.specs.Session.{AsksClap, HasFailedToOpen, IsIdle, IsLogBy, IsOpenedAs, IsRefused, IsRefusedAs, IsTextFor, portion_left_by};
-ghost use Rattle.player.specs.Session.{WritesFile, WritesSome};
+ghost use Rattle.player.specs.Session.{EndsOn, ExplainsFile, ExplainsStop, FailsToOpen, Helped, OpensFiles, WritesFile, WritesSome, stop_of_open};
 ghost use Rattle.player.specs.{Session.filing, Session.name_given, Telling.TellsStop};
 ghost use Rattle.player.specs.declared.command_line.Options.{Options};
+ghost use Rattle.player.specs.declared.{run_files.FileStop.FileStop, run_files.RunFile.RunFile};
 ghost use Rattle.player.specs.declared.run_files.FileStop.TheVariants as file_stop;
 ghost use Rattle.player.specs.declared.run_files.RunFile.TheVariants as run_file;
 ghost use Rattle.player.specs.Session.{Finishes, IsLogFor, counted_refusals, outcome_of, refusal_by};
@@ -21,7 +22,7 @@ ghost use Rattle.runs.specs.Collections.{IsLogOf};
 ghost use Rattle.streams.specs.{Watched.failures_of, Watched.inner_of, declared.named_file.OpenFault.OpenFault, declared.watched.Watched.Watched};
 ghost use Rattle.streams.specs.declared.named_file.OpenFault.TheVariants as open_fault;
 ghost use Rattle.laws.specs.Sessions.{EndsBy, EndsWith, Gives, PlaysAll, Reports, in_use, named_b, system_refused, unknown_files, untold, untold_bytes};
-ghost use Rattle.laws.specs.Sessions.{untold_name};
+ghost use Rattle.laws.specs.Sessions.{IsEarly, NeitherFails, untold_name};
 ghost use Rattle.runs.specs.declared.files.RunFiles.{RunFiles};
 ghost use Rattle.laws.specs.Streams.{Same, passes};
 
@@ -108,10 +109,49 @@ pub fn files_of_a_session()
         → (h : IsOpenedAs n b a t)
         → (stream_of b h.opened ≡ stream_of b a)
         × IfSome (n (inner_of h.opened)) (λ known. known ≡ t) }
-    ensures left { (f : RunFault) (g : Geometry) (i : Stream)
-        → ¬ Tells (portion_left_by 1 f true) (IsLogOf g) i (passes [] (2 ∷ [])) }
     ensures limit { (g : Geometry) (bytes text : List ℕ)
         → IsLogBy 1 7 g bytes text → IsBroomLogOf 7 g bytes text }
+{}
+
+/// The files of a run that a session leaves as they were, and the one that could not be opened, by how the session ended.
+pub fn files_left_by_a_session()
+    ensures early { (s : Stop) (w : List Text) (i o : Passage) (a b : RunFiles ℕ) → IsEarly s
+        → ExplainsStop s w i o (unknown_files a b) → IsIdle i o × NeitherFails a b }
+    ensures help { (r : Result (Unit {0}) OutputFailed) (w : List Text) (i o : Passage)
+        (a b : RunFiles ℕ) → Helped r w i o (unknown_files a b) → NeitherFails a b }
+    ensures with_workers { (f : RunFile) (g : Geometry) (given : Options) (i o : Passage)
+        (a b : RunFiles ℕ)
+        → ExplainsFile f file_stop.NotWithWorkers g given i o (unknown_files a b)
+        → (¬ (hosts_of g ≡ 0)) × (f ≡ run_file.Wear) × IsIdle i o × NeitherFails a b }
+    ensures not_opened { (f : RunFile) (g : Geometry) (given : Options) (i o : Passage)
+        (a b : RunFiles ℕ)
+        → ExplainsFile f file_stop.NotOpened g given i o (unknown_files a b)
+        → IsIdle i o × FailsToOpen f open_fault.Refused given (unknown_files a b) }
+    ensures in_use { (f : RunFile) (g : Geometry) (given : Options) (i o : Passage)
+        (a b : RunFiles ℕ)
+        → ExplainsFile f file_stop.NotItsOwn g given i o (unknown_files a b)
+        → IsIdle i o × FailsToOpen f open_fault.InUse given (unknown_files a b) }
+    ensures wear { (c : OpenFault) (given : Options) (a b : RunFiles ℕ)
+        → FailsToOpen run_file.Wear c given (unknown_files a b)
+        → (¬ (failures_of b.wear ≡ failures_of a.wear))
+        × (failures_of b.collections ≡ failures_of a.collections) }
+    ensures log { (c : OpenFault) (given : Options) (a b : RunFiles ℕ)
+        → FailsToOpen run_file.Collections c given (unknown_files a b)
+        → (failures_of b.wear ≡ failures_of a.wear)
+        × (¬ (failures_of b.collections ≡ failures_of a.collections)) }
+    ensures stopped { (f : RunFault) (g : Geometry) (given : Options) (i o : Passage)
+        (a b : RunFiles ℕ) → EndsOn (Err (stop.Run f)) g given i o (unknown_files a b)
+        → (failures_of b.wear ≡ failures_of a.wear)
+        × Tells (portion_left_by (hosts_of g) f (is_some given.collections)) (IsLogOf g)
+        i.before (unknown_files a b).collections.stream }
+    ensures portion { (f : RunFault) (g : Geometry) (i : Stream)
+        → ¬ Tells (portion_left_by 1 f true) (IsLogOf g) i (passes [] (2 ∷ [])) }
+    ensures opened { (given : Options) (a b : RunFiles ℕ)
+        → OpensFiles (Ok tt) given (unknown_files a b) → NeitherFails a b }
+    ensures why { (f : RunFile) (c : FileStop) (given : Options) (a b : RunFiles ℕ)
+        → OpensFiles (Err (stop.File f c)) given (unknown_files a b)
+        → (o : OpenFault) × (c ≡ stop_of_open o) × (is_some (name_given f given) ≡ true)
+        × FailsToOpen f o given (unknown_files a b) }
 {}
 
 /// What the words of a command line give for each option: the number that they write for it or its default, the names of the files, and whether
