@@ -1,6 +1,5 @@
 """layout: checks the sources and scripts that git tracks or could track: the columns of a line, in characters, and the lines of a function's body, a
-file, and a term of a proof: a clause of a definition, to its end or its `where`, behind which are more terms. Pages and edits aren't measured.
-No lemma and no import of a proof may be there that nothing uses, but for worked rows."""
+file, and a term of a proof: a clause of a definition, to its end or its `where`, behind which are more terms. Pages and edits aren't measured."""
 
 import re
 import subprocess
@@ -14,8 +13,6 @@ TABLES = {
     "collection_and_wear_follow_the_worked_rows", "brooms_answer_as_the_rows_say", "drains_by_the_last_survey_answer_as_the_rows_say",
     "hosts_answer_as_the_rows_say", "each_call_leaves_the_words_of_the_table",
 }  # fmt: skip
-# Files of lemmas that stand for themselves.
-WORKED = {"crates/ftl_one/proofs/Rows.antt"}
 SIGNATURE = re.compile(r"( *)(?:pub |abbrev |unfoldable )*([^\s(){}\[\].,;:=]+) :(?: |$)")
 
 
@@ -52,41 +49,6 @@ def measured():
                 yield "a function", f"{name}:{text.count(chr(10), 0, it.start) + 1}: {it.name}", text.count("\n", it.body, it.end), "lines", FUNCTION
 
 
-def words(lines):
-    """The words of code lines."""
-    return set(re.findall(r"[^\s(){}\[\],;.:=λ→]+", "\n".join(it for it in lines if not re.match(r" *(?:--|(?:pub )?use )", it))))
-
-
-def lemmas(lines):
-    """Each lemma of a file, with the number of its first line and the words of the file's other lines. A field of a record is none."""
-    for at, line in enumerate(lines):
-        found = SIGNATURE.match(line)
-        if found and not (found[1] and "record " in next(it for it in lines[at::-1] if it.strip() and not it.startswith(found[1]))):
-            depth, name = found.groups()
-            own = re.compile(depth + r"(?: |[})\]]|unfolding |" + re.escape(name) + r" )")
-            end = next((n for n in range(at + 1, len(lines)) if not own.match(lines[n])), len(lines))
-            yield name, at + 1, words(lines[:at] + lines[end:])
-
-
-def unused(texts):
-    """Each import and each lemma of some proofs that nothing uses, given all sources by their names."""
-    code = "".join(text for name, text in texts.items() if name.endswith(".rt"))
-    proofs = {name: tree.by_module(text) for name, text in texts.items() if re.match(r"crates/\w+/proofs/.*\.antt$", name)}
-    taken = set(re.findall(r"\bproofs::(\w+)::([^\s,:()]+)", code))
-    for name, text in proofs.items():
-        known = words(text.splitlines())
-        for head, module, items, _ in tree.IMPORT.findall(text):
-            for item, _, here in (it.partition(" as ") for it in items.split(", ")):
-                taken.add((module.split(".")[-1], item))
-                if "◌" not in item and (here or item) not in (*known, "[]") and not head.startswith("pub"):
-                    yield f"{name}: nothing uses the import {item}"
-    for name, text in proofs.items():
-        for lemma, line, others in lemmas(texts[name].splitlines()) if name.count("/") == 3 and name not in WORKED else ():
-            if "◌" not in lemma and lemma not in others and (name.split("/")[-1][:-5], lemma) not in taken:
-                yield f"{name}:{line}: nothing uses {lemma}"
-
-
 def main(_):
-    wrong = [f"{place}: {kind} of {length} {unit}, and at most {most} are wanted" for kind, place, length, unit, most in measured() if length > most]
-    wrong += unused({name: text for name, text in sources() if name.startswith("crates/")})
-    return tree.verdict(wrong, "no line, term, function or file is too long, and each lemma and import of a proof is used")
+    wrong = (f"{place}: {kind} of {length} {unit}, and at most {most} are wanted" for kind, place, length, unit, most in measured() if length > most)
+    return tree.verdict(wrong, "no line, term, function or file is too long")
