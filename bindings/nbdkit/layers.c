@@ -163,7 +163,8 @@ static int share_options(struct layers *layers, uint32_t layer, int is_finished)
     own->image = path_of(all, layer);
     own->seed += layer;
     own->sectors = (uint32_t) share_of(layers, layer, all->sectors, PAGES_OF_A_STRIPE);
-    own->blocks = all->has_blocks ? (all->blocks - 1) / layers->count + 1 : options_blocks(own);
+    uint32_t share = (all->blocks - 1) / layers->count + 1;
+    own->blocks = all->has_blocks ? (share + own->luns - 1) / own->luns * own->luns : options_blocks(own);
     own->has_numbers |= !is_finished;
     return own->image ? 0 : -1;
 }

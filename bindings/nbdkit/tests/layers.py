@@ -143,7 +143,8 @@ def unfinished(shop, words):
 
 def numbers_of_layers(shop):
     """The blocks are divided among the layers, or follow from the sectors of each; without numbers the disk has what it had."""
-    for words, blocks in ((["size=8M", "blocks=100", "pages=64", "luns=2"], 100), (["size=8M", "blocks=97"], 98), (["size=8M", "spare=12"], 44)):
+    for words, blocks in ((["size=8M", "blocks=100", "pages=64", "luns=2"], 100), (["size=8M", "blocks=97"], 98),
+                          (["size=8M", "blocks=98", "luns=2"], 100), (["size=8M", "spare=12"], 44)):
         directory = made(shop, *words, "layers=2")
         for again in ([], words):
             server = Server(shop, *again, image=directory)

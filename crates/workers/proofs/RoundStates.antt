@@ -6,7 +6,7 @@ use Rattle.std.proofs.lemmas.List.{length-drop, Elements.All-nil, Elements.All-c
 use mathlib.Core.Logic.{dite}
 use native.Mathlib.Decide.{ℕ_discrete}
 use Rattle.geometry.specs.History.{Call, Begins}
-use Rattle.geometry.proofs.Histories.{Begins-trans}
+use Rattle.geometry.proofs.Histories.{Begins-refl, Begins-trans}
 use Rattle.flash_rule.specs.declared.view.View.{View}
 use Rattle.trace.specs.declared.commands.Command.{Command}
 use Rattle.rounds.specs.{Lines.Said, Lines.calls_made, Orders.made, Orders.lines_of, Meetings.HavePlayed, Plans.meetings_from}
@@ -98,6 +98,17 @@ run_more t patience earlier lines more answers others v u w run played looked =
           subst (λ k. LinesFound patience k (lines ++ more) (answers ++ others) (run.found ++ played.found)) blocks
           (found-append patience v.numbers.blocks more others played.found played.tried lines answers run.found run.tried);
     }
+
+-- a worker that only looks
+pub run_begins : (t patience : ℕ) (v : View) → v.seen ≡ [] → v.mine ≡ [] → v.programs ≡ [] → HasRun t patience v.denied [] [] v
+run_begins t patience v seen mine programs = record {
+  plays = subst (λ h. Begins [] h) (sym seen) (Begins-refl []);
+  mine = mine;
+  programmed = ap (λ l. length l) programs;
+  found = [];
+  denied = sym (append-nil v.denied);
+  tried = refl;
+}
 
 -- lines with fewer answers, or with more than they need
 told_take : (lines : List Command) (answers : List Said) → told lines (take (length lines) answers) ≡ told lines answers
