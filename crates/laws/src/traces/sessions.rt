@@ -122,15 +122,18 @@ pub fn files_left_by_a_session()
     ensures with_workers { (f : RunFile) (g : Geometry) (given : Options) (i o : Passage)
         (a b : RunFiles ℕ)
         → ExplainsFile f file_stop.NotWithWorkers g given i o (unknown_files a b)
-        → (¬ (hosts_of g ≡ 0)) × (f ≡ run_file.Wear) × IsIdle i o × NeitherFails a b }
+        → (¬ (hosts_of g ≡ 0)) × (f ≡ run_file.Wear)
+        × (is_some (name_given f given) ≡ true) × IsIdle i o × NeitherFails a b }
     ensures not_opened { (f : RunFile) (g : Geometry) (given : Options) (i o : Passage)
         (a b : RunFiles ℕ)
         → ExplainsFile f file_stop.NotOpened g given i o (unknown_files a b)
-        → IsIdle i o × FailsToOpen f open_fault.Refused given (unknown_files a b) }
+        → (is_some (name_given f given) ≡ true) × IsIdle i o
+        × FailsToOpen f open_fault.Refused given (unknown_files a b) }
     ensures in_use { (f : RunFile) (g : Geometry) (given : Options) (i o : Passage)
         (a b : RunFiles ℕ)
         → ExplainsFile f file_stop.NotItsOwn g given i o (unknown_files a b)
-        → IsIdle i o × FailsToOpen f open_fault.InUse given (unknown_files a b) }
+        → (is_some (name_given f given) ≡ true) × IsIdle i o
+        × FailsToOpen f open_fault.InUse given (unknown_files a b) }
     ensures wear { (c : OpenFault) (given : Options) (a b : RunFiles ℕ)
         → FailsToOpen run_file.Wear c given (unknown_files a b)
         → (¬ (failures_of b.wear ≡ failures_of a.wear))
