@@ -5,7 +5,7 @@ use Rattle.std.proofs.{Math.ListN.get_or, lemmas.List.length-map, lemmas.List.le
 use Rattle.hex.specs.{Hex.decode_of, declared.error.FromHexError.FromHexError}
 use Rattle.geometry.specs.{Geometry.sectors_of, Geometry.page_bytes_of, declared.geometry.Geometry.Geometry}
 use Rattle.trace.specs.{Page.page_with, declared.commands.Command.Command, declared.commands.Op.Op, declared.fault.TraceFaultKind.TraceFaultKind}
-use Rattle.trace.specs.Trace.{◌>>=◌, number_below, op_of, page_of, page_of_bytes, command_of, checked, workers_of, records_of, AreCommands}
+use Rattle.trace.specs.Trace.{◌>>=◌, number_below, op_of, page_of_op, page_of_bytes, command_of, checked, workers_of, records_of, AreCommands}
 use Rattle.trace.specs.declared.commands.Op.TheVariants as op
 use Rattle.trace.specs.declared.fault.TraceFaultKind.TheVariants as fault
 use Rattle.answers.specs.Playable.{IsPlayable}
@@ -26,9 +26,9 @@ page_is_whole_from size (Ok bytes) page e =
     length-append bytes (replicate (size - length bytes) 0) ∙ ap (λ n. length bytes + n) (length-replicate (size - length bytes) 0) in
     grind (arith, nat_tests, e, sizes)
 
-page_is_whole : (size worker sector : ℕ) (which : Op) (digits page : List ℕ) → page_of size which worker sector digits ≡ Ok page
+page_is_whole : (size worker sector : ℕ) (which : Op) (digits page : List ℕ) → page_of_op size which worker sector digits ≡ Ok page
     → (which ≡ op.Write) ⊎ (which ≡ op.New) → length page ≡ size
-unfolding page_of
+unfolding page_of_op
 page_is_whole size worker sector op.Write digits page e w = page_is_whole_from size (decode_of digits) page e
 page_is_whole size worker sector op.New digits page e w = page_is_whole_from size (decode_of digits) page e
 page_is_whole size worker sector op.Read digits page e w = ⊎_elim (λ (no : op.Read ≡ op.Write). absurd (cc)) (λ (no : op.Read ≡ op.New). absurd (cc)) w
@@ -37,7 +37,7 @@ page_is_whole size worker sector op.Meet digits page e w = ⊎_elim (λ (no : op
 
 abbrev from_page : Geometry → List ℕ → ℕ → Op → ℕ → Result Command TraceFaultKind
 from_page geo digits worker which sector =
-    page_of (page_bytes_of geo) which worker sector digits >>= (λ page. Ok (record { worker = worker; op = which; sector = sector; page = page }))
+    page_of_op (page_bytes_of geo) which worker sector digits >>= (λ page. Ok (record { worker = worker; op = which; sector = sector; page = page }))
 
 abbrev from_sector : Geometry → List ℕ → List ℕ → ℕ → Op → Result Command TraceFaultKind
 from_sector geo sector_text digits worker which =
@@ -56,7 +56,7 @@ command_is_playable geo (worker_text ∷ op_text ∷ sector_text ∷ digits ∷ 
     let worker = passed (number_below (workers_of geo) fault.Worker worker_text) (from_op geo op_text sector_text digits) c e in
     let which = passed (op_of op_text) (from_sector geo sector_text digits worker.0) c worker.2 in
     let sector = passed (number_below (sectors_of geo) fault.Sector sector_text) (from_page geo digits worker.0 which.0) c which.2 in
-    let page = passed (page_of (page_bytes_of geo) which.0 worker.0 sector.0 digits)
+    let page = passed (page_of_op (page_bytes_of geo) which.0 worker.0 sector.0 digits)
     (λ page. Ok (record { worker = worker.0; op = which.0; sector = sector.0; page = page })) c sector.2 in
     let made : record { worker = worker.0; op = which.0; sector = sector.0; page = page.0 } ≡ c = cc (page.2) in
     subst (IsPlayable geo) made (record {

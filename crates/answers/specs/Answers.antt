@@ -4,7 +4,7 @@ use Rattle.std.specs.{Option.option_map_or, Option.option_to_list, List.flat_map
 use Rattle.geometry.specs.{Sectors.Sector, Sectors.was_of, History.Call, History.Write, History.WriteNew, History.Trim, History.held, declared.answer.Was.Was}
 use Rattle.geometry.specs.declared.answer.Was.TheVariants as was
 use Rattle.hex.specs.Hex.{encode_lower}
-use Rattle.trace.specs.{Trace.name_of, declared.commands.Command.Command, declared.commands.Op.Op}
+use Rattle.trace.specs.{Trace.op_name, declared.commands.Command.Command, declared.commands.Op.Op}
 use Rattle.trace.specs.declared.commands.Op.TheVariants as op
 use Rattle.answers.specs.declared.broom_line.BroomLine.{BroomLine}
 
@@ -52,7 +52,7 @@ answer_of refusal refused op.Meet sector = codes "met"
 
 -- a line of the output
 abbrev pub line_text : ℕ → Op → ℕ → List ℕ → List ℕ
-line_text line op sector answer = decimal line ++ codes "," ++ name_of op ++ codes "," ++ decimal sector ++ codes "," ++ answer ++ codes "\n"
+line_text line op sector answer = decimal line ++ codes "," ++ op_name op ++ codes "," ++ decimal sector ++ codes "," ++ answer ++ codes "\n"
 
 -- the line of the command at an index: it is answered at the history before it. Lines count from 1
 abbrev pub line_at : List ℕ → ℕ → (ℕ → Bool) → List Command → ℕ → List ℕ

@@ -2,7 +2,7 @@
 ghost use Rattle.std.specs.Prelude.{◌≡◌, ◌+◌, ◌*◌, ◌≤◌, ◌++◌, codes, length};
 ghost use Rattle.hex.specs.Hex.{encode_lower};
 ghost use Rattle.answers.specs.Answers.{broom_line, collection_line, end_text, line_text, totals_text, wear_line};
-ghost use Rattle.text.specs.Placed.{Placed};
+ghost use Rattle.text.specs.Putting.{PutsText};
 ghost use Rattle.answers.specs.Replies.{reply_text};
 ghost use Rattle.answers.specs.declared.reply.Reply.TheVariants as replies;
 
@@ -33,7 +33,7 @@ pub fn put_line(
     requires room { at + LINE_BYTES ≤ length buffer.old }
     requires page { reply ≡ replies.Page
         → at + LINE_BYTES + 2 * length page.now ≤ length buffer.old }
-    ensures { Placed buffer.old buffer.new at
+    ensures { PutsText buffer.old buffer.new at
         (line_text line op sector (reply_text reply (encode_lower page.now))) result }
 {
     let name = numbering.put(buffer, at, line);
@@ -48,7 +48,7 @@ fn put_reply(buffer: &mut [u8], at: usize, reply: Reply, page: &[u8]) -> usize
     requires room { at + SHORT_BYTES ≤ length buffer.old }
     requires page { reply ≡ replies.Page
         → at + SHORT_BYTES + 2 * length page.now ≤ length buffer.old }
-    ensures { Placed buffer.old buffer.new at
+    ensures { PutsText buffer.old buffer.new at
         (reply_text reply (encode_lower page.now) ++ codes "\n") result }
 {
     let end = if let Reply::Page = reply {
@@ -62,7 +62,7 @@ fn put_reply(buffer: &mut [u8], at: usize, reply: Reply, page: &[u8]) -> usize
 /// Puts the last line.
 pub fn put_end(buffer: &mut [u8], at: usize) -> usize
     requires { at + LINE_BYTES ≤ length buffer.old }
-    ensures { Placed buffer.old buffer.new at end_text result }
+    ensures { PutsText buffer.old buffer.new at end_text result }
 {
     put_short(buffer, at, &END)
 }
@@ -70,7 +70,7 @@ pub fn put_end(buffer: &mut [u8], at: usize) -> usize
 /// Puts the last line, with the totals of a run.
 pub fn put_totals(buffer: &mut [u8], at: usize, programs: u64, copies: u64, erases: u64) -> usize
     requires { at + LINE_BYTES ≤ length buffer.old }
-    ensures { Placed buffer.old buffer.new at (totals_text programs copies erases) result }
+    ensures { PutsText buffer.old buffer.new at (totals_text programs copies erases) result }
 {
     let first = put_short(buffer, at, &END_COMMA);
     let second = put_number(buffer, first, programs, b',');
@@ -88,7 +88,7 @@ pub fn put_wear(
     retired: bool,
 ) -> usize
     requires { at + LINE_BYTES ≤ length buffer.old }
-    ensures { Placed buffer.old buffer.new at (wear_line block erases live retired) result }
+    ensures { PutsText buffer.old buffer.new at (wear_line block erases live retired) result }
 {
     let first = put_number(buffer, at, u64::from(block), b',');
     let second = put_number(buffer, first, u64::from(erases), b',');
@@ -108,7 +108,7 @@ pub fn put_collection(
     retired: bool,
 ) -> usize
     requires { at + LINE_BYTES ≤ length buffer.old }
-    ensures { Placed buffer.old buffer.new at
+    ensures { PutsText buffer.old buffer.new at
         (collection_line line victim copied copybacks erases retired) result }
 {
     let first = put_number(buffer, at, line, b',');
@@ -122,7 +122,7 @@ pub fn put_collection(
 /// Puts the line of a broom.
 pub fn put_broom(buffer: &mut [u8], at: usize, it: BroomLine) -> usize
     requires { at + LINE_BYTES ≤ length buffer.old }
-    ensures { Placed buffer.old buffer.new at (broom_line it) result }
+    ensures { PutsText buffer.old buffer.new at (broom_line it) result }
 {
     let broom = put_number(buffer, at, it.broom, b',');
     let drained = put_number(buffer, broom, it.drained, b',');

@@ -1,8 +1,8 @@
 //! The words of the lines, each with the byte behind it.
 ghost use Rattle.std.specs.Prelude.{◌≡◌, ◌≤◌, [], ◌++◌, codes};
-ghost use Rattle.trace.specs.Trace.{name_of};
+ghost use Rattle.trace.specs.Trace.{op_name};
 ghost use Rattle.answers.specs.{Answers.outcome_text, Replies.reply_text};
-ghost use Rattle.text.specs.Placed.{short_of};
+ghost use Rattle.text.specs.Putting.{short_of};
 
 use crate::reply::Reply;
 use text::{SHORT_BYTES, Short};
@@ -59,7 +59,7 @@ pub(crate) fn outcome_word(retired: bool) -> &'static Short
 /// The op's name.
 #[inline(always)]
 pub(crate) fn op_word(op: Op) -> &'static Short
-    ensures text { short_of result.now ≡ name_of op ++ codes "," }
+    ensures text { short_of result.now ≡ op_name op ++ codes "," }
     ensures short { result.now.len ≤ SHORT_BYTES }
 {
     match op {

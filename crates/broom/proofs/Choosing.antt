@@ -12,7 +12,7 @@ use Rattle.flash_table.specs.declared.{flash.Flash.Flash, broom_seat.BroomBlocks
 use Rattle.flash_table.specs.Flash.{IsBroomOf, broom_view, own_blocks, geometry_of, device}
 use Rattle.broom.specs.{declared.broom.Broom.Broom, Ready.IsInRange, Ready.IsRested, Ready.IsReady, Ready.view_of_broom}
 use Rattle.broom.specs.Survey.{Survey, GainsNothing, live_pages, victim_of, loads_of, looks_of, is_closed, closed_of}
-use Rattle.broom.specs.Told.{Surveyed, GainedNothing, LeftSurvey, GainsNothingNext, IsNext, next_of}
+use Rattle.broom.specs.Told.{Surveyed, GainedNothing, LeftSurvey, GainsNothingNext, IsDrainedNext, next_of}
 use Rattle.broom.specs.Surveying.{StatesLoaded, PagesCounted, Chosen, ChoseNone, Chooses}
 
 -- what being at rest says of a view, but for what was seen
@@ -140,7 +140,7 @@ module _ (f : Flash) (before after : Broom) (s : BroomSeat) (states : List PinWo
         let P : Option ℕ → Type 0 = λ o. IfSome o (λ b. live_pages the_survey b ≡ v.numbers.pages) in
         record { gained = gained_nothing (subst P (sym (choice (next_of after) next)) (none (next_of after) refl full)); left = (the_survey, left) }
 
-    pub chosen : (b : ℕ) → IsNext after b → Chosen v b after
+    pub chosen : (b : ℕ) → IsDrainedNext after b → Chosen v b after
     chosen b h =
         let shut = greedy_of-closed after.counts.items after.closed.items many b h.chosen in
         record {
@@ -159,7 +159,7 @@ module _ (f : Flash) (before after : Broom) (s : BroomSeat) (states : List PinWo
           changed = changed;
         }
 
-    pub chooses : (result : Option ℕ) → MatchOption result (GainsNothingNext after) (λ b. IsNext after b) → Chooses v result after
+    pub chooses : (result : Option ℕ) → MatchOption result (GainsNothingNext after) (λ b. IsDrainedNext after b) → Chooses v result after
     chooses None told = chose_none told
     chooses (Some b) told = chosen b told
 

@@ -136,7 +136,7 @@ abbrev pub GainsNothingNext : Broom → Type 0
 GainsNothingNext b = IfSome (next_of b) (λ block. slice_index (counts_kept b) block ≡ (view_of_broom b).numbers.pages)
 
 -- This block is the one to be drained next, and not all of its pages were live
-pub record IsNext (b : Broom) (block : ℕ) : Type 0 where
+pub record IsDrainedNext (b : Broom) (block : ℕ) : Type 0 where
   pub chosen : next_of b ≡ Some block
   pub gains : ¬ (slice_index (counts_kept b) block ≡ (view_of_broom b).numbers.pages)
 
@@ -164,12 +164,12 @@ pub record KeepsSurvey (before after : Broom) : Type 0 where
 -- what each result of a drain by the last survey means
 abbrev pub NextTold : Broom → Drain → Broom → Type 0
 NextTold before (drain.Drained block copied) after =
-    IsNext before block × DidDrainAgain (view_of_broom before) (blocks_of_broom before) (states_kept before) block copied (view_of_broom after)
+    IsDrainedNext before block × DidDrainAgain (view_of_broom before) (blocks_of_broom before) (states_kept before) block copied (view_of_broom after)
     (blocks_of_broom after) × Unmarks before block after
 NextTold before drain.NothingToGain after =
     GainsNothingNext before × (view_of_broom after ≡ view_of_broom before) × (blocks_of_broom after ≡ blocks_of_broom before) × KeepsSurvey before after
 NextTold before drain.NoSpare after = HadNoSpare before after × KeepsSurvey before after
-NextTold before drain.Lost after = (block : ℕ) × IsNext before block × LostAgain (view_of_broom before) block (view_of_broom after)
+NextTold before drain.Lost after = (block : ℕ) × IsDrainedNext before block × LostAgain (view_of_broom before) block (view_of_broom after)
     × (blocks_of_broom after ≡ blocks_of_broom before) × Unmarks before block after
 NextTold before drain.QueueFull after = ⊥
 

@@ -6,7 +6,7 @@ ghost use Rattle.flash_table.specs.Flash.{IsBroomOf, broom_view, own_blocks, geo
 ghost use Rattle.broom.specs.Survey as survey;
 ghost use Rattle.geometry.specs.Greedy.{IsClosed};
 ghost use Rattle.broom.specs.Ready.{IsReady, view_of_broom, blocks_of_broom, marks_of};
-ghost use Rattle.broom.specs.Told.{GainsNothingNext, HasOnlyRanked, IsNext, next_of};
+ghost use Rattle.broom.specs.Told.{GainsNothingNext, HasOnlyRanked, IsDrainedNext, next_of};
 ghost use Rattle.broom.specs.Handing.{HandsNothing};
 ghost use Rattle.broom.specs.Surveying.{StatesLoaded, PagesCounted, Chooses};
 
@@ -89,7 +89,7 @@ pub(crate) fn choose(flash: &Flash, broom: &mut Broom) -> Option<u32>
 // Chooses the block to drain next by the last survey, if there is something to gain. It ranks the blocks if the survey is new.
 pub(crate) fn choose_next(flash: &Flash, broom: &mut Broom) -> Option<u32>
     requires { IsReady flash.now broom.old }
-    ensures next { MatchOption result (GainsNothingNext broom.old) (IsNext broom.old) }
+    ensures next { MatchOption result (GainsNothingNext broom.old) (IsDrainedNext broom.old) }
     ensures marked { IfSome result (IsClosed (marks_of broom.old)) }
     ensures rest { HasOnlyRanked broom.old broom.new }
     ensures ready { IsReady flash.now broom.new }
@@ -102,7 +102,7 @@ pub(crate) fn choose_next(flash: &Flash, broom: &mut Broom) -> Option<u32>
 fn gains(flash: &Flash, broom: &Broom, victim: Option<usize>) -> Option<u32>
     requires ready { IsReady flash.now broom.now }
     requires next { victim ≡ next_of broom.now }
-    ensures next { MatchOption result (GainsNothingNext broom.now) (IsNext broom.now) }
+    ensures next { MatchOption result (GainsNothingNext broom.now) (IsDrainedNext broom.now) }
     ensures marked { IfSome result (IsClosed (marks_of broom.now)) }
 {
     let Some(victim) = victim else {

@@ -3,7 +3,7 @@ use Rattle.std.proofs.Common.{◌≡◌, ◌<◌, ⊎_elim, ℕ, zero, suc, List
 use Rattle.durable.specs.declared.found.Candidate.{Candidate}
 use Rattle.durable.specs.Flash.{Flash}
 use Rattle.durable.specs.Losses.{CountsGaps, IsPreferred, gaps_in}
-use Rattle.durable.specs.Mounting.{IsRead, IsBest, IsLone, Finds}
+use Rattle.durable.specs.Mounting.{IsRead, IsBest, IsLone, FoundBefore}
 use Rattle.durable.proofs.Kept.{same_words}
 
 unread : (pages c q : ℕ) → IsRead pages 0 0 c q → ⊥
@@ -17,7 +17,7 @@ no_page (suc n) (suc s) x is = no_page n s x is
 nothing : (found : List (Option Candidate)) (n s : ℕ) → found ≡ replicate n None → get_or found s None ≡ None
 nothing found n s is = ap (λ (xs : List (Option Candidate)). get_or xs s None) is ∙ no_page n s None refl
 
-pub nothing_found : (f : Flash) (pages : ℕ) (found : List (Option Candidate)) (n : ℕ) → found ≡ replicate n None → Finds f pages 0 0 found 0
+pub nothing_found : (f : Flash) (pages : ℕ) (found : List (Option Candidate)) (n : ℕ) → found ≡ replicate n None → FoundBefore f pages 0 0 found 0
 nothing_found f pages found n is = record {
   best = λ s lt. subst (IsBest f pages 0 0 s) (sym (nothing found n s is)) (λ c q m v read e. unread pages c q read);
   numbers = λ c q e m v read holds. absurd (unread pages c q read);

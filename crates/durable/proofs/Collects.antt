@@ -8,7 +8,7 @@ use Rattle.durable.specs.declared.command.Command.TheVariants.{Program, Copy, Er
 use Rattle.durable.specs.declared.memory.Core.{Core}
 use Rattle.durable.specs.Collecting.{IsFree, MapsAll, weight, live_in, CanCollect, IsPageOn}
 use Rattle.durable.specs.Next.{IsFewestBeside}
-use Rattle.durable.specs.Choice.{IsNext, left_at, Spends}
+use Rattle.durable.specs.Choice.{IsNextCommand, left_at, Spends}
 use Rattle.durable.proofs.Counts.{weight_here, weight_elsewhere, kept_in_set, kept_there, none_counted, other_has_room}
 use Rattle.durable.proofs.Extents.{none_all}
 use Rattle.durable.proofs.Done.{IsPageAfter, Becomes}
@@ -31,7 +31,7 @@ pub stays_free : (map : List (Option PageAddr)) (s : ℕ) (at : PageAddr) (b : �
 stays_free map s at b lt free differs = omega (arith, kept_in_set b map s (Some at) lt, weight_elsewhere b at (λ e. differs (sym e)), none_counted b map free)
 
 module _ (core : Core) (s : Extent) where
-  program_collects : (at : PageAddr) (n : ℕ) (map : List (Option PageAddr)) (next : Option PageAddr) → IsNext core (Program at n)
+  program_collects : (at : PageAddr) (n : ℕ) (map : List (Option PageAddr)) (next : Option PageAddr) → IsNextCommand core (Program at n)
       → MapsAll core.map.items map s at → IsPageAfter at core.pages next → CanCollect map core.blocks core.pages next
   program_collects at n map next is maps after =
       let b = is.3.0 in
@@ -42,7 +42,7 @@ module _ (core : Core) (s : Extent) where
             omega (arith, full b is.3.1 (λ here. is.3.2 (here ∙ e.0)), free, e.2)),
       )
 
-  module _ (k : ℕ) (from to : PageAddr) (is : IsNext core (Copy k from to)) where
+  module _ (k : ℕ) (from to : PageAddr) (is : IsNextCommand core (Copy k from to)) where
     -- the victim has a live page, so the open block is not full after it
     pub not_last : to.page + 1 ≡ core.pages → ⊥
     not_last e = core.can_collect.1 to is.0 (λ b lt differs.
@@ -89,7 +89,7 @@ module _ (core : Core) (s : Extent) where
             )),
       )
 
-  pub collects_after : (m : Command) (map : List (Option PageAddr)) (number : ℕ) (next : Option PageAddr) → IsNext core m
+  pub collects_after : (m : Command) (map : List (Option PageAddr)) (number : ℕ) (next : Option PageAddr) → IsNextCommand core m
       → Becomes core s m map number next → CanCollect map core.blocks core.pages next
   collects_after (Program at n) map number next is becomes = program_collects at n map next is becomes.0 becomes.2
   collects_after (Copy k from to) map number next is becomes = subst (λ (m : List (Option PageAddr)). CanCollect m core.blocks core.pages next)
@@ -100,7 +100,7 @@ module _ (core : Core) (s : Extent) where
   collects_after Refused map number next is becomes = subst (λ (m : List (Option PageAddr)). CanCollect m core.blocks core.pages next) (sym becomes.0)
       (subst (CanCollect core.map.items core.blocks core.pages) (sym becomes.2) core.can_collect)
 
-  pub spends_after : (m : Command) (map : List (Option PageAddr)) (number : ℕ) (next : Option PageAddr) → IsNext core m
+  pub spends_after : (m : Command) (map : List (Option PageAddr)) (number : ℕ) (next : Option PageAddr) → IsNextCommand core m
       → Becomes core s m map number next → Spends m core.pages (left_at core.pages core.next_page) (left_at core.pages next)
   spends_after (Program at n) map number next is becomes =
       let on = core.on_device at is.0 in

@@ -13,7 +13,7 @@ use Rattle.durable.specs.Flash.{PageContents, Erased, Torn, Version, Flash, HasV
 use Rattle.durable.specs.Candidates.{twin_with, with_twin, newer_of, IsFoundWith, number_above}
 use Rattle.durable.specs.Losses.{version_count, versions_before, gaps_with, gaps_before, gaps_in, has_gap, gaps_noted, versions_noted, CountsGaps}
 use Rattle.durable.specs.Losses.{IsInWhole, IsWholeOrHere, IsPreferred}
-use Rattle.durable.specs.Mounting.{IsStampOf, IsBest, IsLone, Finds}
+use Rattle.durable.specs.Mounting.{IsStampOf, IsBest, IsLone, FoundBefore}
 use Rattle.durable.proofs.Cells.{same_held, same_version}
 use Rattle.durable.proofs.Scans.{noted, later_old, later_new, later_same, some_is, none_is, twin_cases, twin_is, set_each}
 use Rattle.durable.proofs.Losses.{no_gap, none_has_gap, some_gap}
@@ -193,7 +193,7 @@ at_before f pages b p s (Some y) x lone is = let same : y ≡ x = cc is in subst
 pub prefers_next : (f : Flash) (pages b p : ℕ) (gaps new : List ℕ) (found : List (Option Candidate)) (below : ℕ) (at : PageAddr) (stamp : Option Stamp)
     (found' : List (Option Candidate))
     → at.block ≡ b → ((c : ℕ) → c < b → gaps_in new c ≡ gaps_in gaps c) → IsFoundWith gaps found found' at stamp
-    → Finds f pages b p found below → IsStampOf f b p stamp
+    → FoundBefore f pages b p found below → IsStampOf f b p stamp
     → ((s : ℕ) → s < length found → IsPreferred f pages b p gaps s (get_or found s None))
     → (s : ℕ) → s < length found' → IsPreferred f pages b (suc p) new s (get_or found' s None)
 prefers_next f pages b p gaps new found below at None found' is_b same unchanged finds none prefers =
@@ -242,9 +242,9 @@ pub noted_all : (f : Flash) (pages b p : ℕ) (gaps : List ℕ) (versions : ℕ)
     (stamp : Option Stamp) (found' : List (Option Candidate)) (below' : ℕ) (gaps' : List ℕ) (versions' : ℕ)
     → at.block ≡ b → at.page ≡ p → b < length gaps → IsFoundWith gaps found found' at stamp → below' ≡ number_above below stamp
     → gaps' ≡ gaps_noted gaps b p versions stamp → versions' ≡ versions_noted versions stamp → IsStampOf f b p stamp
-    → Finds f pages b p found below × CountsGaps f pages b p gaps versions
+    → FoundBefore f pages b p found below × CountsGaps f pages b p gaps versions
     × ((s : ℕ) → s < length found → IsPreferred f pages b p gaps s (get_or found s None))
-    → Finds f pages b (p + 1) found' below' × CountsGaps f pages b (p + 1) gaps' versions'
+    → FoundBefore f pages b (p + 1) found' below' × CountsGaps f pages b (p + 1) gaps' versions'
     × ((s : ℕ) → s < length found' → IsPreferred f pages b (p + 1) gaps' s (get_or found' s None))
 noted_all f pages b p gaps versions found below at stamp found' below' gaps' versions' is_b is_p lt is_found is_below is_gaps is_versions matches before =
     let same : (c : ℕ) → c < b → gaps_in (gaps_noted gaps b p versions stamp) c ≡ gaps_in gaps c =

@@ -12,7 +12,7 @@ use Rattle.durable.specs.Updates.{changed}
 use Rattle.durable.specs.Collecting.{MapsAll}
 use Rattle.durable.specs.Commands.{Completes, IsSameFlash}
 use Rattle.durable.specs.Memory.{map_entry, IsMappedTo, IsErasedFrom, Represents}
-use Rattle.durable.specs.Choice.{IsNext}
+use Rattle.durable.specs.Choice.{IsNextCommand}
 use Rattle.durable.proofs.Extents.{changed_here, changed_elsewhere}
 use Rattle.durable.proofs.Cells.{was_page, same_held, erased_loses, kept_in_loss}
 use Rattle.durable.proofs.Moments.{kept_set, kept_all, erased_next, ready_next, programmed_shows, programmed_kept}
@@ -41,7 +41,7 @@ abbrev pub BecomesCore : Core → Extent → Command → Core → Type 0
 BecomesCore core s m new = Becomes core s m new.map.items new.next_number new.next_page
 
 module _ (f t : Flash) (core new : Core) (array : ℕ → Sector) (stands : Represents f core array) (s : Extent) (x : Sector) where
-  after_program : (at : PageAddr) (n : ℕ) → IsNext core (Program at n) → Completes (Program at n) s x f t → BecomesCore core s (Program at n) new
+  after_program : (at : PageAddr) (n : ℕ) → IsNextCommand core (Program at n) → Completes (Program at n) s x f t → BecomesCore core s (Program at n) new
       → Represents t new (changed array s x)
   after_program at n next puts becomes = record {
     mapped = kept_all t core.map.items new.map.items s at (changed array s x) becomes.0
@@ -56,7 +56,7 @@ module _ (f t : Flash) (core new : Core) (array : ℕ → Sector) (stands : Repr
     erased = ready_next f t at (Version s n x) new.next_page core.pages becomes.2.0 (subst (IsErasedFrom f) next.0 stands.erased) puts;
   }
 
-  after_copy : (k : ℕ) (from to : PageAddr) → IsNext core (Copy k from to) → Completes (Copy k from to) s x f t
+  after_copy : (k : ℕ) (from to : PageAddr) → IsNextCommand core (Copy k from to) → Completes (Copy k from to) s x f t
       → BecomesCore core s (Copy k from to) new → Represents t new array
   after_copy k from to next puts becomes = record {
     mapped = λ j l. subst (λ (items : List (Option PageAddr)). IsMappedTo t j (array j) (get_or items j None)) (sym becomes.0)
@@ -70,7 +70,7 @@ module _ (f t : Flash) (core new : Core) (array : ℕ → Sector) (stands : Repr
     erased = ready_next f t to (f from.block from.page) new.next_page core.pages becomes.2.0 (subst (IsErasedFrom f) next.0 stands.erased) puts;
   }
 
-  after_erase : (b : ℕ) → IsNext core (Erase b) → Completes (Erase b) s x f t → BecomesCore core s (Erase b) new → Represents t new array
+  after_erase : (b : ℕ) → IsNextCommand core (Erase b) → Completes (Erase b) s x f t → BecomesCore core s (Erase b) new → Represents t new array
   after_erase b next gone becomes =
       let loses = erased_loses f t b gone.0 gone.1 in
       record {
@@ -89,7 +89,7 @@ module _ (f t : Flash) (core new : Core) (array : ℕ → Sector) (stands : Repr
     erased = subst (IsErasedFrom f) (sym becomes.2) stands.erased;
   })
 
-  pub represents_after : (m : Command) → IsNext core m → Completes m s x f t → BecomesCore core s m new → Represents t new
+  pub represents_after : (m : Command) → IsNextCommand core m → Completes m s x f t → BecomesCore core s m new → Represents t new
       (array_with m array s x)
   represents_after (Program at n) next does becomes = after_program at n next does becomes
   represents_after (Copy k from to) next does becomes = after_copy k from to next does becomes

@@ -17,7 +17,7 @@ use Rattle.durable.specs.Marks.{IsMarkedWith, MarksAll, MarksValues, is_valued}
 use Rattle.durable.specs.Candidates.{AreNeeded, IsEntryOf, IsFoundWith, needed_of}
 use Rattle.std.specs.Int.{bit_at}
 use Rattle.std.proofs.lemmas.Nat.Bits.{bit_at-zero}
-use Rattle.durable.specs.Mounting.{IsRead, IsStampOf, IsBest, IsLone, Finds, TellsValue, TellsValues}
+use Rattle.durable.specs.Mounting.{IsRead, IsStampOf, IsBest, IsLone, FoundBefore, TellsValue, TellsValues}
 use Rattle.durable.proofs.Extents.{cases_covered}
 use Rattle.durable.proofs.Cells.{same_held, some_none}
 use Rattle.durable.proofs.Scans.{here_has, seen, seen_next, seen_wrap, shows_best}
@@ -145,7 +145,7 @@ module _ (f : Flash) (pages b p : ℕ) (valued : List ℕ) (found kept : List (O
       (λ is_false. needed.1 s lt ∙ ap (λ (k : Bool). needed_of k (get_or found s None)) is_false)
       (cases_Bool (is_valued valued s))
 
-  pub keeps : (below : ℕ) → Finds f pages b p found below
+  pub keeps : (below : ℕ) → FoundBefore f pages b p found below
       → ((d q : ℕ) (e : Extent) (m : ℕ) (v : Sector) → f d q ≡ Version e m v → IsRead pages b p d q) → Keeps f pages b p kept
   keeps below finds all = record {
     best = λ s x lt is. subst (IsBest f pages b p s) (kept_some valued found kept needed s x lt is).1 (finds.best s (omega (arith, lt, needed.0)));

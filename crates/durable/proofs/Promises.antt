@@ -15,7 +15,7 @@ use Rattle.durable.specs.Flash.{PageContents, Torn, Version, Flash, HasVersion, 
 use Rattle.durable.specs.Commands.{Completes, CutLeaves, IsAllowed, IsSameFlash, updates_with}
 use Rattle.durable.specs.Device.{Device, device_of, device_in, NamesOn, IsWrittenOn}
 use Rattle.durable.specs.Memory.{Represents}
-use Rattle.durable.specs.Choice.{IsNext}
+use Rattle.durable.specs.Choice.{IsNextCommand}
 use Rattle.durable.specs.Candidates.{AreNeeded, IsEntryOf, IsFreeable}
 use Rattle.durable.specs.Collecting.{IsFree}
 use Rattle.durable.specs.Mounting.{IsRead}
@@ -70,7 +70,7 @@ module _ (f t : Flash) (core : Core) (array : ℕ → Sector) (stands : Represen
           → (d ≡ at.block) × (q ≡ at.page)
       place_of d q s m v e h = (h.1, h.2)
 
-  pub cut_written : (s : Extent) (x : Sector) (m : Command) → LiesWithin (length core.map.items) s → IsNext core m → CutLeaves m s x f t
+  pub cut_written : (s : Extent) (x : Sector) (m : Command) → LiesWithin (length core.map.items) s → IsNextCommand core m → CutLeaves m s x f t
       → IsWrittenOn (device_of core) t
   cut_written s x (Program at n) lt next cut = ⊎_elim same_written (λ more. ⊎_elim
       (set_written at Torn next.0 (λ r m v e. absurd (torn_holds_none r m v e)))
@@ -83,7 +83,7 @@ module _ (f t : Flash) (core : Core) (array : ℕ → Sector) (stands : Represen
   cut_written s x Refused lt next cut = same_written cut
 
   -- a power cut leaves the array from before the call, or from after it
-  cut_recovers : (s : Extent) (x : Sector) (m : Command) → IsNext core m → CutLeaves m s x f t
+  cut_recovers : (s : Extent) (x : Sector) (m : Command) → IsNextCommand core m → CutLeaves m s x f t
       → Recovers t (length core.map.items) array ⊎ Recovers t (length core.map.items) (changed array s x)
   cut_recovers s x (Program at n) next cut = ⊎_elim (λ same. inl (same_mounts f t core array stands same)) (λ more. ⊎_elim
       (λ torn. inl (torn_mounts f t core array stands at next.0 torn))
@@ -95,7 +95,7 @@ module _ (f t : Flash) (core : Core) (array : ℕ → Sector) (stands : Represen
   cut_recovers s x Refused next cut = inl (same_mounts f t core array stands cut)
 
   -- the commands name what lies on the device, and program erased pages
-  pub names : (m : Command) → IsNext core m → NamesOn (device_of core) m × IsAllowed f m
+  pub names : (m : Command) → IsNextCommand core m → NamesOn (device_of core) m × IsAllowed f m
   names (Program at n) next = (core.on_device at next.0, erased_next f t core array stands at next.0)
   names (Copy k from to) next =
       let source = source_shows f t core array stands k from next.1 next.2 in
@@ -104,10 +104,10 @@ module _ (f t : Flash) (core : Core) (array : ℕ → Sector) (stands : Represen
   names (Erase b) next = (next.1, tt)
   names Refused next = (tt, tt)
 
-pub is_safe : (core : Core) (m : Command) → IsNext core m → IsSafe core m
+pub is_safe : (core : Core) (m : Command) → IsNextCommand core m → IsSafe core m
 is_safe core m next f acked begun consistent = names f f core (array_after consistent.updates) consistent.represents consistent.written m next
 
-pub survives_cut : (core : Core) (s : Extent) (m : Command) → LiesWithin (length core.map.items) s → IsNext core m → SurvivesCut core s m
+pub survives_cut : (core : Core) (s : Extent) (m : Command) → LiesWithin (length core.map.items) s → IsNextCommand core m → SurvivesCut core s m
 survives_cut core s m lt next f t x acked begun is cut =
     let array = array_after is.updates in
     let update : Update = record { extent = s; value = x } in
@@ -147,7 +147,7 @@ same_device : (old new : Core) → new.blocks ≡ old.blocks → new.read_blocks
     → length new.map.items ≡ length old.map.items → device_of new ≡ device_of old
 same_device old new blocks read pages sectors = λ i. record { blocks = blocks i; read_blocks = read i; pages = pages i; sectors = sectors i }
 
-pub acknowledges : (core new : Core) (s : Extent) (m : Command) → LiesWithin (length core.map.items) s → IsNext core m → BecomesCore core s m new
+pub acknowledges : (core new : Core) (s : Extent) (m : Command) → LiesWithin (length core.map.items) s → IsNextCommand core m → BecomesCore core s m new
     → new.blocks ≡ core.blocks
     → new.read_blocks ≡ core.read_blocks → new.pages ≡ core.pages → Acknowledges core s m new
 acknowledges core new s m lt next becomes blocks read pages f t x acked begun is does =
@@ -161,7 +161,7 @@ acknowledges core new s m lt next becomes blocks read pages f t x acked begun is
     update : Update
     update = record { extent = s; value = x }
 
-    acknowledged : (m : Command) → IsNext core m → BecomesCore core s m new → Completes m s x f t → Represents t new (array_with m (array_after is.updates) s x)
+    acknowledged : (m : Command) → IsNextCommand core m → BecomesCore core s m new → Completes m s x f t → Represents t new (array_with m (array_after is.updates) s x)
         → IsWrittenOn (device_of new) t → LeavesSpare t new → IsConsistent t new (updates_with m update acked) (updates_with m update begun)
     acknowledged (Program at n) next becomes does represents written spare = record {
       updates = update ∷ is.updates;

@@ -13,7 +13,7 @@ use Rattle.durable.specs.Updates.{Covers}
 use Rattle.durable.specs.Flash.{Version, Flash, HasVersion, HoldsNewest, RecoversSector}
 use Rattle.durable.specs.Candidates.{twin_with, with_twin, newer_of, IsFoundWith, number_above}
 use Rattle.durable.specs.Losses.{has_gap}
-use Rattle.durable.specs.Mounting.{IsRead, IsStampOf, IsBest, IsLone, Finds}
+use Rattle.durable.specs.Mounting.{IsRead, IsStampOf, IsBest, IsLone, FoundBefore}
 use Rattle.durable.proofs.Extents.{cases_covered}
 use Rattle.durable.proofs.Cells.{same_held, same_version}
 
@@ -276,9 +276,9 @@ set_each gaps found new at stamp Q is here others s lt =
 
 -- one stamp more
 pub finds_next : (f : Flash) (pages b p : ℕ) (gaps : List ℕ) (found new : List (Option Candidate)) (below : ℕ) (at : PageAddr) (stamp : Option Stamp)
-    → at.block ≡ b → at.page ≡ p → IsFoundWith gaps found new at stamp → Finds f pages b p found below → IsStampOf f b p stamp
-    → Finds f pages b (p + 1) new (number_above below stamp)
-finds_next f pages b p gaps found new below at None is_b is_p same finds none = subst (λ (xs : List (Option Candidate)). Finds f pages b (p + 1) xs below)
+    → at.block ≡ b → at.page ≡ p → IsFoundWith gaps found new at stamp → FoundBefore f pages b p found below → IsStampOf f b p stamp
+    → FoundBefore f pages b (p + 1) new (number_above below stamp)
+finds_next f pages b p gaps found new below at None is_b is_p same finds none = subst (λ (xs : List (Option Candidate)). FoundBefore f pages b (p + 1) xs below)
     (sym same) (record {
       best = λ s lt. best_beside f pages b p s (get_or found s None) (finds.best s lt) (λ m d held. none held.0 m d held.1);
       numbers = λ c q e m d seen is. ⊎_elim (λ old. finds.numbers c q e m d old is) (λ here. absurd (none e m d (at_page f pages b p c q here ∙ is)))
@@ -307,8 +307,8 @@ finds_next f pages b p gaps found new below at (Some stamp) is_b is_p changes fi
         out (subst (λ (e : Extent). Covers e s) (sym same) held.2)
 
 -- the block's last page was read
-pub finds_wrap : (f : Flash) (pages b p : ℕ) (found : List (Option Candidate)) (below : ℕ) → p + 1 ≡ pages → Finds f pages b (p + 1) found below
-    → Finds f pages (b + 1) 0 found below
+pub finds_wrap : (f : Flash) (pages b p : ℕ) (found : List (Option Candidate)) (below : ℕ) → p + 1 ≡ pages → FoundBefore f pages b (p + 1) found below
+    → FoundBefore f pages (b + 1) 0 found below
 finds_wrap f pages b p found below full finds = record {
   best = λ s lt. best_wrapped (get_or found s None) s (finds.best s lt);
   numbers = λ c q s m d seen e. finds.numbers c q s m d (seen_wrap pages b p c q full seen) e;
@@ -326,9 +326,9 @@ finds_wrap f pages b p found below full finds = record {
 -- the same, of what a call has left
 pub noted : (f : Flash) (pages b p : ℕ) (gaps : List ℕ) (found : List (Option Candidate)) (below : ℕ) (at : PageAddr) (stamp : Option Stamp)
     (found' : List (Option Candidate)) (below' : ℕ)
-    → at.block ≡ b → at.page ≡ p → IsFoundWith gaps found found' at stamp → below' ≡ number_above below stamp → Finds f pages b p found below
+    → at.block ≡ b → at.page ≡ p → IsFoundWith gaps found found' at stamp → below' ≡ number_above below stamp → FoundBefore f pages b p found below
     → IsStampOf f b p stamp
-    → Finds f pages b (p + 1) found' below'
+    → FoundBefore f pages b (p + 1) found' below'
 noted f pages b p gaps found below at stamp found' below' is_b is_p is_found is_below finds matches =
-    subst (λ (n : ℕ). Finds f pages b (p + 1) found' n) (sym is_below)
+    subst (λ (n : ℕ). FoundBefore f pages b (p + 1) found' n) (sym is_below)
     (finds_next f pages b p gaps found found' below at stamp is_b is_p is_found finds matches)

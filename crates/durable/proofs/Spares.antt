@@ -12,7 +12,7 @@ use Rattle.durable.specs.Flash.{SetsPage, LosesPages}
 use Rattle.durable.specs.Collecting.{IsFree, MapsAll}
 use Rattle.durable.specs.Commands.{CutLeaves, Completes}
 use Rattle.durable.specs.Memory.{Represents, IsMappedTo, map_entry}
-use Rattle.durable.specs.Choice.{IsNext}
+use Rattle.durable.specs.Choice.{IsNextCommand}
 use Rattle.durable.specs.Spare.{IsDuplicated, CanFree, IsSparedAt, LeavesSpare}
 use Rattle.durable.proofs.Extents.{cases_covered, none_all}
 use Rattle.durable.proofs.Cells.{was, stays, torn_has_none, erased_has_none, kept_in_loss}
@@ -144,7 +144,7 @@ module _ (f t : Flash) (core : Core) (array : ℕ → Sector) (stands : Represen
         (λ at is. none s at lt is)),
   )
 
-  pub cut_spare : (s : Extent) (x : Sector) (m : Command) → IsNext core m → CutLeaves m s x f t → CanFree t core.blocks sectors
+  pub cut_spare : (s : Extent) (x : Sector) (m : Command) → IsNextCommand core m → CutLeaves m s x f t → CanFree t core.blocks sectors
   cut_spare s x (Program at n) next cut = ⊎_elim same_spare (λ more. ⊎_elim
       (torn_spare at next.0)
       (programmed_spare at next.0 s n x next.1 next.3.0 next.3.1 next.3.2 next.3.3) more) cut
@@ -192,7 +192,7 @@ module _ (f t : Flash) (core new : Core) (array : ℕ → Sector) (stands : Repr
   from_map map next moved opened spared = subst (λ (n : ℕ). IsSparedAt t new.map.items n new.next_page) (sym blocks)
       (subst (λ (m : List (Option PageAddr)). IsSparedAt t m core.blocks new.next_page) (sym moved) (subst (IsSparedAt t map core.blocks) (sym opened) spared))
 
-  pub spare_after : (m : Command) → IsNext core m → Completes m s x f t → BecomesCore core s m new → LeavesSpare t new
+  pub spare_after : (m : Command) → IsNextCommand core m → Completes m s x f t → BecomesCore core s m new → LeavesSpare t new
   spare_after (Program at n) next puts becomes = from_map new.map.items new.next_page refl refl
       (program_clears f t core s at new.map.items new.next_page next.3.0 becomes.0 next.3.1 next.3.2 next.3.3 becomes.2)
   spare_after (Copy k from to) next puts becomes =

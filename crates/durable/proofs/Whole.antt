@@ -16,7 +16,7 @@ use Rattle.durable.specs.Commands.{CutLeaves, Completes}
 use Rattle.durable.specs.Device.{device_of}
 use Rattle.durable.specs.Losses.{version_count, IsGapless, HasNoLoss}
 use Rattle.durable.specs.Memory.{Represents, IsMappedTo, IsErasedFrom, map_entry}
-use Rattle.durable.specs.Choice.{IsNext}
+use Rattle.durable.specs.Choice.{IsNextCommand}
 use Rattle.durable.specs.Whole.{IsSafelyDuplicated, IsUnharmed, IsFullBefore, IsSafelySpared, KeepsWhole}
 use Rattle.durable.specs.Whole.{CutsUnharmed, CutsIdleUnharmed, StaysWhole}
 use Rattle.durable.specs.Updates.{array_after}
@@ -242,7 +242,7 @@ module _ (f t : Flash) (core : Core) (array : ℕ → Sector) (stands : Represen
         );
       }
 
-  pub cut_unharmed : (s : Extent) (x : Sector) (m : Command) → IsNext core m → CutLeaves m s x f t → IsUnharmed t (device_of core)
+  pub cut_unharmed : (s : Extent) (x : Sector) (m : Command) → IsNextCommand core m → CutLeaves m s x f t → IsUnharmed t (device_of core)
   cut_unharmed s x (Program at n) next cut = ⊎_elim same_unharmed (λ more. ⊎_elim
       (torn_unharmed at next.0)
       (λ puts. program_unharmed at next.0 s n x next.1 puts next.3.0 next.3.1 next.3.2 next.3.3) more) cut
@@ -329,7 +329,7 @@ module _ (f t : Flash) (core new : Core) (array : ℕ → Sector) (stands : Repr
             (subst (λ (l : ℕ). IsSafelyDuplicated t l to.block) (sym (length-set core.map.items k (Some to))) doubled),
       )
 
-  pub whole_after : (m : Command) → IsNext core m → Completes m s x f t → BecomesCore core s m new → KeepsWhole t new
+  pub whole_after : (m : Command) → IsNextCommand core m → Completes m s x f t → BecomesCore core s m new → KeepsWhole t new
   whole_after (Program at n) next puts becomes =
       put_keeps at (Version s n x) next.0 puts (maps_all at becomes.0) refl becomes.2
       (program_spared at new.next_page next.3.0 becomes.0 next.3.1 next.3.2 next.3.3 becomes.2)
@@ -357,14 +357,14 @@ module _ (f t : Flash) (core new : Core) (array : ℕ → Sector) (stands : Repr
         (subst (IsSafelySpared f core.map.items core.blocks) (sym becomes.2) keeps.spared));
   })
 
-pub cuts_unharmed : (core : Core) (s : Extent) (m : Command) → IsNext core m → CutsUnharmed core s m
+pub cuts_unharmed : (core : Core) (s : Extent) (m : Command) → IsNextCommand core m → CutsUnharmed core s m
 cuts_unharmed core s m next f t x acked begun is keeps cut =
     cut_unharmed f t core (array_after is.updates) is.represents keeps s x m next cut
 
 pub cuts_idle_unharmed : (core : Core) → CutsIdleUnharmed core
 cuts_idle_unharmed core f acked begun is keeps = idle_unharmed f f core (array_after is.updates) is.represents keeps
 
-pub remains_whole : (core new : Core) (s : Extent) (m : Command) → IsNext core m → BecomesCore core s m new
+pub remains_whole : (core new : Core) (s : Extent) (m : Command) → IsNextCommand core m → BecomesCore core s m new
     → new.blocks ≡ core.blocks → StaysWhole core s m new
 remains_whole core new s m next becomes blocks f t x acked begun is keeps does =
     whole_after f t core new (array_after is.updates) is.represents keeps blocks s x m next does becomes

@@ -7,7 +7,7 @@ use Rattle.durable.specs.Flash.{Flash, HoldsNoValue}
 use Rattle.durable.specs.Commands.{Completes, CutLeaves, IsAllowed, updates_with}
 use Rattle.durable.specs.Device.{device_of, device_in, losses_of, IsWrittenOn, NamesOn}
 use Rattle.durable.specs.Memory.{map_entry}
-use Rattle.durable.specs.Mounting.{Finds, TellsValues}
+use Rattle.durable.specs.Mounting.{FoundBefore, TellsValues}
 use Rattle.durable.specs.Candidates.{AreNeeded}
 use Rattle.durable.specs.Losses.{CountsGaps, IsPreferred, HasNoLoss, losses_in}
 use Rattle.durable.specs.Promise.{IsReadable, IsRecoverable, IsConsistent}
@@ -38,7 +38,7 @@ Acknowledges old extent command new = (f t : Flash) (value : Sector) (acked begu
 
 -- the stamps that were noted are those of the flash's pages, block by block, their gaps were counted, and their values marked
 pub record HasNoted (f : Flash) (mount : Mount) : Type 0 where
-  pub finds : Finds f mount.pages mount.block mount.page mount.found.items mount.next_number
+  pub finds : FoundBefore f mount.pages mount.block mount.page mount.found.items mount.next_number
   pub values : TellsValues f mount.pages mount.block mount.page (length mount.found.items) mount.valued.items
   pub counts : CountsGaps f mount.pages mount.block mount.page mount.gaps.items mount.versions
   pub prefers : (s : ℕ) → s < length mount.found.items

@@ -8,8 +8,8 @@ use Rattle.durable.specs.Next.{IsNextFor}
 
 -- a program needs the open block's next page and a free block beside it; a copy moves a live page of the victim there; an erase
 -- opens a free block
-abbrev pub IsNext : Core → Command → Type 0
-IsNext core = IsNextFor core.blocks core.map.items core.next_page core.next_number
+abbrev pub IsNextCommand : Core → Command → Type 0
+IsNextCommand core = IsNextFor core.blocks core.map.items core.next_page core.next_number
 
 -- the most commands that a call still needs
 abbrev pub left_at : ℕ → Option PageAddr → ℕ

@@ -50,7 +50,7 @@ IsLone f pages b p s (Some x) =
     × (x.at.block ≤ b)
 
 -- what was found before page p of block b
-pub record Finds (f : Flash) (pages b p : ℕ) (found : List (Option Candidate)) (next : ℕ) : Type 0 where
+pub record FoundBefore (f : Flash) (pages b p : ℕ) (found : List (Option Candidate)) (next : ℕ) : Type 0 where
   pub best : (s : ℕ) → s < length found → IsBest f pages b p s (slice_index_or found s None)
   pub numbers : (c q : ℕ) (e : Extent) (m : ℕ) (v : Sector) → IsRead pages b p c q → f c q ≡ Version e m v → m < next
   pub lone : (s : ℕ) → s < length found → IsLone f pages b p s (slice_index_or found s None)

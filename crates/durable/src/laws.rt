@@ -6,7 +6,7 @@ ghost use Rattle.durable.specs.Candidates.{AreNeeded, IsEntryOf, IsFoundWith, Is
 ghost use Rattle.durable.specs.Candidates.{number_above, valued_page, with_twin};
 ghost use Rattle.durable.specs.Calls.{Acknowledges, CountsLosses, DropsTrims, HasNoted, IsSafe, Remounts, SurvivesCut, SurvivesIdleCut};
 ghost use Rattle.durable.specs.Calls.{TellsLosses, TellsNoFalseLoss};
-ghost use Rattle.durable.specs.Choice.{IsNext, Spends, StaysOpen, left, number_after};
+ghost use Rattle.durable.specs.Choice.{IsNextCommand, Spends, StaysOpen, left, number_after};
 ghost use Rattle.durable.specs.declared.found.Candidate.{Candidate as Seen};
 ghost use Rattle.durable.specs.Collecting.{AreLiveCounts, CanCollect, HasCapacity, IsFree, IsPageOn, MapsAll, live_in};
 ghost use Rattle.durable.specs.Commands.{Completes, CutLeaves, IsAllowed, is_program, updates_with};
@@ -236,22 +236,22 @@ pub fn rooms()
 /// Which command comes next, and what it takes of a call.
 pub fn next_commands()
     ensures number { (core : Layer) (at : Addr)
-        → IsNext core (command.Program at 5) → next_number_of core ≡ 5 }
+        → IsNextCommand core (command.Program at 5) → next_number_of core ≡ 5 }
     ensures page { (core : Layer) (at : Addr)
-        → IsNext core (command.Program at 5) → next_page_of core ≡ Some at }
+        → IsNextCommand core (command.Program at 5) → next_page_of core ≡ Some at }
     ensures last_number { (core : Layer) (at : Addr)
-        → ¬ IsNext core (command.Program at (2 ^ 64 - 1)) }
+        → ¬ IsNextCommand core (command.Program at (2 ^ 64 - 1)) }
     ensures spare { (core : Layer) → core.blocks ≡ 2 → ¬ IsFree core.map.items 1
-        → ¬ IsNext core (command.Program (record { block = 0; page = 1 }) 5) }
+        → ¬ IsNextCommand core (command.Program (record { block = 0; page = 1 }) 5) }
     ensures open { (core : Layer) (at : Addr)
-        → next_page_of core ≡ Some at → ¬ IsNext core (command.Erase 0) }
-    ensures erase { (core : Layer) → IsNext core (command.Erase 2) → IsFree core.map.items 2 }
+        → next_page_of core ≡ Some at → ¬ IsNextCommand core (command.Erase 0) }
+    ensures erase { (core : Layer) → IsNextCommand core (command.Erase 2) → IsFree core.map.items 2 }
     ensures source { (core : Layer) (from to : Addr)
-        → IsNext core (command.Copy 7 from to) → map_entry core 7 ≡ Some from }
+        → IsNextCommand core (command.Copy 7 from to) → map_entry core 7 ≡ Some from }
     ensures target { (core : Layer) (from to : Addr)
-        → IsNext core (command.Copy 7 from to) → next_page_of core ≡ Some to }
+        → IsNextCommand core (command.Copy 7 from to) → next_page_of core ≡ Some to }
     ensures fewest { (core : Layer) (from to : Addr)
-        → IsNext core (command.Copy 7 from to) → to.block ≡ 0 → 1 < core.blocks
+        → IsNextCommand core (command.Copy 7 from to) → to.block ≡ 0 → 1 < core.blocks
         → live_in 1 core.map.items + 1 ≡ live_in from.block core.map.items → ⊥ }
     ensures opened { (core : Layer) → next_page_of core ≡ None → left core ≡ core.pages + 1 }
     ensures part { (core : Layer) → core.pages ≡ 4

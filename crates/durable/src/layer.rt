@@ -13,7 +13,7 @@ impl Core {
     ghost use Rattle.durable.specs.Updates.{LiesWithin, Update, array_after};
     ghost use Rattle.durable.specs.Device.{device_of, losses_of, next_page_of, next_number_of};
     ghost use Rattle.durable.specs.Memory.{IsMappedTo, map_entry};
-    ghost use Rattle.durable.specs.Choice.{IsNext, StaysOpen, Spends, left, number_after};
+    ghost use Rattle.durable.specs.Choice.{IsNextCommand, StaysOpen, Spends, left, number_after};
     ghost use Rattle.durable.specs.Promise.{IsConsistent};
     ghost use Rattle.durable.specs.Calls.{IsSafe, SurvivesCut, SurvivesIdleCut, Acknowledges};
     ghost use Rattle.durable.specs.Whole.{CutsIdleUnharmed, CutsUnharmed, StaysWhole};
@@ -58,7 +58,7 @@ impl Core {
     /// The command that comes next for a write or trim of these sectors. It depends on nothing but the layer's memory.
     pub fn next(&self, extent: Extent) -> Command
         requires { LiesWithin (device_of self.now).sectors extent }
-        ensures next { IsNext self.now result }
+        ensures next { IsNextCommand self.now result }
         ensures safe { IsSafe self.now result }
         ensures cut { SurvivesCut self.now extent result }
         ensures idle { SurvivesIdleCut self.now }
@@ -74,7 +74,7 @@ impl Core {
     /// The command that came next has succeeded.
     pub fn done(&mut self, extent: Extent, command: Command)
         requires within { LiesWithin (device_of self.old).sectors extent }
-        requires next { IsNext self.old command }
+        requires next { IsNextCommand self.old command }
         ensures device { device_of self.new ≡ device_of self.old }
         ensures losses { losses_of self.new ≡ losses_of self.old }
         ensures acknowledges { Acknowledges self.old extent command self.new }
@@ -113,7 +113,7 @@ impl Core {
 
     // The command that comes next, whatever the sector is.
     fn choose(&self) -> Command
-        ensures next { IsNext self.now result }
+        ensures next { IsNextCommand self.now result }
         ensures progress { next_number_of self.now + 1 < 2 ^ 64 → result ≢ Refused }
     {
         match self.chosen {
@@ -124,7 +124,7 @@ impl Core {
 
     // The same, by the counts and the owners.
     fn decide(&self) -> Command
-        ensures next { IsNext self.now result }
+        ensures next { IsNextCommand self.now result }
         ensures progress { next_number_of self.now + 1 < 2 ^ 64 → result ≢ Refused }
     {
         match self.next_page {

@@ -7,7 +7,7 @@ use Rattle.durable.specs.Updates.{Update, array_after}
 use Rattle.durable.specs.Device.{Device, device_of, device_in, losses_of, next_page_of, next_number_of, IsWrittenOn}
 use Rattle.durable.specs.Memory.{IsMappedTo}
 use Rattle.durable.specs.Mounting.{IsStampOf, next_in, after_in}
-use Rattle.durable.specs.Choice.{IsNext, Spends, StaysOpen, left, number_after}
+use Rattle.durable.specs.Choice.{IsNextCommand, Spends, StaysOpen, left, number_after}
 use Rattle.durable.specs.Promise.{IsRecoverable, IsConsistent}
 use Rattle.durable.specs.Calls.{IsSafe, SurvivesCut, SurvivesIdleCut, Acknowledges, CountsLosses, DropsTrims, HasNoted, Remounts}
 use Rattle.durable.specs.Calls.{TellsLosses, TellsNoFalseLoss}
@@ -123,13 +123,13 @@ IsNewestPageOf s page l = s < (layer_device l).sectors → (f : Flash) (acked be
 abbrev pub IsCommandFor : Extent → CommandReport → Layer → Type 0
 IsCommandFor e out l =
     (command : Command) × (out ≡ report_of e.first command) × (command ≢ Refused)
-    × IsNext l.core command × IsSafe l.core command × SurvivesCut l.core e command × SurvivesIdleCut l.core
+    × IsNextCommand l.core command × IsSafe l.core command × SurvivesCut l.core e command × SurvivesIdleCut l.core
     × CutsUnharmed l.core e command × CutsIdleUnharmed l.core
 
 -- the command of this report has succeeded for the extent
 abbrev pub IsDone : Extent → CommandReport → Layer → Layer → Type 0
 IsDone e did l after =
-    (command : Command) × (did ≡ report_of e.first command) × IsNext l.core command
+    (command : Command) × (did ≡ report_of e.first command) × IsNextCommand l.core command
     × (layer_device after ≡ layer_device l) × Acknowledges l.core e command after.core
     × (layer_losses after ≡ layer_losses l) × StaysWhole l.core e command after.core
     × (next_number_of after.core ≡ number_after command (next_number_of l.core))

@@ -8,8 +8,8 @@ use Rattle.durable_exports.specs.declared.reports.PlaceReport.{PlaceReport}
 use Rattle.durable_exports.specs.declared.reports.Totals.{Totals}
 
 -- a page's address, as it is reported
-abbrev pub place_of : PageAddr → PlaceReport
-place_of at = record { block = at.block; page = at.page }
+abbrev pub place_report : PageAddr → PlaceReport
+place_report at = record { block = at.block; page = at.page }
 
 -- the page that a report names
 abbrev pub page_at : PlaceReport → PageAddr

@@ -7,7 +7,7 @@ ghost use Rattle.durable.specs.Updates.{Update};
 ghost use Rattle.durable.specs.Device.{Device, device_in, next_number_of, next_page_of};
 ghost use Rattle.durable.specs.Mounting.{IsStampOf, next_in, after_in};
 ghost use Rattle.durable.specs.Promise.{IsReadable, IsRecoverable};
-ghost use Rattle.durable.specs.Choice.{IsNext, Spends, StaysOpen, left, number_after};
+ghost use Rattle.durable.specs.Choice.{IsNextCommand, Spends, StaysOpen, left, number_after};
 ghost use Rattle.durable.specs.Calls.{Acknowledges, IsSafe, SurvivesCut, SurvivesIdleCut};
 ghost use Rattle.durable.specs.Calls.{CountsLosses, DropsTrims, HasNoted, Remounts, TellsLosses, TellsNoFalseLoss};
 ghost use Rattle.durable.specs.Whole.{CutsIdleUnharmed, CutsUnharmed, IsUnharmed, MountsWhole, StaysWhole};
@@ -22,7 +22,7 @@ ghost use Rattle.durable_exports.specs.declared.reports.PlaceReport.{PlaceReport
 ghost use Rattle.durable_exports.specs.declared.seat.Seat.{Seat};
 ghost use Rattle.durable_exports.specs.declared.seat.Seat.TheVariants.{Mounting, Mounted};
 ghost use Rattle.durable_exports.specs.Handles.{seat_of};
-ghost use Rattle.durable_exports.specs.Reports.{found_page, place_of, page_at, report_of, one_more, no_totals, totals_with};
+ghost use Rattle.durable_exports.specs.Reports.{found_page, place_report, page_at, report_of, one_more, no_totals, totals_with};
 ghost use Rattle.durable_exports.specs.Calls.{layer_device, layer_losses, code_of_mount, code_of_layer, OfMount, OfLayer, HasMount, HasLayer};
 ghost use Rattle.durable.specs.Updates.{sole};
 ghost use Rattle.durable_exports.specs.Calls.{begin_code, note_code, finish_code, sector_code, extent_code, stamp_of};
@@ -82,7 +82,7 @@ pub fn reports()
     ensures no_page { (at : PlaceReport) → found_page 0 at ≡ None }
     ensures page { found_page 1 (record { block = 1; page = 2 })
         ≡ Some (record { block = 1; page = 2 }) }
-    ensures same_place { page_at (place_of (record { block = 1; page = 2 }))
+    ensures same_place { page_at (place_report (record { block = 1; page = 2 }))
         ≡ record { block = 1; page = 2 } }
     ensures program { report_of 7 (command.Program (record { block = 1; page = 2 }) 5)
         ≡ record { kind = 1; sector = 7; from_block = 0; from_page = 0; block = 1; page = 2; number = 5 } }
@@ -138,14 +138,14 @@ pub fn calls()
     ensures stays { (did : CommandReport) (l k : Layer) → IsDone (sole 7) did l k
         → (c : Next) × (did ≡ report_of 7 c) × StaysWhole l.core (sole 7) c k.core }
     ensures safe { (out : CommandReport) (l : Layer) → IsCommandFor (sole 7) out l
-        → (c : Next) × (out ≡ report_of 7 c) × IsNext l.core c × IsSafe l.core c
+        → (c : Next) × (out ≡ report_of 7 c) × IsNextCommand l.core c × IsSafe l.core c
         × SurvivesCut l.core (sole 7) c }
     ensures idle_cut { (out : CommandReport) (l : Layer)
         → IsCommandFor (sole 7) out l → SurvivesIdleCut l.core }
     ensures not_refused { (out : CommandReport) (l : Layer) → IsCommandFor (sole 7) out l
         → (c : Next) × (out ≡ report_of 7 c) × (c ≢ command.Refused) }
     ensures acknowledges { (did : CommandReport) (l k : Layer) → IsDone (sole 7) did l k
-        → (c : Next) × (did ≡ report_of 7 c) × IsNext l.core c
+        → (c : Next) × (did ≡ report_of 7 c) × IsNextCommand l.core c
         × Acknowledges l.core (sole 7) c k.core }
     ensures goes_on { (did : CommandReport) (l k : Layer) → IsDone (sole 7) did l k
         → (c : Next) × (did ≡ report_of 7 c)

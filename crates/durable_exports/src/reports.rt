@@ -1,6 +1,6 @@
 //! What the calls report, in structs of C.
 ghost use Rattle.std.specs.Prelude.{◌≡◌};
-ghost use Rattle.durable_exports.specs.Reports.{report_of, place_of, totals_with};
+ghost use Rattle.durable_exports.specs.Reports.{report_of, place_report, totals_with};
 
 use durable::{Command, PageAddr};
 
@@ -37,7 +37,7 @@ pub struct CommandReport {
 
 // A page's address, as it is reported.
 pub(crate) fn place(at: PageAddr) -> PlaceReport
-    ensures { result ≡ place_of at }
+    ensures { result ≡ place_report at }
 {
     PlaceReport {
         block: at.block,

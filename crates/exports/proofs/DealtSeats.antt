@@ -9,7 +9,7 @@ use Rattle.geometry.specs.declared.geometry.Geometry.{Geometry}
 use Rattle.geometry.specs.Geometry.{numbers_of as numbers_in}
 use Rattle.volume.specs.declared.volume.Volume.{Volume}
 use Rattle.exports.specs.Shared.{numbers_of}
-use Rattle.exports.specs.Opening.{EachAt, IsClosed, capped, IsFreshHost, IsFreshBroom, AreFresh}
+use Rattle.exports.specs.Opening.{EachAt, HasNoSeat, capped, IsFreshHost, IsFreshBroom, AreFresh}
 use Rattle.exports.specs.declared.handle.Handle.{Handle}
 use mathlib.Core.Logic.{dite}
 use native.Mathlib.Decide.{ℕ_discrete}
@@ -45,7 +45,7 @@ pub record DealsOn {X : Type 0} (Ready : X → Type 0) (First : ℕ → X → Ty
     (count : ℕ) : Type 0 where
   pub ready : All Ready items
   pub first : EachAt First items
-  pub dealt : Dealt IsClosed Fresh (length items) handles
+  pub dealt : Dealt HasNoSeat Fresh (length items) handles
   pub room : length items ≤ length handles
   pub long : length handles ≡ count
 
@@ -72,7 +72,7 @@ module _ {X : Type 0} (Ready : X → Type 0) (First : ℕ → X → Type 0) (Fre
         record {
           ready = taken_ready.0;
           first = taken_first.0;
-          dealt = deals_next IsClosed Fresh handles (length items) (length rest) h one_fewer has_place fresh on.dealt;
+          dealt = deals_next HasNoSeat Fresh handles (length items) (length rest) h one_fewer has_place fresh on.dealt;
           room = omega (arith, same, has_place);
           long = same ∙ on.long;
         } in
@@ -80,7 +80,7 @@ module _ {X : Type 0} (Ready : X → Type 0) (First : ℕ → X → Type 0) (Fre
 
 -- those before a place are closed
 abbrev pub AreClosedTo : ℕ → List Handle → Type 0
-AreClosedTo n handles = (k : ℕ) (d : Handle) → k < n → k < length handles → IsClosed (get_or handles k d)
+AreClosedTo n handles = (k : ℕ) (d : Handle) → k < n → k < length handles → HasNoSeat (get_or handles k d)
 
 -- the handles have what is dealt of a device of these numbers
 pub now_fresh : (v : Volume) (g : Geometry) (hosts brooms : List Handle) → numbers_of v ≡ g → EachAt (IsFreshHost v) hosts

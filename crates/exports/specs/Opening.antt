@@ -18,8 +18,8 @@ use Rattle.exports.specs.Handles.{seat_of}
 use Rattle.exports.specs.Shared.{numbers_of, host_volume, sweeper_volume}
 
 -- the handle is closed
-abbrev pub IsClosed : Handle → Type 0
-IsClosed h = seat_of h ≡ None
+abbrev pub HasNoSeat : Handle → Type 0
+HasNoSeat h = seat_of h ≡ None
 
 -- a number, or the bound if it is greater
 abbrev pub capped : ℕ → ℕ → ℕ

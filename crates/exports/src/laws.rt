@@ -33,7 +33,7 @@ ghost use Rattle.broom.specs.Handing.{place_of};
 ghost use Rattle.broom.specs.Told.{KeepsSurvey, NextTold, counts_kept, states_kept};
 ghost use Rattle.broom.specs.declared.block_counts.BlockCounts.{BlockCounts};
 ghost use Rattle.flash_rule.specs.BroomPlays.{Loaded};
-ghost use Rattle.geometry.specs.Greedy.{IsClosed as IsMarked};
+ghost use Rattle.geometry.specs.Greedy.{IsClosed};
 ghost use Rattle.geometry.specs.PinWords.{pin_word};
 ghost use Rattle.geometry.specs.declared.pin_word.Phase.TheVariants as phase;
 ghost use Rattle.geometry.specs.declared.pin_word.PinWord.{PinWord};
@@ -62,7 +62,7 @@ ghost use Rattle.exports.specs.Holding.{page_report};
 ghost use Rattle.exports.specs.Holds.{held_value};
 ghost use Rattle.exports.specs.One.{Closed, Open, Other, Machine, machine_of, state_by, on_state, code_on, filled_on, refused, taken, was_at};
 ghost use Rattle.exports.specs.One.{write_on, write_new_on, trim_on, read_on, buffer_on, totals_on, reported, block_on, report_on, open_code, IsFreshIn};
-ghost use Rattle.exports.specs.Opening.{AreFresh, IsClosed, capped, shared_open_code};
+ghost use Rattle.exports.specs.Opening.{AreFresh, HasNoSeat, capped, shared_open_code};
 ghost use Rattle.exports.specs.Shared.{BroomCalled, HostCalled, numbers_of, host_volume, sweeper_volume, holder_volume, seen_of, by_host, by_sweeper};
 ghost use Rattle.exports.specs.Shared.{host_code, sweeper_code, read_code, read_buffer, look_code, write_code, trim_code, erased_code};
 ghost use Rattle.exports.specs.Shared.{Drains, numbers_code, numbers_report, IsStep, HasWritten, HasWrittenNew, HasTrimmed, WriteEnds};
@@ -86,8 +86,8 @@ pub fn calls_of_handles()
     ensures closed_fills { ¬ CallsWith {T = Seat} {O = ℕ} None 4 CLOSED None 5 (λ x o c y p. x ≡ x) }
     ensures says_with { CallsWith {O = ℕ} (Some seat.Away) 4 7 (Some seat.Away) 5
         (λ x o c y p. (o ≡ 4) × (c ≡ 7) × (p ≡ 5)) }
-    ensures is_closed { (h : Handle) → seat_of h ≡ None → IsClosed h }
-    ensures is_open { (h : Handle) (x : Seat) → seat_of h ≡ Some x → ¬ IsClosed h }
+    ensures is_closed { (h : Handle) → seat_of h ≡ None → HasNoSeat h }
+    ensures is_open { (h : Handle) (x : Seat) → seat_of h ≡ Some x → ¬ HasNoSeat h }
     ensures seen_none { (seen_of None ≡ []) × (seen_of (Some seat.Away) ≡ []) }
     ensures seen { (h : Host) (k : Holder)
         → (seen_of (Some (seat.Host h)) ≡ (view_of h.pass).seen)
@@ -490,10 +490,10 @@ pub fn loads_of_blocks()
     ensures kept { (z : Numbers) (b c : Broom) (states : List PinWord)
         → AllLoaded z b states c → (k : ℕ) (p : PinWord)
         → slice_get states k ≡ Some p → HasState b k p
-        → IsMarked (marks_of b) k → IsMarked (marks_of c) k }
+        → IsClosed (marks_of b) k → IsClosed (marks_of c) k }
     ensures no_more { (z : Numbers) (b c : Broom) (states : List PinWord)
-        → AllLoaded z b states c → (k : ℕ) → IsMarked (marks_of c) k
-        → IsMarked (marks_of b) k }
+        → AllLoaded z b states c → (k : ℕ) → IsClosed (marks_of c) k
+        → IsClosed (marks_of b) k }
 {}
 
 /// What a broom has done since it was made.

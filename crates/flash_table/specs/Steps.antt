@@ -92,12 +92,12 @@ abbrev pub DeniesIntact : ℕ → ℕ → Type 0
 DeniesIntact word generation = (state : PinWord) → FitsPin state → pin_word state ≡ word → ¬ Intact state generation
 
 -- the pin is accepted, and nothing else has changed
-abbrev pub IsAccepted : View → MapWord → List ℕ → View → Type 0
-IsAccepted v page value w = w ≡ record v { pin = pin.Accepted page value }
+abbrev pub WasAccepted : View → MapWord → List ℕ → View → Type 0
+WasAccepted v page value w = w ≡ record v { pin = pin.Accepted page value }
 
 -- the candidate's pin was accepted, or it is stray
 abbrev pub PinTold : View → MapWord → Bool → View → Type 0
-PinTold v page result w = (value : List ℕ) → v.pin ≡ pin.Candidate page value → MatchBool result (IsAccepted v page value w) (Strayed v page.block w)
+PinTold v page result w = (value : List ℕ) → v.pin ≡ pin.Candidate page value → MatchBool result (WasAccepted v page value w) (Strayed v page.block w)
 
 -- nobody whose knowledge the pass has programmed its pinned page again
 abbrev pub IsSpared : View → MapWord → Type 0

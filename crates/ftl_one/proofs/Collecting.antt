@@ -7,7 +7,7 @@ use Rattle.geometry.{specs.Geometry.blocks_of, specs.Geometry.pages_of, specs.Gr
 use Rattle.ftl_one.specs.declared.role.Role.{Role, TheVariants.Open, TheVariants.Closed, TheVariants.Spare, TheVariants.Retired}
 use Rattle.ftl_one.specs.{declared.store.Store.Store, declared.one_ftl.OneFtl.OneFtl, Entries.live_count, Fewest.IsFewest, OneFtl.stock_of}
 use Rattle.ftl_one.specs.Stock.{Entry, live_entries, is_free, is_closed, open_of, free_of, spare_of, victim_of, is_retired}
-use Rattle.ftl_one.specs.Store.{geometry_of, entries_of, retired_of, counts_of, HasRoomFor, Clears, Erases}
+use Rattle.ftl_one.specs.Store.{geometry_of, entries_of, retired_of, counts_of, HasRoomFor, Clears, ErasesBlock}
 use Rattle.ftl_one.{specs.Lawful.IsLawful, specs.Lawful.role_in, specs.Lawful.has_pages, proofs.Stores.entries_within, proofs.Stores.count-entries_of}
 use Rattle.ftl_one.proofs.Lawful.{closed_else, lawful-collect, closed≢spare}
 use Rattle.ftl_one.proofs.Layers.{none_found, closed_by, open_of-stock, free_of-stock, spare_found, victim_of-stock}
@@ -130,7 +130,7 @@ module _ (f : OneFtl) (spare : ℕ) (none : open_of (stock_of f).blocks ≡ None
 
   -- what the layer keeps true after it
   pub law_after : (mid new : Store) (v : ℕ) (failed : Bool) (role' : ℕ → Role) → IsGreedy (counts_of f.store) (map is_closed f.roles.items) v
-      → Clears f.store mid v spare → Erases mid new v → retired_of new v ≡ failed → role' spare ≡ Open → role' v ≡ cond failed Retired Spare
+      → Clears f.store mid v spare → ErasesBlock mid new v → retired_of new v ≡ failed → role' spare ≡ Open → role' v ≡ cond failed Retired Spare
       → ((c : ℕ) → c ≢ spare → c ≢ v → role' c ≡ role_in f.roles.items c)
       → IsLawful (blocks_of (geometry_of f.store)) (pages_of (geometry_of f.store)) (λ b. length (entries_of new b)) (retired_of new) role' (Some spare)
   law_after mid new v failed role' best clears erases is_failed opened done others =

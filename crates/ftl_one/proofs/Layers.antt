@@ -13,7 +13,7 @@ use Rattle.ftl_one.specs.{declared.store.Store.Store, Lawful.role_in, Blocks.blo
 use Rattle.ftl_one.{specs.declared.one_ftl.OneFtl.OneFtl, specs.OneFtl.stock_of, proofs.Blocks.spare_of-blocks, proofs.Blocks.victim_of-blocks}
 use Rattle.ftl_one.specs.Stock.{Block, Entry, is_open, is_free, is_spare, is_closed, open_of, free_of, spare_of, live_of, victim_of, change_at, unused, forget}
 use Rattle.ftl_one.specs.Stock.{forgotten, with_page, closed_if_full, filled, emptied, live_entries, is_retired}
-use Rattle.ftl_one.specs.Store.{geometry_of, entries_of, erases_of, retired_of, counts_of, KeepsBlocks, Puts, Clears, Erases, HasRoom}
+use Rattle.ftl_one.specs.Store.{geometry_of, entries_of, erases_of, retired_of, counts_of, KeepsBlocks, Puts, Clears, ErasesBlock, HasRoom}
 use Rattle.ftl_one.proofs.Blocks.{table, length-table, get_or-table, table_is, table-change, table-map, position_alone, open_of-blocks, free_of-blocks}
 use Rattle.ftl_one.proofs.{Lawful.inside, Lawful.open≢retired, Lawful.spare≢retired, Stores.entries_within}
 
@@ -192,7 +192,7 @@ blocks-role s roles roles' b r same low here there =
 -- the blocks after a collection
 pub blocks-collect : (old mid new : Store) (roles roles' : List Role) (spare victim endurance : ℕ) → length roles ≡ blocks_of (geometry_of old)
     → length roles' ≡ length roles → spare < length roles → victim < length roles → victim ≢ spare → Clears old mid victim spare
-    → Erases mid new victim → role_in roles' spare ≡ Open → role_in roles' victim ≡ cond (eqb (erases_of old victim + 1) endurance) Retired Spare
+    → ErasesBlock mid new victim → role_in roles' spare ≡ Open → role_in roles' victim ≡ cond (eqb (erases_of old victim + 1) endurance) Retired Spare
     → ((c : ℕ) → c ≢ spare → c ≢ victim → role_in roles' c ≡ role_in roles c)
     → blocks_in new roles' ≡ change_at
     (change_at (blocks_in old roles) spare (filled (get_or (blocks_in old roles) victim (unused Retired)))) victim (emptied endurance)

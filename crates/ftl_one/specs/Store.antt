@@ -87,7 +87,7 @@ pub record Clears (old new : Store) (victim spare : ℕ) : Type 0 where
   pub keeps : KeepsBlocks old new
 
 -- a block is erased: it has no entry and one more erase, the last erase of its endurance retires it, and nothing else has changed
-pub record Erases (old new : Store) (b : ℕ) : Type 0 where
+pub record ErasesBlock (old new : Store) (b : ℕ) : Type 0 where
   pub emptied : entries_of new b ≡ []
   pub counted : erases_of new b ≡ erases_of old b + 1
   pub retired : retired_of new b ≡ (erases_of old b + 1 == geo.endurance_of (geometry_of old))

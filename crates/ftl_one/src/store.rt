@@ -29,7 +29,7 @@ pub struct Store {
 
 impl Store {
     ghost use Rattle.ftl_one.specs.Store.{geometry_of, array_of, entries_of, erases_of, retired_of, counts_of, IsNew, KeepsBlocks, HasRoom};
-    ghost use Rattle.ftl_one.specs.Store.{HasRoomFor, live_at, sector_of, Forgets, Puts, Relocates, Clears, Erases};
+    ghost use Rattle.ftl_one.specs.Store.{HasRoomFor, live_at, sector_of, Forgets, Puts, Relocates, Clears, ErasesBlock};
     ghost use Rattle.ftl_one.specs.Entries.{live_count};
 
     /// A store with every sector empty and no page programmed.
@@ -219,7 +219,7 @@ impl Store {
         requires dead { live_count (entries_of self.old block) ≡ 0 }
         ensures failed { result
             ≡ (erases_of self.old block + 1 == endurance_of (geometry_of self.old)) }
-        ensures erases { Erases self.old self.new block }
+        ensures erases { ErasesBlock self.old self.new block }
     {
         self.die.erase(block) == 1
     }

@@ -15,7 +15,7 @@ use Rattle.flash_rule.specs.Views.{sum_of}
 use Rattle.flash_rule.specs.Plays.{Disjoint, Once, GoesOnFrom, next_page}
 use Rattle.host.specs.declared.writing_new.NewFault.{NewFault}
 use Rattle.host.specs.declared.writing_new.NewFault.TheVariants as fault
-use Rattle.flash_table.specs.Steps.{IsAccepted}
+use Rattle.flash_table.specs.Steps.{WasAccepted}
 
 -- A pin that came too late was removed: the ages that the pass knows have risen, within their bound
 pub record CameLate (v w : View) : Type 0 where
@@ -25,7 +25,7 @@ pub record CameLate (v w : View) : Type 0 where
 
 -- what a pin of the candidate records, by its result
 abbrev pub PinnedInTime : View → MapWord → Bool → View → Type 0
-PinnedInTime v page result w = (value : List ℕ) → v.pin ≡ Candidate page value → MatchBool result (IsAccepted v page value w) (CameLate v w)
+PinnedInTime v page result w = (value : List ℕ) → v.pin ≡ Candidate page value → MatchBool result (WasAccepted v page value w) (CameLate v w)
 
 -- The pass has looked this many times, at least once. After each look but the last one a block was found to be older than the pass knew; so
 -- the ages that it knows have risen by at least one for each, and since they are bounded, so is the number of looks

@@ -9,7 +9,7 @@ use Rattle.durable.specs.declared.command.Command.{Command}
 use Rattle.durable.specs.declared.command.Command.TheVariants.{Program, Copy, Erase, Refused}
 use Rattle.durable.specs.declared.extent.Extent.{Extent}
 use Rattle.durable.specs.declared.memory.Core.{Core}
-use Rattle.durable.specs.Choice.{IsNext, Spends}
+use Rattle.durable.specs.Choice.{IsNextCommand, Spends}
 use Rattle.durable.specs.Commands.{Completes, is_program}
 use Rattle.durable.specs.Flash.{Flash, PageContents, Version, SetsPage}
 use Rattle.durable.specs.Updates.{Update}
@@ -55,7 +55,7 @@ module _ (f g t : Flash) (numbers : List ℕ) (bad : List Bool) (blocks : ℕ) (
       (ap (λ (c : ℕ). t c p) (order.put b) ∙ held) in
       had (chip_block numbers there.0) there.1 e n v there.2
 
-  pub adds_version : (m : Command) (core : Core) (n : ℕ) (update : Update) → is_program m ≡ true → IsNext core m → core.next_number ≡ n
+  pub adds_version : (m : Command) (core : Core) (n : ℕ) (update : Update) → is_program m ≡ true → IsNextCommand core m → core.next_number ≡ n
       → Completes m update.extent update.value (numbered numbers g) (numbered numbers t) → AddsVersion f t n update
   adds_version (Program at k) core n update is next number does = record {
     block = chip_block numbers at.block;

@@ -24,7 +24,7 @@ use Rattle.nand.specs.declared.flash.Shape.{Shape}
 use Rattle.nand.specs.declared.layer.Durable.{Durable}
 use Rattle.nand.specs.Attempts.{CanReplace}
 use Rattle.nand.specs.Numbers.{IsOrder, Marks, chip_block, good_before, is_marked, numbered}
-use Rattle.nand.specs.Opened.{CanOpen, IsClosed, IsOpenLayer, IsOpenable, IsRefusal, IsReserveBlank}
+use Rattle.nand.specs.Opened.{CanOpen, IsUnmounted, IsOpenLayer, IsOpenable, IsRefusal, IsReserveBlank}
 use Rattle.nand.specs.Opened.{device_on, layer_sectors, most_used, reserve_of, used_blocks}
 use Rattle.nand.proofs.Orders.{lies, few_good, fewer, least_first, least_second, no_greater, openable, other_chip_block, rank}
 use Rattle.nand.proofs.Steps.{device_there, same_order}
@@ -282,7 +282,7 @@ pub all_used : (good most reserve : ℕ) → reserve ≡ 0 → reserve + min goo
 all_used good most reserve none is = omega (arith, none, is, (no_greater good most).1)
 
 -- a layer whose command has failed
-module _ {N : Type 0} (flash : N → Flash) (shape : N → Shape) (bad : N → List Bool) (layer : Durable N) (number : ℕ) (closed : IsClosed layer)
+module _ {N : Type 0} (flash : N → Flash) (shape : N → Shape) (bad : N → List Bool) (layer : Durable N) (number : ℕ) (closed : IsUnmounted layer)
     (order : IsOrder layer.numbers.items (bad layer.nand) (shape layer.nand).blocks)
     (reserve : reserve_of layer + used_blocks (shape layer.nand) (bad layer.nand) (layer_sectors layer)
     ≡ good_before (bad layer.nand) (shape layer.nand).blocks)

@@ -9,12 +9,12 @@ use Rattle.nand.specs.declared.updating.Stop.{Stop}
 use Rattle.nand.specs.declared.updating.Stop.TheVariants as stop
 use Rattle.nand.specs.Nand.{CountsOne}
 use Rattle.nand.specs.Numbers.{Marks, chip_block, good_before, is_marked}
-use Rattle.nand.specs.Opened.{CanOpen, IsClosed, IsOpenLayer, IsOpenable, layer_sectors, reserve_of, used_blocks}
+use Rattle.nand.specs.Opened.{CanOpen, IsUnmounted, IsOpenLayer, IsOpenable, layer_sectors, reserve_of, used_blocks}
 
 -- a command on the block with this number has failed. The chip can be opened with that block in use, and, if there is a reserve, with it marked bad
 pub record CanReplace {N : Type 0} (flash : N → Flash) (shape : N → Shape) (bad : N → List Bool) (layer : Durable N) (number : ℕ) (updates : List Update)
     : Type 0 where
-  pub closed : IsClosed layer
+  pub closed : IsUnmounted layer
   pub opens : CanOpen flash shape bad layer.nand (layer_sectors layer) updates
   pub reserve : reserve_of layer + used_blocks (shape layer.nand) (bad layer.nand) (layer_sectors layer)
       ≡ good_before (bad layer.nand) (shape layer.nand).blocks

@@ -81,8 +81,8 @@ pub record IsOpenLayer {N : Type 0} (flash : N → Flash) (shape : N → Shape) 
   pub consistent : IsConsistent (numbered layer.numbers.items (flash layer.nand)) layer.core updates updates
 
 -- a command of the layer has failed, and its chip was not opened again
-abbrev pub IsClosed : {N : Type 0} → Durable N → Type 0
-IsClosed {N} layer = layer.mounted ≡ false
+abbrev pub IsUnmounted : {N : Type 0} → Durable N → Type 0
+IsUnmounted {N} layer = layer.mounted ≡ false
 
 -- the layer has as many sectors as before, and its chip is as large and has the same bad blocks
 pub record IsSameDevice {N : Type 0} (shape : N → Shape) (bad : N → List Bool) (old new : Durable N) : Type 0 where
@@ -129,7 +129,7 @@ pub record Fails {N : Type 0} (flash : N → Flash) (shape : N → Shape) (bad :
     (updates : List Update) (cause : Failure) : Type 0 where
   pub reopens : CanOpen flash shape bad new.nand (layer_sectors old) updates ⊎ CanOpen flash shape bad new.nand (layer_sectors old) (update ∷ updates)
   pub refused : IsRefusal cause → IsOpenLayer flash shape bad new updates
-  pub stays : IsOpenLayer flash shape bad new updates ⊎ IsClosed new
+  pub stays : IsOpenLayer flash shape bad new updates ⊎ IsUnmounted new
   pub readable : cause ≢ failure.Lost
   pub spent : cause ≡ failure.Failed → IsSpent (shape new.nand) (bad new.nand) (layer_sectors old) (number_of new)
 
@@ -138,7 +138,7 @@ abbrev pub IsTrueCause : {N : Type 0} → (N → Fault → ℕ) → Durable N �
 IsTrueCause {N} faults old new failure.PowerGone = faults new.nand fault.PowerGone ≢ faults old.nand fault.PowerGone
 IsTrueCause {N} faults old new failure.Failed = faults new.nand fault.Failed ≢ faults old.nand fault.Failed
 IsTrueCause {N} faults old new failure.OutOfMemory = faults new.nand fault.Failed ≢ faults old.nand fault.Failed
-IsTrueCause {N} faults old new failure.Closed = IsClosed old
+IsTrueCause {N} faults old new failure.Closed = IsUnmounted old
 IsTrueCause {N} faults old new failure.NoNumber = 2 ^ 64 ≤ number_of old + 1
 IsTrueCause {N} faults old new failure.Written = Unit {0}
 IsTrueCause {N} faults old new failure.Lost = Unit {0}

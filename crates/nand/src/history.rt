@@ -1,7 +1,7 @@
 ghost use Rattle.std.specs.Prelude.{◌≡◌, ◌≢◌, ◌⊎◌, All, false, List, ◌∷◌, [], length, Ok, Err, OnOk, IfOk, IfErr};
 ghost use Rattle.durable.specs.Updates.{Makes, Update};
 ghost use Rattle.nand.specs.Histories.{IsFor, Leads, update_by};
-ghost use Rattle.nand.specs.Opened.{CanOpen, Fails, HasFailed, IsClosed, IsOpenLayer, IsTrueCause, KeepsDevice, MarksFailed, layer_sectors};
+ghost use Rattle.nand.specs.Opened.{CanOpen, Fails, HasFailed, IsUnmounted, IsOpenLayer, IsTrueCause, KeepsDevice, MarksFailed, layer_sectors};
 ghost use Rattle.nand.specs.Programs.{ProgramsOnce};
 ghost use Rattle.nand.specs.declared.failure.Failure.TheVariants as failure;
 
@@ -30,8 +30,8 @@ impl<N: Nand> Durable<N> {
             → IfErr result
             (Fails N.flash N.shape N.bad self.old self.new (update_by change.now) updates) }
         ensures cause { IfErr result (IsTrueCause N.faults self.old self.new) }
-        ensures closed { IsClosed self.old → result ≡ Err failure.Closed }
-        ensures idle { IsClosed self.old → N.tally self.new.nand ≡ N.tally self.old.nand }
+        ensures closed { IsUnmounted self.old → result ≡ Err failure.Closed }
+        ensures idle { IsUnmounted self.old → N.tally self.new.nand ≡ N.tally self.old.nand }
         ensures device { KeepsDevice N.shape N.bad N.faults self.old self.new }
         ensures marks { OnOk result (MarksFailed N.flash N.shape N.bad N.faults self.old self.new) }
         ensures memory { result ≡ Err failure.OutOfMemory

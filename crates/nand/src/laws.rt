@@ -21,7 +21,7 @@ ghost use Rattle.nand.specs.Nand.{CountsCommand, CountsCut, CountsFault, HasByte
 ghost use Rattle.nand.specs.Nand.{noted_of, other_fault, tally_after, value_with};
 ghost use Rattle.nand.specs.Numbers.{IsInReserve, IsInUse, IsOrder, Marks, chip_block, chip_page, good_before};
 ghost use Rattle.nand.specs.Numbers.{is_marked, most_in_use, numbered};
-ghost use Rattle.nand.specs.Opened.{CanFreeInUse, CanOpen, Fails, HasFailed, IsClosed, IsOpenLayer, IsRefusal, IsSameDevice, IsSpent};
+ghost use Rattle.nand.specs.Opened.{CanFreeInUse, CanOpen, Fails, HasFailed, IsUnmounted, IsOpenLayer, IsRefusal, IsSameDevice, IsSpent};
 ghost use Rattle.nand.specs.Opened.{IsTrueCause, KeepsDevice, MarksFailed, ReadsSector, Were};
 ghost use Rattle.nand.specs.Opened.{device_on, layer_sectors, most_used, number_of, reserve_of, update_of};
 ghost use Rattle.nand.specs.Programs.{AddsVersion, HasSomewhere, ProgramsOnce, TalliesOnce};
@@ -338,8 +338,8 @@ pub fn opened()
     ensures number { (layer : Layer Modelled)
         → next_number_of layer.core ≡ 5 → number_of layer ≡ 5 }
     ensures rest { (layer : Layer Modelled) → layer.reserve ≡ 2 → reserve_of layer ≡ 2 }
-    ensures is_closed { (layer : Layer Modelled) → layer.mounted ≡ false → IsClosed layer }
-    ensures closed { (layer : Layer Modelled) (updates : List Update) → IsClosed layer
+    ensures is_closed { (layer : Layer Modelled) → layer.mounted ≡ false → IsUnmounted layer }
+    ensures closed { (layer : Layer Modelled) (updates : List Update) → IsUnmounted layer
         → ¬ IsOpenLayer chip_flash chip_shape chip_bad layer updates }
     ensures other_chip { (layer : Layer Modelled) (updates : List Update)
         → (chip_shape layer.nand).blocks ≡ 3 → (device_of layer.core).read_blocks ≡ 4

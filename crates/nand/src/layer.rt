@@ -9,7 +9,7 @@ ghost use Rattle.durable.specs.declared.fault.MountFault.TheVariants as mount_fa
 ghost use Rattle.durable.specs.Device.{IsWrittenOn, losses_of};
 ghost use Rattle.durable.specs.Flash.{IsErased, PageContents};
 ghost use Rattle.nand.specs.Numbers.{good_before};
-ghost use Rattle.nand.specs.Opened.{CanOpen, Fails, IsClosed, IsOpenLayer, IsSameDevice, IsTrueCause, KeepsDevice, MarksFailed, ReadsSector, Were};
+ghost use Rattle.nand.specs.Opened.{CanOpen, Fails, IsUnmounted, IsOpenLayer, IsSameDevice, IsTrueCause, KeepsDevice, MarksFailed, ReadsSector, Were};
 ghost use Rattle.nand.specs.Opened.{device_on, layer_sectors, reserve_of, update_of};
 ghost use Rattle.nand.specs.Stored.{ReadsStored, StopsLook, StopsUpdate, TellsStored, WereStored, stored_value, told_of, value_for};
 ghost use Rattle.nand.specs.Looks.{Looks};
@@ -198,7 +198,7 @@ impl<N: Nand> Durable<N> {
         ensures only { (updates : List Update) → IsOpenLayer N.flash N.shape N.bad self.old updates
             → OnErr result (result ≡ Err failure.PowerGone) }
         ensures cause { IfErr result (IsTrueCause N.faults self.old self.new) }
-        ensures closed { IsClosed self.old → result ≡ Err failure.Closed }
+        ensures closed { IsUnmounted self.old → result ≡ Err failure.Closed }
         ensures flash { N.flash self.new.nand ≡ N.flash self.old.nand }
         ensures tally { N.tally self.new.nand ≡ N.tally self.old.nand }
         ensures device { IsSameDevice N.shape N.bad self.old self.new }
@@ -235,8 +235,8 @@ impl<N: Nand> Durable<N> {
             (Fails N.flash N.shape N.bad self.old self.new
             (update_of (sole sector) (Some bytes.now)) updates) }
         ensures cause { IfErr result (IsTrueCause N.faults self.old self.new) }
-        ensures closed { IsClosed self.old → result ≡ Err failure.Closed }
-        ensures idle { IsClosed self.old → N.tally self.new.nand ≡ N.tally self.old.nand }
+        ensures closed { IsUnmounted self.old → result ≡ Err failure.Closed }
+        ensures idle { IsUnmounted self.old → N.tally self.new.nand ≡ N.tally self.old.nand }
         ensures device { KeepsDevice N.shape N.bad N.faults self.old self.new }
         ensures marks { OnOk result (MarksFailed N.flash N.shape N.bad N.faults self.old self.new) }
         ensures memory { result ≡ Err failure.OutOfMemory
@@ -279,8 +279,8 @@ impl<N: Nand> Durable<N> {
             (Fails N.flash N.shape N.bad self.old self.new
             (update_of (sole sector) (Some bytes.now)) updates) }
         ensures cause { IfErr result (IsTrueCause N.faults self.old self.new) }
-        ensures closed { IsClosed self.old → result ≡ Err failure.Closed }
-        ensures idle { IsClosed self.old → N.tally self.new.nand ≡ N.tally self.old.nand }
+        ensures closed { IsUnmounted self.old → result ≡ Err failure.Closed }
+        ensures idle { IsUnmounted self.old → N.tally self.new.nand ≡ N.tally self.old.nand }
         ensures refused { result ≡ Err failure.Written
             → N.tally self.new.nand ≡ N.tally self.old.nand }
         ensures device { KeepsDevice N.shape N.bad N.faults self.old self.new }
@@ -322,8 +322,8 @@ impl<N: Nand> Durable<N> {
             → IfErr result
             (Fails N.flash N.shape N.bad self.old self.new (update_of extent None) updates) }
         ensures cause { IfErr result (IsTrueCause N.faults self.old self.new) }
-        ensures closed { IsClosed self.old → result ≡ Err failure.Closed }
-        ensures idle { IsClosed self.old → N.tally self.new.nand ≡ N.tally self.old.nand }
+        ensures closed { IsUnmounted self.old → result ≡ Err failure.Closed }
+        ensures idle { IsUnmounted self.old → N.tally self.new.nand ≡ N.tally self.old.nand }
         ensures device { KeepsDevice N.shape N.bad N.faults self.old self.new }
         ensures marks { OnOk result (MarksFailed N.flash N.shape N.bad N.faults self.old self.new) }
         ensures memory { result ≡ Err failure.OutOfMemory
@@ -370,7 +370,7 @@ impl<N: Nand> Durable<N> {
         ensures looks { Looks N.flash N.shape N.bad N.faults N.tally self.old self.new result }
         ensures only { (updates : List Update) → IsOpenLayer N.flash N.shape N.bad self.old updates
             → OnErr result (result ≡ Err failure.PowerGone) }
-        ensures closed { IsClosed self.old → result ≡ Err failure.Closed }
+        ensures closed { IsUnmounted self.old → result ≡ Err failure.Closed }
     {
         if !self.mounted {
             return Err(Failure::Closed);
@@ -393,7 +393,7 @@ impl<N: Nand> Durable<N> {
         ensures looks { Looks N.flash N.shape N.bad N.faults N.tally self.old self.new result }
         ensures only { (updates : List Update) → IsOpenLayer N.flash N.shape N.bad self.old updates
             → OnErr result (result ≡ Err failure.PowerGone) }
-        ensures closed { IsClosed self.old → result ≡ Err failure.Closed }
+        ensures closed { IsUnmounted self.old → result ≡ Err failure.Closed }
     {
         for sector in extent.first..extent.first + extent.count {
             match self.was(sector) {

@@ -7,7 +7,7 @@ ghost use Rattle.durable.specs.declared.command.Command.TheVariants as commands;
 ghost use Rattle.nand.specs.Attempts.{CanReplace, CountsStop, Leaves};
 ghost use Rattle.nand.specs.Nand.{CountsCommand, CountsFault, Performs, value_with};
 ghost use Rattle.nand.specs.Numbers.{IsOrder, good_before, is_marked, numbered};
-ghost use Rattle.nand.specs.Opened.{CanOpen, Fails, IsClosed, IsOpenLayer, IsSameDevice, IsTrueCause, KeepsDevice, MarksFailed};
+ghost use Rattle.nand.specs.Opened.{CanOpen, Fails, IsUnmounted, IsOpenLayer, IsSameDevice, IsTrueCause, KeepsDevice, MarksFailed};
 ghost use Rattle.nand.specs.Opened.{layer_sectors, number_of, reserve_of, update_of};
 ghost use Rattle.nand.specs.Programs.{AddsVersion, ProgramsOnce, TalliesOnce};
 ghost use Rattle.nand.specs.declared.failure.Failure.TheVariants as failure;
@@ -99,8 +99,8 @@ impl<N: Nand> Durable<N> {
             (Fails N.flash N.shape N.bad self.old self.new
             (update_of extent (value_with trimmed main.now)) updates) }
         ensures cause { IfErr result (IsTrueCause N.faults self.old self.new) }
-        ensures closed { IsClosed self.old → result ≡ Err failure.Closed }
-        ensures idle { IsClosed self.old → N.tally self.new.nand ≡ N.tally self.old.nand }
+        ensures closed { IsUnmounted self.old → result ≡ Err failure.Closed }
+        ensures idle { IsUnmounted self.old → N.tally self.new.nand ≡ N.tally self.old.nand }
         ensures device { KeepsDevice N.shape N.bad N.faults self.old self.new }
         ensures marks { OnOk result (MarksFailed N.flash N.shape N.bad N.faults self.old self.new) }
         ensures memory { result ≡ Err failure.OutOfMemory
@@ -202,7 +202,7 @@ impl<N: Nand> Durable<N> {
             ≡ good_before (N.bad self.old.nand) (N.shape self.old.nand).blocks)) }
         ensures closed { (updates : List Update)
             → CanReplace N.flash N.shape N.bad self.old number updates → 0 < reserve_of self.old
-            → OnErr result (IsClosed self.new
+            → OnErr result (IsUnmounted self.new
             × CanOpen N.flash N.shape N.bad self.new.nand (layer_sectors self.old) updates) }
         ensures marked { (updates : List Update)
             → CanReplace N.flash N.shape N.bad self.old number updates

@@ -16,7 +16,7 @@ pub record IsNoText (arguments : Option (List Text)) (place : ℕ) : Type 0 wher
   pub bytes : IfSome arguments (λ all. (text : Text) × (slice_get all before ≡ Some text) × ¬ IsUtf8 text)
 
 -- why the words of a command line could not be read
-abbrev pub IsUnread : Option (List Text) → Stop → Type 0
-IsUnread arguments (stop.Encoding place) = IsNoText arguments place
-IsUnread arguments stop.Memory = ⊤
-IsUnread _ _ = ⊥
+abbrev pub WhyUnread : Option (List Text) → Stop → Type 0
+WhyUnread arguments (stop.Encoding place) = IsNoText arguments place
+WhyUnread arguments stop.Memory = ⊤
+WhyUnread _ _ = ⊥

@@ -223,18 +223,18 @@ pub record Finishes (ending : Result (Unit {0}) Stop) (geo : Geometry) (given : 
   pub ending_is : ending ≡ outcome_of log wear (refusal_by (hosts_of geo)) (counted_refusals given plays.refused)
 
 -- nothing was read, and nothing written to the output
-abbrev pub IsIdle : Passage → Passage → Type 0
-IsIdle input output = (input.after ≡ input.before) × (output.after ≡ output.before)
+abbrev pub MovesNothing : Passage → Passage → Type 0
+MovesNothing input output = (input.after ≡ input.before) × (output.after ≡ output.before)
 
 -- why a file of a run was not written: it is the wear and workers are asked for, the system did not open it, it is in use by the run, or it failed
 -- as it was written
 abbrev pub ExplainsFile : RunFile → FileStop → Geometry → Options → Passage → Passage → Filings → Type 0
 ExplainsFile file file_stop.NotWithWorkers geo given input output files =
-    (hosts_of geo ≢ 0) × (file ≡ run_file.Wear) × (is_some (name_given file given) ≡ true) × IsIdle input output × AreUntouched files
+    (hosts_of geo ≢ 0) × (file ≡ run_file.Wear) × (is_some (name_given file given) ≡ true) × MovesNothing input output × AreUntouched files
 ExplainsFile file file_stop.NotOpened geo given input output files =
-    (is_some (name_given file given) ≡ true) × IsIdle input output × FailsToOpen file open_fault.Refused given files
+    (is_some (name_given file given) ≡ true) × MovesNothing input output × FailsToOpen file open_fault.Refused given files
 ExplainsFile file file_stop.NotItsOwn geo given input output files =
-    (is_some (name_given file given) ≡ true) × IsIdle input output × FailsToOpen file open_fault.InUse given files
+    (is_some (name_given file given) ≡ true) × MovesNothing input output × FailsToOpen file open_fault.InUse given files
 ExplainsFile file file_stop.Failed geo given input output files = Finishes (Err (stop.File file file_stop.Failed)) geo given input output files
 
 -- how a run on a device ended, by the options
@@ -285,11 +285,11 @@ pub record Ran (ending : Result (Unit {0}) Stop) (words : List Text) (input outp
 -- why a session stopped. Nothing is on the output except after `Output` of a run, `Help`, `Failed` of a file and `Refused`; only a run reads
 -- anything; and nothing is in a file except after `Output` of a run, the `Failed` of a file and `Refused`
 abbrev pub ExplainsStop : Stop → List Text → Passage → Passage → Filings → Type 0
-ExplainsStop (stop.Arguments text) words input output files = IsRefused words × IsIdle input output × AreUntouched files
+ExplainsStop (stop.Arguments text) words input output files = IsRefused words × MovesNothing input output × AreUntouched files
 ExplainsStop (stop.Encoding place) words input output files = ⊥
-ExplainsStop (stop.Geometry found) words input output files = DescribesNone words found × IsIdle input output × AreUntouched files
+ExplainsStop (stop.Geometry found) words input output files = DescribesNone words found × MovesNothing input output × AreUntouched files
 ExplainsStop stop.Help words input output files = (failed : OutputFailed) × Helped (Err failed) words input output files
-ExplainsStop stop.Memory words input output files = IsIdle input output × AreUntouched files
+ExplainsStop stop.Memory words input output files = MovesNothing input output × AreUntouched files
 ExplainsStop why words input output files = Ran (Err why) words input output files
 
 -- how an attempt ended

@@ -37,9 +37,9 @@ text_of (stop.File file why) = file_name file ++ file_text why ++ codes "\n"
 text_of (stop.Refused why count) = codes "writes refused: " ++ decimal count ++ codes " " ++ refusal_text why ++ codes "\n"
 
 -- the same if it is a line of our own, and nothing if it is clap's text
-abbrev pub line_of : Stop → List ℕ
-line_of (stop.Arguments text) = []
-line_of why = text_of why
+abbrev pub stop_line : Stop → List ℕ
+stop_line (stop.Arguments text) = []
+stop_line why = text_of why
 
 -- a text was written whole if no call of the writer failed, and otherwise a beginning of it
 pub record IsTold (text : List ℕ) (errors : Passage) : Type 0 where

@@ -1,5 +1,5 @@
 ghost use Rattle.std.specs.Prelude.{◌≡◌, ℕ, List, Option, None, IfErr, IfOk, IfSome, slice_get, map, option_map, string_bytes};
-ghost use Rattle.player.specs.Arguments.{AreWordsOf, IsUnread};
+ghost use Rattle.player.specs.Arguments.{AreWordsOf, WhyUnread};
 
 use crate::stop::Stop;
 use std::alloc::{AllocError, Global};
@@ -41,7 +41,7 @@ impl<S: Env> Arguments for S {
 pub fn read_words<S: Arguments>(system: &S, alloc: Global) -> Result<Vec<String>, Stop>
     ensures words { IfOk result
         (λ words. IfSome (S.all system.now) (AreWordsOf (map string_bytes words.items))) }
-    ensures why { IfErr result (IsUnread (S.all system.now)) }
+    ensures why { IfErr result (WhyUnread (S.all system.now)) }
 {
     let Ok(name) = String::from_str(alloc, "flashplay") else {
         return Err(Stop::Memory);

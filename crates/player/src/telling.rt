@@ -1,7 +1,7 @@
 ghost use Rattle.std.specs.Prelude.{◌≡◌, ◌+◌, ◌≤◌, ◌++◌, codes, decimal, length};
 ghost use Rattle.trace.specs.Faults.{fault_text};
 ghost use Rattle.answers.specs.{Faults.run_text, Streams.over};
-ghost use Rattle.player.specs.{Session.status_of, Telling.IsTold, Telling.TellsStop, Telling.line_of, Telling.refusal_text};
+ghost use Rattle.player.specs.{Session.status_of, Telling.IsTold, Telling.TellsStop, Telling.stop_line, Telling.refusal_text};
 ghost use Rattle.player.specs.declared.telling.TheConstants.{LINE_BYTES};
 
 use crate::refusal::Refusal;
@@ -39,7 +39,7 @@ fn tell_text<E: Write>(text: &str, errors: &mut Watched<E>)
 
 // The line that reports a stop. It is empty if the text is clap's.
 fn line(stop: &Stop) -> Line
-    ensures { result.bytes ≡ line_of stop.now }
+    ensures { result.bytes ≡ stop_line stop.now }
 {
     match stop {
         Stop::Arguments(_) => ArrayString::new(),

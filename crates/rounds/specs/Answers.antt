@@ -40,5 +40,5 @@ abbrev pub first_place : Cursor
 first_place = record { line = 0; page = 0 }
 
 -- the index of the answer at the cursor
-abbrev pub place_of : Cursor → ℕ
-place_of cursor = cursor.line
+abbrev pub answer_index : Cursor → ℕ
+answer_index cursor = cursor.line

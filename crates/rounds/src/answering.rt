@@ -1,7 +1,7 @@
 ghost use Rattle.std.specs.Prelude.{◌≡◌, ℕ, Some, [], ◌∷◌, ◌++◌, ◌+◌, ◌*◌, ◌<◌, IfOk, length, slice_get, take};
 ghost use Rattle.rounds.specs.declared.answer.Kind.TheVariants as kinds;
 ghost use Rattle.rounds.specs.Pages.{bytes_of};
-ghost use Rattle.rounds.specs.Answers.{first_place, page_size_of, place_of, said_in, HasSpace, IsCursorOf};
+ghost use Rattle.rounds.specs.Answers.{first_place, page_size_of, answer_index, said_in, HasSpace, IsCursorOf};
 
 use crate::answer::Kind;
 use crate::answer_list::{Answers, Cursor};
@@ -66,11 +66,11 @@ impl Answers {
 
     /// The answer at a cursor, which moves on to the next one. The page is empty if the answer has none.
     pub fn next(&self, cursor: &mut Cursor) -> (Kind, &[u8])
-        requires there { place_of cursor.old < length (said_in self.now) }
+        requires there { answer_index cursor.old < length (said_in self.now) }
         requires at { IsCursorOf self.now cursor.old }
-        ensures answer { slice_get (said_in self.now) (place_of cursor.old)
+        ensures answer { slice_get (said_in self.now) (answer_index cursor.old)
             ≡ Some (record { kind = result.0; page = result.1.now }) }
-        ensures place { place_of cursor.new ≡ place_of cursor.old + 1 }
+        ensures place { answer_index cursor.new ≡ answer_index cursor.old + 1 }
         ensures at { IsCursorOf self.now cursor.new }
     {
         let kind = self.kinds[cursor.line];

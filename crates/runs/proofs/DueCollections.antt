@@ -8,7 +8,7 @@ use Rattle.ftl_one.proofs.{Current.next_empty, Current.next_written, Laws.map-er
 use Rattle.trace.specs.declared.commands.{Command.Command, Op.Op}
 use Rattle.trace.specs.declared.commands.Op.TheVariants as op
 use Rattle.answers.specs.Answers.{call_by}
-use Rattle.runs.specs.{Logs.due_by, Playing.after_call, Playing.stock_after}
+use Rattle.runs.specs.{Logs.due_before, Playing.after_call, Playing.stock_after}
 
 not_less : (a b : ℕ) → b ≡ a → ltb a b ≡ false
 not_less a b same = grind (arith, nat_tests)
@@ -58,7 +58,7 @@ of_trim geo k s =
 
 by_op : (geo : Geometry) (k : Stock) (o : Op) (s : ℕ) (value : List ℕ)
     → collection_between geo k (option_map_or (after_call geo k) (call_by o s value) k)
-    ≡ cond (ltb k.programs (option_map_or (after_call geo k) (call_by o s value) k).programs) (due_by o geo k) None
+    ≡ cond (ltb k.programs (option_map_or (after_call geo k) (call_by o s value) k).programs) (due_before o geo k) None
 by_op geo k op.Read s value = same_stock geo k None
 by_op geo k op.Write s value = of_write geo k s value
 by_op geo k op.New s value = of_new geo k s value (has_page s k) refl
@@ -66,7 +66,7 @@ by_op geo k op.Trim s value = of_trim geo k s
 by_op geo k op.Meet s value = same_stock geo k None
 
 -- what a command made, by the pages programmed before and after
-pub made_is : (geo : Geometry) (k new : Stock) (c : Command) (due : Option Collection) → new ≡ stock_after geo k c → due ≡ due_by c.op geo k
+pub made_is : (geo : Geometry) (k new : Stock) (c : Command) (due : Option Collection) → new ≡ stock_after geo k c → due ≡ due_before c.op geo k
     → collection_between geo k new ≡ cond (ltb k.programs new.programs) due None
 made_is geo k new c due is due_is =
     subst (λ (x : Stock). collection_between geo k x ≡ cond (ltb k.programs x.programs) due None) (sym is)

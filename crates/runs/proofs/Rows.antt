@@ -8,7 +8,7 @@ use Rattle.std.proofs.Math.Seq.{take-append_seam}
 use mathlib.Core.Logic.{dite}
 use native.Mathlib.Decide.{ℕ_discrete}
 use Rattle.trace.specs.declared.commands.Command.{Command}
-use Rattle.rounds.specs.{Lines.Said, Rows.answers_by, Answers.first_place, Answers.page_size_of, Answers.place_of, Answers.said_in, Answers.IsCursorOf}
+use Rattle.rounds.specs.{Lines.Said, Rows.answers_by, Answers.first_place, Answers.page_size_of, Answers.answer_index, Answers.said_in, Answers.IsCursorOf}
 use Rattle.rounds.specs.Merging.{is_meet, is_line_of, line_count, lines_for, next_of, rows_after, HaveAnswers}
 use Rattle.rounds.proofs.{Merging.own_line, Planning.at_place, Planning.commands_more, Pages.said_whole}
 use Rattle.rounds.specs.declared.answer_list.{Answers.Answers, Cursor.Cursor}
@@ -163,9 +163,9 @@ all_digits n rows all k d low =
 -- no row is passed at first
 pub none_passed : (next : List Cursor) (n : ℕ) (cs : List Command) → next ≡ replicate n first_place → AreNext (passed_in next) 0 cs
 none_passed next n cs is t low =
-    let inside : t < length next = omega (arith, length-map next place_of) in
-    get_or-map place_of next t first_place 0 inside
-    ∙ ap place_of (ap (λ (l : List Cursor). get_or l t first_place) is
+    let inside : t < length next = omega (arith, length-map next answer_index) in
+    get_or-map answer_index next t first_place 0 inside
+    ∙ ap answer_index (ap (λ (l : List Cursor). get_or l t first_place) is
     ∙ get_or-replicate n t first_place first_place (subst (λ k. t < k) (ap (length {A = Cursor}) is ∙ length-replicate n first_place) inside))
 
 pub all_at : (rows : List Answers) (next : List Cursor) (n : ℕ) → next ≡ replicate n first_place → AreAt rows next

@@ -3,7 +3,7 @@ use Rattle.std.specs.Borrow.{Bor}
 use Rattle.std.specs.Prelude.{◌≡◌, ℕ, ◌+◌, ◌*◌, ◌<◌, List, ◌++◌, Option, None, if◌then◌else◌, length, map, slice_get, slice_index_or, slice_set, vec_len}
 use Rattle.trace.specs.declared.commands.Command.{Command}
 use Rattle.answers.specs.{Answers.end_text, Answers.line_text, Lines.page_digits_of}
-use Rattle.rounds.specs.{Lines.Said, Answers.place_of, Answers.IsCursorOf, declared.answer.Kind.Kind, declared.answer_list.Answers.Answers}
+use Rattle.rounds.specs.{Lines.Said, Answers.answer_index, Answers.IsCursorOf, declared.answer.Kind.Kind, declared.answer_list.Answers.Answers}
 use Rattle.rounds.specs.{declared.answer_list.Cursor.Cursor, Merging.answer_for, Merging.is_meet, Merging.merge, Texts.answer_text, Texts.lines_text}
 use Rattle.rounds.specs.declared.answer.Kind.TheVariants as kind
 use Rattle.runs.specs.declared.delivery.Delivery.{Delivery}
@@ -26,7 +26,7 @@ said_as answer = record { kind = answer.0; page = answer.1.now }
 
 -- how many answers of each worker were used, as the indexes of the next answers
 abbrev pub passed_in : List Cursor → List ℕ
-passed_in next = map place_of next
+passed_in next = map answer_index next
 
 -- each of these indexes is one of its worker's answers
 abbrev pub AreAt : List Answers → List Cursor → Type 0

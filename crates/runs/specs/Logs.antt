@@ -38,10 +38,10 @@ IsLogged (log.Open lines) file text = (file.after.failures ≡ file.before.failu
 IsLogged log.Failed file text = (file.after.failures ≢ file.before.failures) × Writes Part text file
 
 -- the collection that a command may make: the one that is needed before a page is programmed, if the command may program a page
-abbrev pub due_by : Op → Geometry → Stock → Option Collection
-due_by op.Write geo stock = collection_due geo stock
-due_by op.New geo stock = collection_due geo stock
-due_by _ _ _ = None
+abbrev pub due_before : Op → Geometry → Stock → Option Collection
+due_before op.Write geo stock = collection_due geo stock
+due_before op.New geo stock = collection_due geo stock
+due_before _ _ _ = None
 
 -- the text of a log is right for the bytes of the trace, and this much of it was written
 pub record IsLogUnderWay (geo : Geometry) (input : Stream) (state : Log) (file : Passage) : Type 0 where

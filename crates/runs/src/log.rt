@@ -2,7 +2,7 @@ ghost use Rattle.std.specs.Prelude.{◌≡◌, [], ◌++◌, List, ℕ, IfOk};
 ghost use Rattle.ftl_one.specs.OneFtl.{geometry_of, stock_of};
 ghost use Rattle.answers.specs.{Answers.collection_names, Streams.Stream, Streams.stream_of};
 ghost use Rattle.answers.specs.Streams.{WritesIf};
-ghost use Rattle.runs.specs.{Collections.log_part, Logs.IsLogged, Logs.IsOpen, Logs.due_by, Logs.is_wanted};
+ghost use Rattle.runs.specs.{Collections.log_part, Logs.IsLogged, Logs.IsOpen, Logs.due_before, Logs.is_wanted};
 
 use answers::{Lines, OutputFailed};
 use ftl_one::{Collection, OneFtl};
@@ -41,7 +41,7 @@ impl Log {
 
     /// The collection that a command makes if it programs a page. It is searched for only if the log is written.
     pub fn due(&self, ftl: &OneFtl, op: Op) -> Option<Collection>
-        ensures { IsOpen self.now → result ≡ due_by op (geometry_of ftl.now) (stock_of ftl.now) }
+        ensures { IsOpen self.now → result ≡ due_before op (geometry_of ftl.now) (stock_of ftl.now) }
     {
         match (self, op) {
             (Log::Open(_), Op::Write | Op::New) => ftl.collection_due(),

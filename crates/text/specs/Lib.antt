@@ -1,6 +1,6 @@
 -- What public contracts rest on.
 pub mod Digits
 pub mod Lanes
-pub mod Placed
+pub mod Putting
 -- Internal.
 pub mod Encoding

@@ -1,6 +1,6 @@
 //! Laws of where digits and fields end, and of a short text. Each function has no code: its clauses say where a definition holds and where it doesn't.
 ghost use Rattle.std.specs.Prelude.{◌≡◌, ℕ, List, [], codes};
-ghost use Rattle.text.specs.{Digits.EndsDigits, Lanes.IsRun, Placed.short_of};
+ghost use Rattle.text.specs.{Digits.EndsDigits, Lanes.IsRun, Putting.short_of};
 
 /// Where the digits end that begin at a place: at the first byte that is none, or with the text.
 pub fn ends_of_digits()

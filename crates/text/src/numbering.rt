@@ -1,6 +1,6 @@
 //! The numbers of lines. They grow by one from line to line, so the digits before the last four are kept.
 ghost use Rattle.std.specs.Prelude.{◌≡◌, ◌+◌, ◌/◌, ◌%◌, ◌<◌, ◌≤◌, [], ◌∷◌, ◌++◌, length, decimal};
-ghost use Rattle.text.specs.{Placed.Placed, Placed.short_of, declared.numbering.TheConstants.STEP, declared.put.TheConstants.SHORT_BYTES};
+ghost use Rattle.text.specs.{Putting.PutsText, Putting.short_of, declared.numbering.TheConstants.STEP, declared.put.TheConstants.SHORT_BYTES};
 
 use crate::put::{NUMBER_BYTES, SHORT_BYTES, Short, put_first, put_four, put_number, put_short};
 
@@ -36,7 +36,7 @@ impl Numbering {
     #[inline(always)]
     pub fn put(&mut self, buffer: &mut [u8], at: usize, number: u64) -> usize
         requires { at + NUMBER_BYTES + 1 ≤ length buffer.old }
-        ensures placed { Placed buffer.old buffer.new at (decimal number ++ 44 ∷ []) result }
+        ensures placed { PutsText buffer.old buffer.new at (decimal number ++ 44 ∷ []) result }
         ensures end { result ≤ at + NUMBER_BYTES + 1 }
     {
         if number < STEP || number >= LONG {

@@ -1,7 +1,7 @@
 //! Puts texts at a place in a buffer. The bytes after a text may change, within its room.
 ghost use Rattle.std.specs.Prelude.{◌≡◌, ◌+◌, ◌*◌, ◌<◌, ◌≤◌, [], ◌∷◌, ◌++◌, length, take, decimal};
 ghost use Rattle.hex.specs.Hex.{encode_lower};
-ghost use Rattle.text.specs.Placed.{Placed, four_digits, short_of, two_digits};
+ghost use Rattle.text.specs.Putting.{PutsText, four_digits, short_of, two_digits};
 
 use crate::encoding::encode;
 use std::simd::prelude::*;
@@ -37,7 +37,7 @@ struct Filled {
 pub fn put_short(buffer: &mut [u8], at: usize, text: &Short) -> usize
     requires room { at + SHORT_BYTES ≤ length buffer.old }
     requires short { text.now.len ≤ SHORT_BYTES }
-    ensures placed { Placed buffer.old buffer.new at (short_of text.now) result }
+    ensures placed { PutsText buffer.old buffer.new at (short_of text.now) result }
     ensures end { result ≤ at + SHORT_BYTES }
 {
     u8x16::from_array(text.bytes).copy_to_slice(&mut buffer[at..]);
@@ -47,7 +47,7 @@ pub fn put_short(buffer: &mut [u8], at: usize, text: &Short) -> usize
 /// Puts a text. Returns the index after it.
 pub fn put_text(buffer: &mut [u8], at: usize, text: &[u8]) -> usize
     requires { at + length text.now ≤ length buffer.old }
-    ensures placed { Placed buffer.old buffer.new at text.now result }
+    ensures placed { PutsText buffer.old buffer.new at text.now result }
     ensures end { result ≡ at + length text.now }
 {
     let end = at + text.len();
@@ -59,7 +59,7 @@ pub fn put_text(buffer: &mut [u8], at: usize, text: &[u8]) -> usize
 #[inline(always)]
 pub fn put_page(buffer: &mut [u8], at: usize, page: &[u8]) -> usize
     requires { at + 2 * length page.now ≤ length buffer.old }
-    ensures placed { Placed buffer.old buffer.new at (encode_lower page.now) result }
+    ensures placed { PutsText buffer.old buffer.new at (encode_lower page.now) result }
     ensures end { result ≡ at + 2 * length page.now }
 {
     let end = at + 2 * page.len();
@@ -71,7 +71,7 @@ pub fn put_page(buffer: &mut [u8], at: usize, page: &[u8]) -> usize
 #[inline(always)]
 pub fn put_number(buffer: &mut [u8], at: usize, number: u64, end: u8) -> usize
     requires { at + NUMBER_BYTES + 1 ≤ length buffer.old }
-    ensures placed { Placed buffer.old buffer.new at (decimal number ++ end ∷ []) result }
+    ensures placed { PutsText buffer.old buffer.new at (decimal number ++ end ∷ []) result }
     ensures end { result ≤ at + NUMBER_BYTES + 1 }
 {
     let last = put_digits(buffer, at, number);
@@ -83,7 +83,7 @@ pub fn put_number(buffer: &mut [u8], at: usize, number: u64, end: u8) -> usize
 #[inline(always)]
 fn put_digits(buffer: &mut [u8], at: usize, number: u64) -> usize
     requires { at + NUMBER_BYTES ≤ length buffer.old }
-    ensures placed { Placed buffer.old buffer.new at (decimal number) result }
+    ensures placed { PutsText buffer.old buffer.new at (decimal number) result }
     ensures end { result ≤ at + NUMBER_BYTES }
 {
     if number < 10_000 {
@@ -101,7 +101,7 @@ fn put_digits(buffer: &mut [u8], at: usize, number: u64) -> usize
 #[inline(always)]
 pub(crate) fn put_first(buffer: &mut [u8], at: usize, number: u32) -> usize
     requires { (number < 10000) × (at + 4 ≤ length buffer.old) }
-    ensures placed { Placed buffer.old buffer.new at (decimal number) result }
+    ensures placed { PutsText buffer.old buffer.new at (decimal number) result }
     ensures end { result ≤ at + 4 }
 {
     let filled = fill(number);
@@ -135,7 +135,7 @@ fn fill(number: u32) -> Filled
 #[inline(always)]
 pub(crate) fn put_four(buffer: &mut [u8], at: usize, digits: u32)
     requires { (digits < 10000) × (at + 4 ≤ length buffer.old) }
-    ensures { Placed buffer.old buffer.new at (four_digits digits) (at + 4) }
+    ensures { PutsText buffer.old buffer.new at (four_digits digits) (at + 4) }
 {
     put_two(buffer, at, digits / 100);
     put_two(buffer, at + 2, digits % 100);
@@ -145,7 +145,7 @@ pub(crate) fn put_four(buffer: &mut [u8], at: usize, digits: u32)
 #[inline(always)]
 fn put_two(buffer: &mut [u8], at: usize, digits: u32)
     requires { (digits < 100) × (at + 2 ≤ length buffer.old) }
-    ensures { Placed buffer.old buffer.new at (two_digits digits) (at + 2) }
+    ensures { PutsText buffer.old buffer.new at (two_digits digits) (at + 2) }
 {
     let from = 2 * digits as usize;
     let (tens, ones) = (PAIRS[from], PAIRS[from + 1]);
@@ -157,7 +157,7 @@ fn put_two(buffer: &mut [u8], at: usize, digits: u32)
 #[cold]
 fn put_long(buffer: &mut [u8], at: usize, number: u64) -> usize
     requires { at + NUMBER_BYTES ≤ length buffer.old }
-    ensures placed { Placed buffer.old buffer.new at (decimal number) result }
+    ensures placed { PutsText buffer.old buffer.new at (decimal number) result }
     ensures end { result ≤ at + NUMBER_BYTES }
 {
     let mut digits = itoa::Buffer::new();

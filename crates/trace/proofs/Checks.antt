@@ -5,7 +5,7 @@ use Rattle.std.specs.Prelude.{Bool, false, MatchBool, if◌then◌else◌}
 use Rattle.geometry.specs.{Geometry.page_bytes_of, Geometry.sectors_of, declared.geometry.Geometry.Geometry}
 use Rattle.hex.specs.{Hex.decode_of, declared.error.FromHexError.FromHexError}
 use Rattle.trace.specs.{Parsing.Adds, Parsing.RefusesBy, Parsing.fault_at, Trace.whole_fault, Trace.workers_of, Trace.◌>>=◌, declared.commands.Command.Command}
-use Rattle.trace.specs.Trace.{IsFirstFault, all_or_first, checked, command_of, commands_of, is_of_record, name_of, number_below, op_of, page_of, page_of_bytes}
+use Rattle.trace.specs.Trace.{IsFirstFault, all_or_first, checked, command_of, commands_of, is_of_record, op_name, number_below, op_of, page_of_op, page_of_bytes}
 use Rattle.trace.specs.declared.{commands.Op.Op, fault.TraceFault.TraceFault, fault.TraceFaultKind.TraceFaultKind}
 use Rattle.trace.specs.declared.commands.Op.TheVariants as op
 use Rattle.trace.specs.declared.fault.TraceFaultKind.TheVariants as fault
@@ -38,11 +38,11 @@ module _ (geo : Geometry) (a b c d : List ℕ) where
       refuses_sector k r = rw (p, q, r) refl
 
       module _ (sector : ℕ) (r : number_below (sectors_of geo) fault.Sector c ≡ Ok sector) where
-        pub refuses_page : (k : TraceFaultKind) → page_of (page_bytes_of geo) o worker sector d ≡ Err k → command_of geo (a ∷ b ∷ c ∷ d ∷ []) ≡ Err k
+        pub refuses_page : (k : TraceFaultKind) → page_of_op (page_bytes_of geo) o worker sector d ≡ Err k → command_of geo (a ∷ b ∷ c ∷ d ∷ []) ≡ Err k
         unfolding command_of
         refuses_page k s = rw (p, q, r, s) refl
 
-        pub accepts : (page : List ℕ) → page_of (page_bytes_of geo) o worker sector d ≡ Ok page
+        pub accepts : (page : List ℕ) → page_of_op (page_bytes_of geo) o worker sector d ≡ Ok page
             → command_of geo (a ∷ b ∷ c ∷ d ∷ []) ≡ Ok (record { worker = worker; op = o; sector = sector; page = page })
         unfolding command_of
         accepts page s = rw (p, q, r, s) refl
@@ -80,18 +80,18 @@ number_of_record bound kind text h = choice_of_record _ _ _ (value_of_record _) 
 op_of_record : (text : List ℕ) → OfRecord (op_of text)
 unfolding op_of
 op_of_record text =
-    choice_of_record (bytes_eq text (name_of op.Read)) (Ok op.Read) _ (value_of_record _)
-    (choice_of_record (bytes_eq text (name_of op.Write)) (Ok op.Write) _ (value_of_record _)
-    (choice_of_record (bytes_eq text (name_of op.New)) (Ok op.New) _ (value_of_record _)
-    (choice_of_record (bytes_eq text (name_of op.Trim)) (Ok op.Trim) _ (value_of_record _)
-    (choice_of_record (bytes_eq text (name_of op.Meet)) (Ok op.Meet) _ (value_of_record _) (fault_of_record fault.Op refl)))))
+    choice_of_record (bytes_eq text (op_name op.Read)) (Ok op.Read) _ (value_of_record _)
+    (choice_of_record (bytes_eq text (op_name op.Write)) (Ok op.Write) _ (value_of_record _)
+    (choice_of_record (bytes_eq text (op_name op.New)) (Ok op.New) _ (value_of_record _)
+    (choice_of_record (bytes_eq text (op_name op.Trim)) (Ok op.Trim) _ (value_of_record _)
+    (choice_of_record (bytes_eq text (op_name op.Meet)) (Ok op.Meet) _ (value_of_record _) (fault_of_record fault.Op refl)))))
 
 bytes_of_record : (size : ℕ) (r : Result (List ℕ) FromHexError) → OfRecord (page_of_bytes size r)
 bytes_of_record size (Ok bytes) = choice_of_record _ _ _ (value_of_record _) (fault_of_record fault.TooLong refl)
 bytes_of_record size (Err e) = fault_of_record fault.Hex refl
 
-page_of_record : (size : ℕ) (o : Op) (worker sector : ℕ) (digits : List ℕ) → OfRecord (page_of size o worker sector digits)
-unfolding page_of
+page_of_record : (size : ℕ) (o : Op) (worker sector : ℕ) (digits : List ℕ) → OfRecord (page_of_op size o worker sector digits)
+unfolding page_of_op
 page_of_record size op.Write worker sector digits = bytes_of_record size (decode_of digits)
 page_of_record size op.New worker sector digits = bytes_of_record size (decode_of digits)
 page_of_record size op.Read worker sector digits = choice_of_record _ _ _ (value_of_record _) (fault_of_record fault.Unused refl)

@@ -7,7 +7,7 @@ use Rattle.csv.specs.{Machine.Runs, Machine.next_record, Machine.step, Reading.d
 use Rattle.csv.proofs.{ReadFacts.part-rest, ReadFacts.run-copies, ReadFacts.runs-step, RoundTrip.after-quote-same, RoundTrip.start-same}
 use Rattle.csv.specs.declared.parser.Action.TheVariants as act
 use Rattle.csv.specs.declared.parser.State.TheVariants as st
-use Rattle.trace.specs.Cutting.{EndsPlain, EndsQuoted, IsField, Joins, StandsBefore, begins_with, ends_field, read_on}
+use Rattle.trace.specs.Cutting.{EndsPlain, EndsQuoted, IsField, Joins, StandsBefore, begins_with, ends_field, read_from}
 use Rattle.text.specs.Lanes.{is_field_end, is_line_end}
 
 -- ---- bytes
@@ -89,16 +89,16 @@ stops-at text at below h = ap ends_field (drop_more text at 0 below) ∙ h
 
 -- bytes that only join the field at hand
 reads-joined : (s : State) (text : List ℕ) (start end : ℕ) (fields : List (List ℕ)) (field : List ℕ) → Joins s text start end
-    → read_on s fields field (drop start text) ≡ read_on s fields (field ++ take (end - start) (drop start text)) (drop end text)
+    → read_from s fields field (drop start text) ≡ read_from s fields (field ++ take (end - start) (drop start text)) (drop end text)
 reads-joined s text start end fields field h =
     let there : start + (end - start) ≡ end = omega (arith, h.low) in
     let part = take (end - start) (drop start text) in
-    ap (read_on s fields field) (part-rest start (end - start) text)
+    ap (read_from s fields field) (part-rest start (end - start) text)
     ∙ run-copies default_config s fields field part (drop (start + (end - start)) text) h.runs
-    ∙ ap (λ n. read_on s fields (field ++ part) (drop n text)) there
+    ∙ ap (λ n. read_from s fields (field ++ part) (drop n text)) there
 
 -- a field that begins with no quote
-plain-begins : (fields : List (List ℕ)) (xs : List ℕ) → begins_with 34 xs ≡ false → read_on st.StartField fields [] xs ≡ read_on st.InField fields [] xs
+plain-begins : (fields : List (List ℕ)) (xs : List ℕ) → begins_with 34 xs ≡ false → read_from st.StartField fields [] xs ≡ read_from st.InField fields [] xs
 unfolding next_record
 plain-begins fields [] h = refl
 plain-begins fields (x ∷ xs) h = start-same fields [] x xs h
@@ -127,31 +127,31 @@ pub record IsOpen (text : List ℕ) (start at : ℕ) : Type 0 where
   pub low : start < at
   pub high : at ≤ length text
   pub value : List ℕ
-  pub reads : (fields : List (List ℕ)) → read_on st.StartField fields [] (drop start text) ≡ read_on st.InQuoted fields value (drop at text)
+  pub reads : (fields : List (List ℕ)) → read_from st.StartField fields [] (drop start text) ≡ read_from st.InQuoted fields value (drop at text)
 
 -- a quote opens a field, and closes its quotes
-quote-opens : (fields : List (List ℕ)) (xs : List ℕ) → read_on st.StartField fields [] (34 ∷ xs) ≡ read_on st.InQuoted fields [] xs
+quote-opens : (fields : List (List ℕ)) (xs : List ℕ) → read_from st.StartField fields [] (34 ∷ xs) ≡ read_from st.InQuoted fields [] xs
 unfolding next_record
 quote-opens fields xs = refl
 
-quote-closes : (fields : List (List ℕ)) (field xs : List ℕ) → read_on st.InQuoted fields field (34 ∷ xs) ≡ read_on st.AfterQuote fields field xs
+quote-closes : (fields : List (List ℕ)) (field xs : List ℕ) → read_from st.InQuoted fields field (34 ∷ xs) ≡ read_from st.AfterQuote fields field xs
 unfolding next_record
 quote-closes fields field xs = refl
 
 -- a second quote stands for one, and opens them again
-quote-again : (fields : List (List ℕ)) (field xs : List ℕ) → read_on st.AfterQuote fields field (34 ∷ xs) ≡ read_on st.InQuoted fields (field ++ 34 ∷ []) xs
+quote-again : (fields : List (List ℕ)) (field xs : List ℕ) → read_from st.AfterQuote fields field (34 ∷ xs) ≡ read_from st.InQuoted fields (field ++ 34 ∷ []) xs
 unfolding next_record
 quote-again fields field xs = refl
 
 -- without one the field goes on as one without quotes
 after-quotes : (fields : List (List ℕ)) (field xs : List ℕ) → begins_with 34 xs ≡ false
-    → read_on st.AfterQuote fields field xs ≡ read_on st.InField fields field xs
+    → read_from st.AfterQuote fields field xs ≡ read_from st.InField fields field xs
 unfolding next_record
 after-quotes fields field [] h = refl
 after-quotes fields field (x ∷ xs) h = after-quote-same fields field x xs h
 
 -- at the end of the text a field ends though its quotes are open
-quotes-end : (fields : List (List ℕ)) (field : List ℕ) → read_on st.InQuoted fields field [] ≡ read_on st.InField fields field []
+quotes-end : (fields : List (List ℕ)) (field : List ℕ) → read_from st.InQuoted fields field [] ≡ read_from st.InField fields field []
 unfolding next_record
 quotes-end fields field = refl
 
@@ -169,9 +169,9 @@ opens text start h = record {
   high = omega (arith, within 34 start text h);
   value = [];
   reads = λ fields.
-      ap (read_on st.StartField fields []) (begins 34 (drop start text) h)
+      ap (read_from st.StartField fields []) (begins 34 (drop start text) h)
       ∙ quote-opens fields (drop 1 (drop start text))
-      ∙ ap (read_on st.InQuoted fields []) (behind start text);
+      ∙ ap (read_from st.InQuoted fields []) (behind start text);
 }
 
 -- the value of a field whose quotes are open, up to a place
@@ -179,7 +179,7 @@ abbrev grown : (text : List ℕ) (start at quote : ℕ) → IsOpen text start at
 grown text start at quote o = o.value ++ take (quote - at) (drop at text)
 
 reads-quoted : (text : List ℕ) (start at quote : ℕ) (o : IsOpen text start at) → Joins st.InQuoted text at quote → (fields : List (List ℕ))
-    → read_on st.StartField fields [] (drop start text) ≡ read_on st.InQuoted fields (grown text start at quote o) (drop quote text)
+    → read_from st.StartField fields [] (drop start text) ≡ read_from st.InQuoted fields (grown text start at quote o) (drop quote text)
 reads-quoted text start at quote o h fields = o.reads fields ∙ reads-joined st.InQuoted text at quote fields o.value h
 
 -- no further quote
@@ -192,21 +192,21 @@ open-end text start at quote o h e =
       record {
         low = omega (arith, o.low, h.joins.low);
         high = h.joins.high;
-        reads = λ fields. reads-quoted text start at quote o h.joins fields ∙ ap (read_on st.InQuoted fields value) over
-            ∙ quotes-end fields value ∙ ap (read_on st.InField fields value) (sym over);
+        reads = λ fields. reads-quoted text start at quote o h.joins fields ∙ ap (read_from st.InQuoted fields value) over
+            ∙ quotes-end fields value ∙ ap (read_from st.InField fields value) (sym over);
         stops = ap ends_field over;
       },
     )
 
 reads-closed : (text : List ℕ) (start at quote : ℕ) (o : IsOpen text start at) → Joins st.InQuoted text at quote
     → begins_with 34 (drop quote text) ≡ true → (fields : List (List ℕ))
-    → read_on st.StartField fields [] (drop start text) ≡ read_on st.AfterQuote fields (grown text start at quote o) (drop (quote + 1) text)
+    → read_from st.StartField fields [] (drop start text) ≡ read_from st.AfterQuote fields (grown text start at quote o) (drop (quote + 1) text)
 reads-closed text start at quote o h q fields =
     let value = grown text start at quote o in
     reads-quoted text start at quote o h fields
-    ∙ ap (read_on st.InQuoted fields value) (begins 34 (drop quote text) q)
+    ∙ ap (read_from st.InQuoted fields value) (begins 34 (drop quote text) q)
     ∙ quote-closes fields value (drop 1 (drop quote text))
-    ∙ ap (read_on st.AfterQuote fields value) (behind quote text)
+    ∙ ap (read_from st.AfterQuote fields value) (behind quote text)
 
 -- two quotes
 pub open-more : (text : List ℕ) (start at quote : ℕ) → IsOpen text start at → EndsQuoted text at quote → quote ≢ length text
@@ -221,9 +221,9 @@ open-more text start at quote o h n q =
       high = omega (arith, inside);
       value = value ++ 34 ∷ [];
       reads = λ fields. reads-closed text start at quote o h.joins (h.stops n) fields
-          ∙ ap (read_on st.AfterQuote fields value) (begins 34 (drop (quote + 1) text) q)
+          ∙ ap (read_from st.AfterQuote fields value) (begins 34 (drop (quote + 1) text) q)
           ∙ quote-again fields value (drop 1 (drop (quote + 1) text))
-          ∙ ap (read_on st.InQuoted fields (value ++ 34 ∷ [])) (behind (quote + 1) text ∙ ap (λ k. drop k text) next);
+          ∙ ap (read_from st.InQuoted fields (value ++ 34 ∷ [])) (behind (quote + 1) text ∙ ap (λ k. drop k text) next);
     }
 
 -- one quote, and then bytes without quotes

@@ -8,8 +8,8 @@ use Rattle.csv.specs.{Reading.default_config, Reading.is_bom, Reading.strip_bom,
 use Rattle.csv.proofs.RoundTrip.{record-same}
 use Rattle.csv.specs.declared.parser.Action.TheVariants as act
 use Rattle.csv.specs.declared.parser.State.TheVariants as st
-use Rattle.trace.specs.Cutting.{AreValues, CutsField, HasOtherFields, IsField, IsMarkEnd, IsRecord, StandsBefore, StartsRecord, begins_with, ends_field}
-use Rattle.trace.specs.{Cutting.ends_no_line, Cutting.fields_of_row, Cutting.lines_of, Cutting.read_on, Rows.records_after}
+use Rattle.trace.specs.Cutting.{HasRecordedValues, CutsField, HasOtherFields, IsField, IsMarkEnd, IsRecord, StandsBefore, StartsRecord, begins_with, ends_field}
+use Rattle.trace.specs.{Cutting.ends_no_line, Cutting.fields_of_row, Cutting.next_records, Cutting.read_from, Rows.records_after}
 use Rattle.text.specs.Lanes.{is_line_end}
 use Rattle.trace.specs.{Trace.records_of, declared.cutting.Field.Field, declared.cutting.Row.Row}
 use Rattle.trace.proofs.{Cuts.begins, Cuts.behind, Cuts.or_false, Cuts.within, Fields.after-none, Fields.after-some, Fields.both}
@@ -17,29 +17,29 @@ use Rattle.trace.proofs.{Cuts.begins, Cuts.behind, Cuts.or_false, Cuts.within, F
 -- ---- between two records
 
 -- starts from which the same record is read leave the same records
-same_after : (s t : State) (xs ys : List ℕ) (o : Option Read) → ends_at_end s ≡ false → ends_at_end t ≡ false → read_on s [] [] xs ≡ o → read_on t [] [] ys ≡ o
+same_after : (s t : State) (xs ys : List ℕ) (o : Option Read) → ends_at_end s ≡ false → ends_at_end t ≡ false → read_from s [] [] xs ≡ o → read_from t [] [] ys ≡ o
     → records_after s xs ≡ records_after t ys
 same_after s t xs ys None h k p q = after-none s xs p ∙ sym (after-none t ys q)
 same_after s t xs ys (Some r) h k p q = after-some s xs r h p ∙ sym (after-some t ys r k q)
 
 -- a line end between two records
-skips : (c : ℕ) (xs : List ℕ) → is_line_end c ≡ true → read_on st.StartRecord [] [] (c ∷ xs) ≡ read_on st.StartRecord [] [] xs
+skips : (c : ℕ) (xs : List ℕ) → is_line_end c ≡ true → read_from st.StartRecord [] [] (c ∷ xs) ≡ read_from st.StartRecord [] [] xs
 unfolding next_record
 skips c xs h = rw h refl
 
-skips-cr : (xs : List ℕ) → read_on st.AfterCr [] [] xs ≡ read_on st.StartRecord [] [] xs
+skips-cr : (xs : List ℕ) → read_from st.AfterCr [] [] xs ≡ read_from st.StartRecord [] [] xs
 unfolding next_record
 skips-cr [] = refl
 skips-cr (x ∷ xs) = by (x == 10) refl
   where
-    by : (b : Bool) → (x == 10) ≡ b → read_on st.AfterCr [] [] (x ∷ xs) ≡ read_on st.StartRecord [] [] (x ∷ xs)
+    by : (b : Bool) → (x == 10) ≡ b → read_from st.AfterCr [] [] (x ∷ xs) ≡ read_from st.StartRecord [] [] (x ∷ xs)
     by true e = let same : x ≡ 10 = eqb-true x 10 e in rw same refl
     by false e = rw e refl
 
-lines-skip : (c : ℕ) (xs : List ℕ) → is_line_end c ≡ true → lines_of (c ∷ xs) ≡ lines_of xs
+lines-skip : (c : ℕ) (xs : List ℕ) → is_line_end c ≡ true → next_records (c ∷ xs) ≡ next_records xs
 lines-skip c xs h = same_after st.StartRecord st.StartRecord (c ∷ xs) xs _ refl refl (skips c xs h) refl
 
-lines-cr : (xs : List ℕ) → records_after st.AfterCr xs ≡ lines_of xs
+lines-cr : (xs : List ℕ) → records_after st.AfterCr xs ≡ next_records xs
 lines-cr xs = same_after st.AfterCr st.StartRecord xs xs _ refl refl (skips-cr xs) refl
 
 -- what is no first byte of a mark stays
@@ -50,13 +50,13 @@ stays c (x ∷ []) h = refl
 stays c (x ∷ y ∷ xs) h = rw h refl
 
 -- the records of a text that begins with a line end are those behind it
-pub lf_records : (xs : List ℕ) → lines_of xs ≡ records_of (10 ∷ xs)
-lf_records xs = sym (ap lines_of (stays 10 xs refl) ∙ lines-skip 10 xs refl)
+pub lf_records : (xs : List ℕ) → next_records xs ≡ records_of (10 ∷ xs)
+lf_records xs = sym (ap next_records (stays 10 xs refl) ∙ lines-skip 10 xs refl)
 
 cr_records : (xs : List ℕ) → records_after st.AfterCr xs ≡ records_of (13 ∷ xs)
-cr_records xs = lines-cr xs ∙ sym (ap lines_of (stays 13 xs refl) ∙ lines-skip 13 xs refl)
+cr_records xs = lines-cr xs ∙ sym (ap next_records (stays 13 xs refl) ∙ lines-skip 13 xs refl)
 
-no_lines : lines_of [] ≡ []
+no_lines : next_records [] ≡ []
 unfolding next_record
 no_lines = after-none st.StartRecord [] refl
 
@@ -114,22 +114,22 @@ mark-not_there text at r h e absent = record {
 pub record Reads (text : List ℕ) (start : ℕ) (fields : List (List ℕ)) (at : ℕ) : Type 0 where
   pub low : start ≤ at
   pub high : at ≤ length text
-  pub same : read_on st.StartRecord [] [] (drop start text) ≡ read_on st.StartField fields [] (drop at text)
+  pub same : read_from st.StartRecord [] [] (drop start text) ≡ read_from st.StartField fields [] (drop at text)
 
 not_true : (b : Bool) → not b ≡ true → b ≡ false
 not_true true h = cc h
 not_true false h = refl
 
-pub record-begins : (xs : List ℕ) → 0 < length xs → ends_no_line xs ≡ true → read_on st.StartRecord [] [] xs ≡ read_on st.StartField [] [] xs
+pub record-begins : (xs : List ℕ) → 0 < length xs → ends_no_line xs ≡ true → read_from st.StartRecord [] [] xs ≡ read_from st.StartField [] [] xs
 record-begins [] n h = absurd (omega arith)
 record-begins (x ∷ xs) n h =
     let p = or_false (x == 13) (x == 10) (not_true (is_line_end x) h) in
     record-same [] [] x xs p.0 p.1
 
 -- line ends are passed over
-pub starts-more : (text : List ℕ) (from at : ℕ) → lines_of (drop from text) ≡ lines_of (drop at text) → at < length text → is_line_end (get_or text at 0) ≡ true
-    → lines_of (drop from text) ≡ lines_of (drop (at + 1) text)
-starts-more text from at e below h = e ∙ ap lines_of (drop_more text at 0 below) ∙ lines-skip (get_or text at 0) (drop (at + 1) text) h
+pub starts-more : (text : List ℕ) (from at : ℕ) → next_records (drop from text) ≡ next_records (drop at text) → at < length text → is_line_end (get_or text at 0) ≡ true
+    → next_records (drop from text) ≡ next_records (drop (at + 1) text)
+starts-more text from at e below h = e ∙ ap next_records (drop_more text at 0 below) ∙ lines-skip (get_or text at 0) (drop (at + 1) text) h
 
 pub reads-first : (text : List ℕ) (from start : ℕ) → StartsRecord text from start → start ≢ length text → Reads text start [] start
 reads-first text from start h n = record {
@@ -140,10 +140,10 @@ reads-first text from start h n = record {
 
 -- the record that was read up to the end of a field
 ended : (text : List ℕ) (start : ℕ) (fields : List (List ℕ)) (at end : ℕ) (value : List ℕ) → Reads text start fields at → IsField text at end value
-    → read_on st.StartRecord [] [] (drop start text) ≡ read_on st.InField fields value (drop end text)
+    → read_from st.StartRecord [] [] (drop start text) ≡ read_from st.InField fields value (drop end text)
 ended text start fields at end value r f = r.same ∙ f.reads fields
 
-comma-ends : (fields : List (List ℕ)) (value xs : List ℕ) → read_on st.InField fields value (44 ∷ xs) ≡ read_on st.StartField (fields ++ value ∷ []) [] xs
+comma-ends : (fields : List (List ℕ)) (value xs : List ℕ) → read_from st.InField fields value (44 ∷ xs) ≡ read_from st.StartField (fields ++ value ∷ []) [] xs
 unfolding next_record
 comma-ends fields value xs = refl
 
@@ -153,21 +153,21 @@ reads-next text start fields at end value r f h = record {
   low = omega (arith, r.low, f.low);
   high = omega (arith, within 44 end text h);
   same = ended text start fields at end value r f
-      ∙ ap (read_on st.InField fields value) (begins 44 (drop end text) h)
+      ∙ ap (read_from st.InField fields value) (begins 44 (drop end text) h)
       ∙ comma-ends fields value (drop 1 (drop end text))
-      ∙ ap (read_on st.StartField (fields ++ value ∷ []) []) (behind end text);
+      ∙ ap (read_from st.StartField (fields ++ value ∷ []) []) (behind end text);
 }
 
 -- ---- the last field
 
 -- a field that ends at no comma is its record's last
 lines-last : (fields : List (List ℕ)) (value xs ys : List ℕ) → ends_field xs ≡ true → begins_with 44 xs ≡ false
-    → read_on st.StartRecord [] [] ys ≡ read_on st.InField fields value xs → lines_of ys ≡ (fields ++ value ∷ []) ∷ records_of xs
+    → read_from st.StartRecord [] [] ys ≡ read_from st.InField fields value xs → next_records ys ≡ (fields ++ value ∷ []) ∷ records_of xs
 unfolding next_record
 lines-last fields value [] ys e c r = after-some st.StartRecord ys _ refl r ∙ ap (λ v. (fields ++ value ∷ []) ∷ v) (no_lines ∙ sym no_records)
 lines-last fields value (x ∷ xs) ys e c r = by (x == 13) refl (x == 10) refl
   where
-    by : (b : Bool) → (x == 13) ≡ b → (d : Bool) → (x == 10) ≡ d → lines_of ys ≡ (fields ++ value ∷ []) ∷ records_of (x ∷ xs)
+    by : (b : Bool) → (x == 13) ≡ b → (d : Bool) → (x == 10) ≡ d → next_records ys ≡ (fields ++ value ∷ []) ∷ records_of (x ∷ xs)
     by true p d q =
         let is : x ≡ 13 = eqb-true x 13 p in
         let r' = rw is at r in
@@ -179,7 +179,7 @@ lines-last fields value (x ∷ xs) ys e c r = by (x == 13) refl (x == 10) refl
     by false p false q = cc (rw (c, p, q) at e)
 
 pub reads-last : (text : List ℕ) (start : ℕ) (fields : List (List ℕ)) (at end : ℕ) (value : List ℕ) → Reads text start fields at → IsField text at end value
-    → begins_with 44 (drop end text) ≡ false → lines_of (drop start text) ≡ (fields ++ value ∷ []) ∷ records_of (drop end text)
+    → begins_with 44 (drop end text) ≡ false → next_records (drop start text) ≡ (fields ++ value ∷ []) ∷ records_of (drop end text)
 reads-last text start fields at end value r f h =
     lines-last fields value (drop end text) (drop start text) f.stops h (ended text start fields at end value r f)
 
@@ -235,7 +235,7 @@ fields-ended act.EndRecord fields field h = omega (arith, length_push fields fie
 fields-ended _ _ _ h = cc h
 
 -- a record that is read on has more than these fields
-more_fields : (s : State) (fields : List (List ℕ)) (field xs : List ℕ) → is_inside s ≡ true → (p : Read) × (read_on s fields field xs ≡ Some p)
+more_fields : (s : State) (fields : List (List ℕ)) (field xs : List ℕ) → is_inside s ≡ true → (p : Read) × (read_from s fields field xs ≡ Some p)
     × (length fields < length p.0)
 unfolding next_record
 more_fields s fields field [] h = ((fields ++ field ∷ [], st.StartRecord, []), rw (inside-ends s h) refl, omega (arith, length_push fields field))
@@ -246,7 +246,7 @@ more_fields s fields field (c ∷ xs) h = by (is_end (step default_config s c).1
         × (next_record default_config (step default_config s c).0 (fields_after (step default_config s c).1 fields field)
         (field_after (step default_config s c).1 c field) xs ≡ Some p)
         × (length (fields_after (step default_config s c).1 fields field) < length p.0))
-        → (p : Read) × (read_on s fields field (c ∷ xs) ≡ Some p) × (length fields < length p.0)
+        → (p : Read) × (read_from s fields field (c ∷ xs) ≡ Some p) × (length fields < length p.0)
     by true e more = (
       (fields_after (step default_config s c).1 fields field, (step default_config s c).0, xs),
       rw e refl,
@@ -259,13 +259,13 @@ more_fields s fields field (c ∷ xs) h = by (is_end (step default_config s c).1
 -- ---- what is cut
 
 module _ (text : List ℕ) (at mark start : ℕ) (m : IsMarkEnd text at mark) (s : StartsRecord text mark start) where
-  lines : records_of (drop at text) ≡ lines_of (drop start text)
-  lines = ap lines_of m.strips ∙ s.same
+  lines : records_of (drop at text) ≡ next_records (drop start text)
+  lines = ap next_records m.strips ∙ s.same
 
   pub cut-end : start ≡ length text → records_of (drop at text) ≡ []
   cut-end e =
       let over : drop start text ≡ [] = drop_all start text (omega (arith, e)) in
-      lines ∙ ap lines_of over ∙ no_lines
+      lines ∙ ap next_records over ∙ no_lines
 
   other-last : (fields : List (List ℕ)) (place end : ℕ) (value : List ℕ) → length fields < 3 → Reads text start fields place → IsField text place end value
       → begins_with 44 (drop end text) ≡ false → HasOtherFields text at
@@ -316,7 +316,7 @@ module _ (text : List ℕ) (at mark start : ℕ) (m : IsMarkEnd text at mark) (s
               let fifth = reads-next text start (w.value ∷ o.value ∷ t.value ∷ []) (sector.end + 1) digits.end d.value fourth d.is (sym d.comma ∙ c) in
               other-more (w.value ∷ o.value ∷ t.value ∷ d.value ∷ []) (digits.end + 1) refl fifth
 
-          values-told : (row : Option Row) → AreValues row worker op sector digits
+          values-told : (row : Option Row) → HasRecordedValues row worker op sector digits
               → IfSome row (λ r. w.value ∷ o.value ∷ t.value ∷ d.value ∷ [] ≡ fields_of_row r)
           values-told None h = tt
           values-told (Some r) h =
@@ -326,11 +326,11 @@ module _ (text : List ℕ) (at mark start : ℕ) (m : IsMarkEnd text at mark) (s
               let f = rw h.digits at d.told in
               cc
 
-          place-told : (row : Option Row) → AreValues row worker op sector digits → IfSome row (λ r. StandsBefore text digits.end r.digits.now)
+          place-told : (row : Option Row) → HasRecordedValues row worker op sector digits → IfSome row (λ r. StandsBefore text digits.end r.digits.now)
           place-told None h = tt
           place-told (Some r) h = rw h.digits at d.place
 
-          pub cut-four : digits.comma ≡ false → (row : Option Row) → AreValues row worker op sector digits → IsRecord text at digits.end row
+          pub cut-four : digits.comma ≡ false → (row : Option Row) → HasRecordedValues row worker op sector digits → IsRecord text at digits.end row
           cut-four c row h = record {
             low = omega (arith, m.low, s.low, w.is.low, o.is.low, t.is.low, d.is.low);
             high = d.is.high;

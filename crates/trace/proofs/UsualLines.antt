@@ -8,7 +8,7 @@ use Rattle.csv.specs.{Machine.Runs, Reading.default_config, Reading.strip_bom}
 use Rattle.csv.specs.declared.parser.State.TheVariants as st
 use Rattle.geometry.specs.{Geometry.page_bytes_of, Geometry.sectors_of, declared.geometry.Geometry.Geometry}
 use Rattle.hex.specs.Hex.{is_hex_digit}
-use Rattle.trace.specs.Cutting.{EndsPlain, Joins, begins_with, ends_field, ends_no_line, lines_of}
+use Rattle.trace.specs.Cutting.{EndsPlain, Joins, begins_with, ends_field, ends_no_line, next_records}
 use Rattle.text.specs.Lanes.{is_field_end}
 use Rattle.text.specs.Digits.{EndsDigits}
 use Rattle.trace.specs.{Trace.number_below, Trace.op_of, Trace.records_of, Trace.workers_of, declared.commands.Op.Op}
@@ -195,17 +195,17 @@ data_none_there text start size o kinds h feed =
 -- ---- the record
 
 line_lines : (text : List ℕ) (at start : ℕ) → at ≤ length text → start < length text → is_ascii_digit (get_or text start 0) ≡ true → IsLineStart text at start
-    → records_of (drop at text) ≡ lines_of (drop start text)
+    → records_of (drop at text) ≡ next_records (drop start text)
 line_lines text at start h below digit s = by (begins_with 10 (drop at text)) refl s.is
   where
-    by : (b : Bool) → begins_with 10 (drop at text) ≡ b → MatchBool b (start ≡ at + 1) (start ≡ at) → records_of (drop at text) ≡ lines_of (drop start text)
-    by true e is = ap records_of (begins 10 (drop at text) e) ∙ sym (lf_records (drop 1 (drop at text))) ∙ ap lines_of (behind at text)
-        ∙ ap (λ k. lines_of (drop k text)) (sym is)
+    by : (b : Bool) → begins_with 10 (drop at text) ≡ b → MatchBool b (start ≡ at + 1) (start ≡ at) → records_of (drop at text) ≡ next_records (drop start text)
+    by true e is = ap records_of (begins 10 (drop at text) e) ∙ sym (lf_records (drop 1 (drop at text))) ∙ ap next_records (behind at text)
+        ∙ ap (λ k. next_records (drop k text)) (sym is)
     by false e is =
         let first = drop_more text start 0 below in
         let strips : strip_bom (drop start text) ≡ drop start text =
         ap strip_bom first ∙ stays (get_or text start 0) (drop (start + 1) text) (digit_is_none (get_or text start 0) 239 digit refl) ∙ sym first in
-        ap (λ k. records_of (drop k text)) (sym is) ∙ ap lines_of strips
+        ap (λ k. records_of (drop k text)) (sym is) ∙ ap next_records strips
 
 -- a digit begins no line end
 digit_starts : (text : List ℕ) (start : ℕ) → start < length text → is_ascii_digit (get_or text start 0) ≡ true → Reads text start [] start

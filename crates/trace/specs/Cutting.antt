@@ -26,8 +26,8 @@ ends_no_line (byte ∷ rest) = not (is_line_end byte)
 -- ---- fields
 
 -- the record that is read from here on, in this state, after these fields and these bytes of a field
-abbrev pub read_on : State → List (List ℕ) → List ℕ → List ℕ → Option Read
-read_on s fields field bytes = next_record default_config s fields field bytes
+abbrev pub read_from : State → List (List ℕ) → List ℕ → List ℕ → Option Read
+read_from s fields field bytes = next_record default_config s fields field bytes
 
 -- between these places each byte only joins the current field
 pub record Joins (s : State) (text : List ℕ) (start end : ℕ) : Type 0 where
@@ -49,7 +49,7 @@ pub record EndsQuoted (text : List ℕ) (start end : ℕ) : Type 0 where
 pub record IsField (text : List ℕ) (start end : ℕ) (value : List ℕ) : Type 0 where
   pub low : start ≤ end
   pub high : end ≤ length text
-  pub reads : (fields : List (List ℕ)) → read_on st.StartField fields [] (drop start text) ≡ read_on st.InField fields value (drop end text)
+  pub reads : (fields : List (List ℕ)) → read_from st.StartField fields [] (drop start text) ≡ read_from st.InField fields value (drop end text)
   pub stops : ends_field (drop end text) ≡ true
 
 -- some field is there
@@ -72,8 +72,8 @@ pub record CutsField (text : List ℕ) (start : ℕ) (f : Field) : Type 0 where
 -- ---- records
 
 -- the records of a text from a place between two records, or from its end
-abbrev pub lines_of : List ℕ → List (List (List ℕ))
-lines_of bytes = records_after st.StartRecord bytes
+abbrev pub next_records : List ℕ → List (List (List ℕ))
+next_records bytes = records_after st.StartRecord bytes
 
 -- after a byte order mark, if there is one
 pub record IsMarkEnd (text : List ℕ) (at end : ℕ) : Type 0 where
@@ -85,7 +85,7 @@ pub record IsMarkEnd (text : List ℕ) (at end : ℕ) : Type 0 where
 pub record StartsRecord (text : List ℕ) (from start : ℕ) : Type 0 where
   pub low : from ≤ start
   pub high : start ≤ length text
-  pub same : lines_of (drop from text) ≡ lines_of (drop start text)
+  pub same : next_records (drop from text) ≡ next_records (drop start text)
   pub stops : ends_no_line (drop start text) ≡ true
 
 -- the fields of a record
@@ -100,8 +100,8 @@ pub record HasValues (row : Row) (first second third fourth : Field) : Type 0 wh
   pub digits : fourth.value ≡ Some row.digits
 
 -- a record, if it was recorded, has the values of its fields
-abbrev pub AreValues : Option Row → Field → Field → Field → Field → Type 0
-AreValues row first second third fourth = IfSome row (λ r. HasValues r first second third fourth)
+abbrev pub HasRecordedValues : Option Row → Field → Field → Field → Field → Type 0
+HasRecordedValues row first second third fourth = IfSome row (λ r. HasValues r first second third fourth)
 
 -- the first record from a place on has other than four fields
 pub record HasOtherFields (text : List ℕ) (at : ℕ) : Type 0 where

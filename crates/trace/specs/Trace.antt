@@ -10,12 +10,12 @@ use Rattle.trace.specs.declared.commands.Op.TheVariants as op
 use Rattle.trace.specs.declared.fault.TraceFaultKind.TheVariants as fault
 
 -- the name of an op, in a trace and in the answers
-abbrev pub name_of : Op → List ℕ
-name_of op.Read = codes "read"
-name_of op.Write = codes "write"
-name_of op.New = codes "new"
-name_of op.Trim = codes "trim"
-name_of op.Meet = codes "meet"
+abbrev pub op_name : Op → List ℕ
+op_name op.Read = codes "read"
+op_name op.Write = codes "write"
+op_name op.New = codes "new"
+op_name op.Trim = codes "trim"
+op_name op.Meet = codes "meet"
 
 -- the next check, if this one passed; the first fault ends the checks
 infixl 10 ◌>>=◌
@@ -38,11 +38,11 @@ workers_of geo = if hosts_of geo == 0 then 500 else hosts_of geo
 -- the op that a field names
 unfoldable pub op_of : List ℕ → Result Op TraceFaultKind
 op_of text =
-    if bytes_eq text (name_of op.Read) then Ok op.Read
-    else if bytes_eq text (name_of op.Write) then Ok op.Write
-    else if bytes_eq text (name_of op.New) then Ok op.New
-    else if bytes_eq text (name_of op.Trim) then Ok op.Trim
-    else if bytes_eq text (name_of op.Meet) then Ok op.Meet
+    if bytes_eq text (op_name op.Read) then Ok op.Read
+    else if bytes_eq text (op_name op.Write) then Ok op.Write
+    else if bytes_eq text (op_name op.New) then Ok op.New
+    else if bytes_eq text (op_name op.Trim) then Ok op.Trim
+    else if bytes_eq text (op_name op.Meet) then Ok op.Meet
     else Err fault.Op
 
 -- the page of these bytes, if they are no more than a page
@@ -56,12 +56,12 @@ no_page unused_empty = if unused_empty then Ok [] else Err fault.Unused
 
 -- the page that the data of an op makes: for a write of either kind the bytes that its hexadecimal digits write, and for the other ops
 -- none. Those have no data, and a meet names worker 0 and sector 0.
-unfoldable pub page_of : ℕ → Op → ℕ → ℕ → List ℕ → Result (List ℕ) TraceFaultKind
-page_of size op.Write worker sector digits = page_of_bytes size (decode_of digits)
-page_of size op.New worker sector digits = page_of_bytes size (decode_of digits)
-page_of size op.Read worker sector digits = no_page (length digits == 0)
-page_of size op.Trim worker sector digits = no_page (length digits == 0)
-page_of size op.Meet worker sector digits = no_page (length digits == 0 && worker == 0 && sector == 0)
+unfoldable pub page_of_op : ℕ → Op → ℕ → ℕ → List ℕ → Result (List ℕ) TraceFaultKind
+page_of_op size op.Write worker sector digits = page_of_bytes size (decode_of digits)
+page_of_op size op.New worker sector digits = page_of_bytes size (decode_of digits)
+page_of_op size op.Read worker sector digits = no_page (length digits == 0)
+page_of_op size op.Trim worker sector digits = no_page (length digits == 0)
+page_of_op size op.Meet worker sector digits = no_page (length digits == 0 && worker == 0 && sector == 0)
 
 -- the check of one record: its command, or its first fault
 unfoldable pub command_of : Geometry → List (List ℕ) → Result Command TraceFaultKind
@@ -69,7 +69,7 @@ command_of geo (worker_text ∷ op_text ∷ sector_text ∷ digits ∷ []) = do
   worker ← number_below (workers_of geo) fault.Worker worker_text
   op ← op_of op_text
   sector ← number_below (sectors_of geo) fault.Sector sector_text
-  page ← page_of (page_bytes_of geo) op worker sector digits
+  page ← page_of_op (page_bytes_of geo) op worker sector digits
   Ok (record { worker = worker; op = op; sector = sector; page = page })
 command_of geo _ = Err fault.Fields
 

@@ -3,7 +3,7 @@ use Rattle.std.specs.Prelude.{◌≡◌, ℕ, ◌+◌, ◌-◌, ◌^◌, ◌<◌
 use Rattle.std.specs.Char.{is_ascii_digit}
 use Rattle.geometry.specs.{Geometry.page_bytes_of, declared.geometry.Geometry.Geometry}
 use Rattle.trace.specs.{Cutting.IsField, Cutting.begins_with, Digits.IsData, Drafting.MakePage, Parsing.page_len, Stored.with_digits, declared.commands.Op.Op}
-use Rattle.trace.specs.{Trace.command_of, Trace.number_below, Trace.op_of, Trace.page_of, Trace.records_of, declared.fault.TraceFaultKind.TraceFaultKind}
+use Rattle.trace.specs.{Trace.command_of, Trace.number_below, Trace.op_of, Trace.page_of_op, Trace.records_of, declared.fault.TraceFaultKind.TraceFaultKind}
 use Rattle.trace.specs.declared.usual.{Number.Number, OpName.OpName, UsualLine.UsualLine}
 
 -- the bytes of a text between two places
@@ -38,7 +38,7 @@ pub record IsOpName (text : List ℕ) (start : ℕ) (name : OpName) : Type 0 whe
 pub record IsUsualData (text : List ℕ) (start : ℕ) (op : Op) (size end : ℕ) : Type 0 where
   pub field : IsField text start end (part text start end)
   pub feed : begins_with 10 (drop end text) ≡ true
-  pub made : (worker sector : ℕ) → MakePage size op (part text start end) (page_of size op worker sector (part text start end))
+  pub made : (worker sector : ℕ) → MakePage size op (part text start end) (page_of_op size op worker sector (part text start end))
 
 -- this line is the first record from a place on, and a command
 pub record IsUsual (geo : Geometry) (text : List ℕ) (at : ℕ) (line : UsualLine) : Type 0 where

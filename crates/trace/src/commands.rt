@@ -1,6 +1,6 @@
 ghost use Rattle.std.specs.Prelude.{◌≡◌, ◌⊎◌, ◌+◌, ◌^◌, ◌==◌, ◌<◌, ◌≤◌, ◌∷◌, ◌++◌, drop, length, slice_get, Some};
 ghost use Rattle.std.specs.Iterator.{YieldsFirst, item_count};
-ghost use Rattle.trace.specs.{Trace.name_of, Parsing.page_len, Stored.AreKept, Stored.digits_at, Stored.drafted, Stored.lent_as, Stored.stored_in};
+ghost use Rattle.trace.specs.{Trace.op_name, Parsing.page_len, Stored.AreKept, Stored.digits_at, Stored.drafted, Stored.lent_as, Stored.stored_in};
 
 use crate::draft::Draft;
 use crate::page::Page;
@@ -21,7 +21,7 @@ pub enum Op {
 impl Op {
     /// The op's name, in a trace and in the answers.
     pub fn name(self) -> &'static str
-        ensures { result.now ≡ name_of self }
+        ensures { result.now ≡ op_name self }
     {
         match self {
             Op::Read => "read",
@@ -121,7 +121,7 @@ impl Commands {
 
     /// The commands in order.
     pub fn iter(&self) -> CommandIter<'_>
-        ensures { rest_of result ≡ self.now }
+        ensures { commands_left result ≡ self.now }
     {
         CommandIter {
             commands: self,
@@ -164,14 +164,14 @@ pub struct CommandIter<'a> {
     next: usize,
 }
 
-ghost use Rattle.trace.specs.Commands.{rest_of};
+ghost use Rattle.trace.specs.Commands.{commands_left};
 
 impl<'a> Iterator for CommandIter<'a> {
     type Item = Command<'a>;
 
-    ghost next_gives = { YieldsFirst rest_of };
+    ghost next_gives = { YieldsFirst commands_left };
 
-    ghost remaining = { item_count rest_of };
+    ghost remaining = { item_count commands_left };
 
     fn next(&mut self) -> Option<Command<'a>> {
         if self.next >= self.commands.len() {

@@ -4,7 +4,7 @@
 ghost use Rattle.std.specs.Prelude.{◌≡◌, ◌≤◌, length, drop, true};
 ghost use Rattle.csv.specs.declared.parser.State.TheVariants.{InField};
 ghost use Rattle.trace.specs.Cutting.{CutsField, IsCut, EndsField, EndsPlain, EndsQuoted, IsMarkEnd, Joins};
-ghost use Rattle.trace.specs.Cutting.{StartsRecord, begins_with, AreValues};
+ghost use Rattle.trace.specs.Cutting.{StartsRecord, begins_with, HasRecordedValues};
 ghost use Rattle.text.specs.Lanes.{is_field_end, is_line_end};
 
 use text::{LANES, field_run};
@@ -77,7 +77,7 @@ fn plain_row<'t>(
     sector: Field<'t>,
     digits: Field<'t>,
 ) -> Option<Row<'t>>
-    ensures { AreValues result worker.entry op.entry sector.entry digits.entry }
+    ensures { HasRecordedValues result worker.entry op.entry sector.entry digits.entry }
 {
     Some(Row {
         worker: worker.value?,

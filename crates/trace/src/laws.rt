@@ -1,7 +1,7 @@
 //! Laws of how the commands of a trace are kept. Each function has no code: its clauses say where a definition holds and where it doesn't, and what it
 //! is on small values.
 ghost use Rattle.std.specs.Prelude.{◌≡◌, ℕ, ◌^◌, ◌<◌, List, [], ◌∷◌, All, codes, length};
-ghost use Rattle.trace.specs.{Commands.rest_of, Laws.line_of_read, Laws.line_of_write, Laws.placed, declared.commands.Command.Command};
+ghost use Rattle.trace.specs.{Commands.commands_left, Laws.line_of_read, Laws.line_of_write, Laws.placed, declared.commands.Command.Command};
 ghost use Rattle.trace.specs.{Stored.IsKept, Stored.IsWhole, Stored.command_at, Stored.stored_in, Stored.widened, declared.commands.CommandIter.CommandIter};
 ghost use Rattle.trace.specs.declared.stored.{AllStored.AllStored, Near.Near, Stored.Stored};
 ghost use Rattle.trace.specs.declared.commands.Op.TheVariants as op;
@@ -9,11 +9,11 @@ ghost use Rattle.trace.specs.declared.commands.Op.TheVariants as op;
 /// Which commands an iterator has left, and in which order commands are kept.
 pub fn commands_in_order()
     ensures all { (it : CommandIter) (a b : Command)
-        → it.commands.now ≡ a ∷ b ∷ [] → it.next ≡ 0 → rest_of it ≡ a ∷ b ∷ [] }
+        → it.commands.now ≡ a ∷ b ∷ [] → it.next ≡ 0 → commands_left it ≡ a ∷ b ∷ [] }
     ensures last { (it : CommandIter) (a b : Command)
-        → it.commands.now ≡ a ∷ b ∷ [] → it.next ≡ 1 → rest_of it ≡ b ∷ [] }
+        → it.commands.now ≡ a ∷ b ∷ [] → it.next ≡ 1 → commands_left it ≡ b ∷ [] }
     ensures none { (it : CommandIter) (a b : Command)
-        → it.commands.now ≡ a ∷ b ∷ [] → it.next ≡ 2 → rest_of it ≡ [] }
+        → it.commands.now ≡ a ∷ b ∷ [] → it.next ≡ 2 → commands_left it ≡ [] }
     ensures order { (all : AllStored) (a b : Near) (c d : Stored)
         → all.near.items ≡ a ∷ b ∷ [] → all.far.items ≡ c ∷ d ∷ []
         → stored_in all ≡ widened a ∷ widened b ∷ c ∷ d ∷ [] }

@@ -4,7 +4,7 @@ ghost use Rattle.geometry.specs.Geometry.{page_bytes_of};
 ghost use Rattle.trace.specs.{Cutting.StandsBefore, Cutting.fields_of_row, Drafting.IsChecked, Drafting.IsDraft, Drafting.MakePage, Trace.workers_of};
 ghost use Rattle.trace.specs.{Parsing.Adds, Parsing.AreSoFar, Parsing.RefusesBy, Parsing.fault_at, declared.fault.TraceFaultKind.TheVariants.Memory};
 ghost use Rattle.trace.specs.Stored.{AreKept, drafted, stored_in};
-ghost use Rattle.trace.specs.Trace.{AreCommands, IsFirstFault, checked, command_of, commands_of, is_of_record, number_below, op_of, page_of, whole_fault};
+ghost use Rattle.trace.specs.Trace.{AreCommands, IsFirstFault, checked, command_of, commands_of, is_of_record, number_below, op_of, page_of_op, whole_fault};
 
 use crate::commands::{Commands, Op};
 use crate::cutting::{Cut, Row, next_cut};
@@ -307,7 +307,7 @@ fn op_named(text: &[u8]) -> Result<Op, TraceFaultKind>
 }
 
 // Checks the data of an op, which are the digits of no more than its page.
-#[tactic(auto, unfolding(crate::specs::Trace::page_of))]
+#[tactic(auto, unfolding(crate::specs::Trace::page_of_op))]
 fn check_digits(
     size: u16,
     op: Op,
@@ -316,8 +316,8 @@ fn check_digits(
     digits: &[u8],
 ) -> Result<(), TraceFaultKind>
     ensures made { OnOk result
-        (MakePage size op digits.now (page_of size op worker sector digits.now)) }
-    ensures refused { IfErr result (λ kind. page_of size op worker sector digits.now ≡ Err kind) }
+        (MakePage size op digits.now (page_of_op size op worker sector digits.now)) }
+    ensures refused { IfErr result (λ kind. page_of_op size op worker sector digits.now ≡ Err kind) }
 {
     match op {
         Op::Write | Op::New => {

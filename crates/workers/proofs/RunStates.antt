@@ -21,7 +21,7 @@ use Rattle.rounds.proofs.{Meetings.tied_again, Runs.run_is_text, Planning.places
 use Rattle.rounds.proofs.Chains.{flat, flat-append, lines_for-append, line_count-append, rows_count, round_answered, rounds_same, rounds_push, rounds_go_on}
 use Rattle.workers.specs.declared.worker.{round_limits.RoundLimits.RoundLimits, Worker.Worker}
 use Rattle.workers.specs.Workers.{HasPlayed, answered, is_before, round_lines}
-use Rattle.workers.specs.Runs.{RoundPlayed, AreManned, IsDealt, HasBegun, HasEnded, HasRun, answers_of, denied_by, rows_of}
+use Rattle.workers.specs.Runs.{RoundPlayed, AreManned, HasOwnLines, HasBegun, HasEnded, HasRun, answers_of, denied_by, rows_of}
 use Rattle.workers.proofs.{RoundMeetings.ready_at, Cursors.front_is, PlayedRounds.played_long, PlayedRounds.played_at, PlayedRounds.rests_long}
 use Rattle.workers.proofs.{PlayedRounds.rest_at}
 use Rattle.workers.proofs.RoundLines.{count_places, places_low, places_high, lines_there, FirstRound, first_round}
@@ -48,7 +48,7 @@ take_split a b xs order =
 
 -- one worker's round, by the worker before it, after it was played, and after the meetings
 module _ (trace done cs tail : List Command) (t patience end : ℕ) (p b r : Worker) (whole : trace ≡ done ++ (cs ++ tail))
-    (last : end ≡ length done + length cs) (dealt : IsDealt trace t p) (cursor : answered p ≡ line_count t done)
+    (last : end ≡ length done + length cs) (dealt : HasOwnLines trace t p) (cursor : answered p ≡ line_count t done)
     (played : HasPlayed (record { end = end; patience = patience }) p b) (same : rest_of r ≡ rest_of b) where
   abbrev here : List ℕ
   here = places_from (length done) t cs
@@ -92,7 +92,7 @@ module _ (trace done cs tail : List Command) (t patience end : ℕ) (p b r : Wor
   pub cursor_on : answered r ≡ line_count t done + line_count t cs
   cursor_on = (let parts = ap (λ (l : List Said). length l) grown in omega (arith, parts, cursor, count_added, length-append (said_in p.answers) more))
 
-  pub dealt_on : IsDealt trace t r
+  pub dealt_on : HasOwnLines trace t r
   dealt_on = record {
     commands = ap (λ (x : Rest). x.1) same ∙ (played.commands ∙ dealt.commands);
     places = ap (λ (x : Rest). x.2) same ∙ (played.places ∙ dealt.places);
@@ -147,7 +147,7 @@ pub record RunState (volume : Volume) (patience : ℕ) (trace : List Command) (b
   pub left : Left (length done) rest ends
   pub known : All (λ c. c.worker < length workers) trace
   pub sectors : All (λ c. c.sector < sectors_of (geometry_of (flash_of volume))) trace
-  pub dealt : (t : ℕ) (p : Worker) → t < length workers → IsDealt trace t (get_or workers t p)
+  pub dealt : (t : ℕ) (p : Worker) → t < length workers → HasOwnLines trace t (get_or workers t p)
   pub cursor : (t : ℕ) (p : Worker) → t < length workers → answered (get_or workers t p) ≡ line_count t done
   pub each : (t : ℕ) → t < length workers
       → HasRun t patience (denied_by volume before t) (lines_for t done) (take (line_count t done) (rows_of workers t)) (views_of volume (passes_of workers) t)
@@ -243,7 +243,7 @@ module _ (volume : Volume) (patience : ℕ) (trace : List Command) (begun : List
     rest_here : rest_of (get_or back t p) ≡ rest_of (get_or round.between t p)
     rest_here = rest_at volume round.between back round.rest t p (omega (arith, long_between))
 
-    dealt_here : IsDealt trace t (get_or back t p)
+    dealt_here : HasOwnLines trace t (get_or back t p)
     dealt_here =
         dealt_on trace state.done cs first.tail t patience end (get_or workers t p) (get_or round.between t p) (get_or back t p) whole_now first.last
         (state.dealt t p low) (state.cursor t p low) played_here rest_here

@@ -42,7 +42,7 @@ abbrev pub rows_of : List Worker → ℕ → List Said
 rows_of workers t = slice_index_or (map answers_of workers) t []
 
 -- a worker has its own lines of this trace
-pub record IsDealt (trace : List Command) (t : ℕ) (p : Worker) : Type 0 where
+pub record HasOwnLines (trace : List Command) (t : ℕ) (p : Worker) : Type 0 where
   pub commands : arc_value p.commands ≡ trace
   pub places : p.places.items ≡ places_for t trace
 
@@ -52,7 +52,7 @@ pub record HasBegun (volume : Volume) (trace : List Command) (ends : List ℕ) (
   pub rounds : ends ≡ ends_of trace
   pub known : All (λ c. c.worker < length workers) trace
   pub sectors : All (λ c. c.sector < sectors_of (geometry_of (flash_of volume))) trace
-  pub dealt : (t : ℕ) (p : Worker) → t < length workers → IsDealt trace t (slice_index_or workers t p)
+  pub dealt : (t : ℕ) (p : Worker) → t < length workers → HasOwnLines trace t (slice_index_or workers t p)
   pub none : (t : ℕ) (p : Worker) → t < length workers → HasPlayedNone (slice_index_or workers t p)
   pub new : (t : ℕ) → t < length workers → ((views_of volume (passes_of workers) t).seen ≡ []) × ((views_of volume (passes_of workers) t).mine ≡ [])
       × ((views_of volume (passes_of workers) t).programs ≡ [])
@@ -76,7 +76,7 @@ pub record HasRun (t patience : ℕ) (earlier : List ℕ) (lines : List Command)
 -- answers is that of the trace, with the writes turned away at some set of lines
 pub record HasEnded (volume : Volume) (patience : ℕ) (trace : List Command) (before workers : List Worker) : Type 0 where
   pub count : HaveAnswers (rows_of workers) trace
-  pub dealt : (t : ℕ) (p : Worker) → t < length workers → IsDealt trace t (slice_index_or workers t p)
+  pub dealt : (t : ℕ) (p : Worker) → t < length workers → HasOwnLines trace t (slice_index_or workers t p)
   pub told : AreAtOneHistory (sectors_of (geometry_of (flash_of volume))) (length workers) trace (rows_of workers)
   pub each : (t : ℕ) → t < length workers
       → HasRun t patience (denied_by volume before t) (lines_for t trace) (rows_of workers t) (views_of volume (passes_of workers) t)

@@ -8,7 +8,7 @@ ghost use Rattle.volume.specs.Brooms.{IsBroomReady};
 ghost use Rattle.volume.specs.Volume.{flash_of};
 ghost use Rattle.exports.specs.Codes.{fault_code};
 ghost use Rattle.exports.specs.Handles.{seat_of};
-ghost use Rattle.exports.specs.Opening.{IsClosed, EachAt, IsFirstPass, IsFirstBroom, IsPassIn, IsBroomIn, IsFreshHost};
+ghost use Rattle.exports.specs.Opening.{HasNoSeat, EachAt, IsFirstPass, IsFirstBroom, IsPassIn, IsBroomIn, IsFreshHost};
 ghost use Rattle.exports.specs.Tallies.{empty_tally, tally_of};
 ghost use Rattle.exports.specs.Opening.{IsFreshBroom, AreFresh, capped, shared_open_code, shared_fault_code};
 
@@ -28,7 +28,7 @@ const TOO_MANY_BROOMS: u32 = MAX_BROOMS + 1;
 
 // Closes these handles.
 fn close_all(alloc: Global, handles: &mut [Handle])
-    ensures closed { All IsClosed handles.new }
+    ensures closed { All HasNoSeat handles.new }
     ensures count { length handles.new ≡ length handles.old }
 {
     for handle in handles.iter_mut() {
@@ -61,9 +61,9 @@ fn retire_brooms(volume: &Volume, brooms: Vec<Broom>)
 // Puts a pass into a closed handle. If memory runs out, it is retired, and the handle stays closed.
 fn seat_host(alloc: Global, volume: &Arc<Volume, Global>, pass: Pass, handle: &mut Handle) -> bool
     requires pass { IsReady (flash_of (arc_value volume.now)) pass }
-    requires closed { IsClosed handle.old }
+    requires closed { HasNoSeat handle.old }
     ensures seated { result ≡ true → IsPassIn (arc_value volume.now) pass (seat_of handle.new) }
-    ensures closed { result ≡ false → IsClosed handle.new }
+    ensures closed { result ≡ false → HasNoSeat handle.new }
 {
     let Ok(volume) = volume.clone() else {
         volume.retire(pass);
@@ -83,9 +83,9 @@ fn seat_broom(
 ) -> bool
     requires broom { IsBroomReady (arc_value volume.now) broom }
     requires unused { tally_of broom ≡ empty_tally }
-    requires closed { IsClosed handle.old }
+    requires closed { HasNoSeat handle.old }
     ensures seated { result ≡ true → IsBroomIn (arc_value volume.now) broom (seat_of handle.new) }
-    ensures closed { result ≡ false → IsClosed handle.new }
+    ensures closed { result ≡ false → HasNoSeat handle.new }
 {
     let Ok(volume) = volume.clone() else {
         volume.retire_broom(broom);
@@ -109,9 +109,9 @@ fn seat_hosts(
     requires passes { All (IsReady (flash_of (arc_value volume.now))) passes.items }
     requires first { EachAt (IsFirstPass (arc_value volume.now)) passes.items }
     requires count { length passes.items ≡ length handles.old }
-    requires closed { All IsClosed handles.old }
+    requires closed { All HasNoSeat handles.old }
     ensures seated { result ≡ true → EachAt (IsFreshHost (arc_value volume.now)) handles.new }
-    ensures closed { result ≡ false → All IsClosed handles.new }
+    ensures closed { result ≡ false → All HasNoSeat handles.new }
     ensures count { length handles.new ≡ length handles.old }
 {
     let mut passes = passes;
@@ -137,9 +137,9 @@ fn seat_brooms(
     requires brooms { All (IsBroomReady (arc_value volume.now)) brooms.items }
     requires first { EachAt (IsFirstBroom (arc_value volume.now)) brooms.items }
     requires count { length brooms.items ≡ length handles.old }
-    requires closed { All IsClosed handles.old }
+    requires closed { All HasNoSeat handles.old }
     ensures seated { result ≡ true → EachAt (IsFreshBroom (arc_value volume.now)) handles.new }
-    ensures closed { result ≡ false → All IsClosed handles.new }
+    ensures closed { result ≡ false → All HasNoSeat handles.new }
     ensures count { length handles.new ≡ length handles.old }
 {
     let mut brooms = brooms;
@@ -160,11 +160,11 @@ fn deal(alloc: Global, geometry: &Geometry, hosts: &mut [Handle], brooms: &mut [
     requires some { 0 < hosts_of geometry.now }
     requires hosts { hosts_of geometry.now ≡ length hosts.old }
     requires brooms { brooms_of geometry.now ≡ length brooms.old }
-    requires closed_hosts { All IsClosed hosts.old }
-    requires closed_brooms { All IsClosed brooms.old }
+    requires closed_hosts { All HasNoSeat hosts.old }
+    requires closed_brooms { All HasNoSeat brooms.old }
     ensures fresh { result ≡ true → AreFresh (numbers_of geometry.now) hosts.new brooms.new }
-    ensures closed_hosts { result ≡ false → All IsClosed hosts.new }
-    ensures closed_brooms { result ≡ false → All IsClosed brooms.new }
+    ensures closed_hosts { result ≡ false → All HasNoSeat hosts.new }
+    ensures closed_brooms { result ≡ false → All HasNoSeat brooms.new }
 {
     let Ok((volume, passes, sweepers)) = Volume::open(alloc, geometry) else {
         return false;
@@ -190,8 +190,8 @@ fn deal(alloc: Global, geometry: &Geometry, hosts: &mut [Handle], brooms: &mut [
 
 // Whether all of these handles are closed.
 fn are_closed(handles: &[Handle]) -> bool
-    ensures closed { result ≡ true → All IsClosed handles.now }
-    ensures open { result ≡ false → ¬ All IsClosed handles.now }
+    ensures closed { result ≡ true → All HasNoSeat handles.now }
+    ensures open { result ≡ false → ¬ All HasNoSeat handles.now }
 {
     for handle in handles.iter() {
         if handle.is_open() {
@@ -232,14 +232,14 @@ pub extern "C" fn mintlintel_shared_open(
         (numbers luns blocks pages words sectors endurance
         (capped TOO_MANY_HOSTS (length hosts.old))
         (capped TOO_MANY_BROOMS (length brooms.old))) (not (nat_eq result NO_MEMORY)) }
-    ensures closed { result ≢ ALREADY_OPEN → All IsClosed hosts.old × All IsClosed brooms.old }
-    ensures open { result ≡ ALREADY_OPEN → ¬ (All IsClosed hosts.old × All IsClosed brooms.old) }
+    ensures closed { result ≢ ALREADY_OPEN → All HasNoSeat hosts.old × All HasNoSeat brooms.old }
+    ensures open { result ≡ ALREADY_OPEN → ¬ (All HasNoSeat hosts.old × All HasNoSeat brooms.old) }
     ensures fresh { result ≡ DONE
         → AreFresh
         (numbers luns blocks pages words sectors endurance
         (length hosts.old) (length brooms.old)) hosts.new brooms.new }
-    ensures closed_hosts { result ≡ NO_MEMORY → All IsClosed hosts.new }
-    ensures closed_brooms { result ≡ NO_MEMORY → All IsClosed brooms.new }
+    ensures closed_hosts { result ≡ NO_MEMORY → All HasNoSeat hosts.new }
+    ensures closed_brooms { result ≡ NO_MEMORY → All HasNoSeat brooms.new }
     ensures same_hosts { result ≢ DONE → result ≢ NO_MEMORY → hosts.new ≡ hosts.old }
     ensures same_brooms { result ≢ DONE → result ≢ NO_MEMORY → brooms.new ≡ brooms.old }
 {

@@ -3,7 +3,7 @@ ghost use Rattle.std.specs.Prelude.{◌≡◌, ◌+◌, [], ◌∷◌, None, tru
 ghost use Rattle.die.specs.Die as die;
 ghost use Rattle.die.specs.{declared.die.Die.Die, Pages.new_block};
 ghost use Rattle.ftl_one.specs.{Copying.copybacks_after, Entries.IsMapped, Stock.Entry, declared.store.Store.Store};
-ghost use Rattle.ftl_one.specs.Store.{Clears, Erases, Forgets, HasRoom, HasRoomFor, KeepsBlocks, Puts, array_of, entries_of, erases_of, retired_of};
+ghost use Rattle.ftl_one.specs.Store.{Clears, ErasesBlock, Forgets, HasRoom, HasRoomFor, KeepsBlocks, Puts, array_of, entries_of, erases_of, retired_of};
 ghost use Rattle.ftl_one.specs.Store as store;
 ghost use Rattle.geometry.specs.Geometry.{blocks_of, endurance_of, luns_of, pages_of, sectors_of};
 ghost use Rattle.geometry.specs.declared.geometry.Geometry.{Geometry};
@@ -25,7 +25,7 @@ pub fn rooms_of_a_store()
     ensures now_retired { (s t : Store) → blocks_of (store.geometry_of s) ≡ 3
         → retired_of s 2 ≡ false → retired_of t 2 ≡ true → ¬ KeepsBlocks s t }
     ensures other_device { (s t : Store) → blocks_of (store.geometry_of s) ≡ 3
-        → blocks_of (store.geometry_of t) ≡ 4 → (¬ KeepsBlocks s t) × (¬ Erases s t 0) }
+        → blocks_of (store.geometry_of t) ≡ 4 → (¬ KeepsBlocks s t) × (¬ ErasesBlock s t 0) }
     ensures new { (s : Store) (g : Geometry) → blocks_of g ≡ 3 → store.IsNew s g
         → (entries_of s 2 ≡ []) × (erases_of s 2 ≡ 0) × (retired_of s 2 ≡ false)
         × (array_of s ≡ replicate (sectors_of g) None) }
@@ -53,12 +53,12 @@ pub fn commands_on_a_store()
     ensures clears_and_erases { (s t : Store) → blocks_of (store.geometry_of s) ≡ 3
         → erases_of t 2 ≡ erases_of s 2 + 1 → ¬ Clears s t 0 1 }
     ensures erases { (s t : Store) → erases_of s 0 ≡ 4
-        → endurance_of (store.geometry_of s) ≡ 5 → Erases s t 0 → (entries_of t 0 ≡ [])
+        → endurance_of (store.geometry_of s) ≡ 5 → ErasesBlock s t 0 → (entries_of t 0 ≡ [])
         × (erases_of t 0 ≡ 5) × (retired_of t 0 ≡ true) }
     ensures erases_again { (s t : Store) → erases_of s 0 ≡ 3
-        → endurance_of (store.geometry_of s) ≡ 5 → Erases s t 0 → retired_of t 0 ≡ false }
+        → endurance_of (store.geometry_of s) ≡ 5 → ErasesBlock s t 0 → retired_of t 0 ≡ false }
     ensures erases_no_other { (s t : Store) → blocks_of (store.geometry_of s) ≡ 3
-        → Erases s t 0 → (entries_of t 2 ≡ entries_of s 2)
+        → ErasesBlock s t 0 → (entries_of t 2 ≡ entries_of s 2)
         × (erases_of t 2 ≡ erases_of s 2)
         × (retired_of t 2 ≡ retired_of s 2) × (array_of t ≡ array_of s) }
     ensures copybacks { (d : Die) → blocks_of (die.geometry_of d) ≡ 8

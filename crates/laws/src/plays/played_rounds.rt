@@ -11,7 +11,7 @@ ghost use Rattle.rounds.specs.declared.answer.Kind.TheVariants as kind;
 ghost use Rattle.trace.specs.declared.commands.Command.{Command};
 ghost use Rattle.volume.specs.{Volume.flash_of, declared.volume.Volume.Volume};
 ghost use Rattle.workers.specs.{Able.IsAble, Commands.ArePlayed, Meetings.PassesMet, declared.worker.Worker.Worker};
-ghost use Rattle.workers.specs.Runs.{HasBegun, HasEnded, HasRun, IsDealt, denied_by, rows_of};
+ghost use Rattle.workers.specs.Runs.{HasBegun, HasEnded, HasRun, HasOwnLines, denied_by, rows_of};
 ghost use Rattle.laws.specs.Rounds.{meeting, read, write_by};
 
 /// What a run that has begun and one that has ended say of each worker.
@@ -37,7 +37,7 @@ pub fn runs_of_workers()
     ensures filled_before { (v : Volume) (p : Worker) (m : MapWord) (ends : List ℕ)
         → (view_of p.pass).programs ≡ m ∷ [] → ¬ HasBegun v [] ends (p ∷ []) }
     ensures each { (v : Volume) (trace : List Command) (ps : List Worker) (q : Worker)
-        → HasEnded v 9 trace ps (q ∷ []) → IsDealt trace 0 q
+        → HasEnded v 9 trace ps (q ∷ []) → HasOwnLines trace 0 q
         × HasRun 0 9 (denied_by v ps 0) (lines_for 0 trace) (said_in q.answers) (view_of q.pass) }
     ensures text { (v : Volume) (trace : List Command) (ps qs : List Worker)
         → HasEnded v 9 trace ps qs → IsDisjointTrace trace

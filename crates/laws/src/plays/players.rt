@@ -7,7 +7,7 @@ ghost use Rattle.geometry.specs.{Geometry.hosts_of, Geometry.sectors_of, Geometr
 ghost use Rattle.geometry.specs.declared.answer.Was.TheVariants as was;
 ghost use Rattle.broom.specs.{Ends.folded_view, Ready.blocks_of_broom, Ready.view_of_broom, declared.broom.Broom.Broom};
 ghost use Rattle.host.specs.Ready.{IsReady};
-ghost use Rattle.rounds.specs.Answers.{HasSpaceFor, IsCursorOf, first_place, place_of, said_in};
+ghost use Rattle.rounds.specs.Answers.{HasSpaceFor, IsCursorOf, first_place, answer_index, said_in};
 ghost use Rattle.rounds.specs.Lines.{Said, kind_of, said};
 ghost use Rattle.rounds.specs.{Merging.HaveAnswers, Pages.bytes_in, Pages.bytes_of, Plans.ends_of, Plans.places_for, Rows.AreAtOneHistory, Rows.answers_by};
 ghost use Rattle.rounds.specs.declared.{answer.Answer.Answer, answer_list.Answers.Answers};
@@ -45,7 +45,7 @@ pub fn lines_and_answers_of_workers()
     ensures all_bytes { bytes_in 8 (kind.Page ∷ kind.Empty ∷ kind.Page ∷ []) ≡ 16 }
     ensures rows { (a b : Answers) → (answers_by (a ∷ b ∷ []) 1 ≡ said_in b)
         × (answers_by (a ∷ b ∷ []) 2 ≡ []) }
-    ensures first { (a : Answers) → IsCursorOf a first_place × (place_of first_place ≡ 0) }
+    ensures first { (a : Answers) → IsCursorOf a first_place × (answer_index first_place ≡ 0) }
     ensures answered { (s : Said)
         → HaveAnswers (rows_with (s ∷ []) []) (plain_line 0 op.Read 5 ∷ []) }
     ensures not_answered { (s : Said)

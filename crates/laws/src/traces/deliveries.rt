@@ -2,7 +2,7 @@
 ghost use Rattle.std.specs.Prelude.{length, ◌≡◌, ℕ, List, [], ◌∷◌, Some, None, Ok, Err, true, false, codes};
 ghost use Rattle.answers.specs.Answers.{broom_line, calls_of, collection_line, line_text, wear_line, wear_names};
 ghost use Rattle.answers.specs.{Delivery.IsUnderWay, Faults.run_text, Playable.IsPlayable, Replies.reply_of, Replies.reply_text};
-ghost use Rattle.text.specs.Placed.{Placed};
+ghost use Rattle.text.specs.Putting.{PutsText};
 ghost use Rattle.answers.specs.Streams.{Moves, Passage, Stream, Tells, WritesOut, Part, Whole, Writes, WritesIf, TellsIf};
 ghost use Rattle.answers.specs.declared.delivery.OutputFailed.{OutputFailed};
 ghost use Rattle.answers.specs.declared.fault.RunFault.TheVariants as run;
@@ -10,7 +10,7 @@ ghost use Rattle.answers.specs.declared.reply.Reply.TheVariants as reply;
 ghost use Rattle.geometry.specs.{Geometry.hosts_of, Geometry.sectors_of, Geometry.words_of, History.Trim, History.Write, declared.geometry.Geometry.Geometry};
 ghost use Rattle.geometry.specs.Sectors.{sector_at};
 ghost use Rattle.geometry.specs.declared.answer.Was.TheVariants as was;
-ghost use Rattle.runs.specs.{Collections.log_part, Logs.IsLogged, Logs.IsOpen, Logs.due_by, Logs.is_wanted};
+ghost use Rattle.runs.specs.{Collections.log_part, Logs.IsLogged, Logs.IsOpen, Logs.due_before, Logs.is_wanted};
 ghost use Rattle.runs.specs.Playing.{answer_by, line_by};
 ghost use Rattle.runs.specs.declared.log.Log.TheVariants as log;
 ghost use Rattle.runs.specs.Logs.{portion_left};
@@ -19,13 +19,13 @@ ghost use Rattle.ftl_one.specs.{Collections.collection_due, Stock.Stock, declare
 ghost use Rattle.hex.specs.Hex.{decode_of};
 ghost use Rattle.trace.specs.{Digits.IsData, Faults.fault_text, Loading.ExplainsLoad, Loading.most_bytes, Page.page_with};
 ghost use Rattle.text.specs.Digits.{bytes_of};
-ghost use Rattle.trace.specs.Trace.{AreCommands, IsFirstFault, is_of_record, name_of, whole_fault, workers_of};
+ghost use Rattle.trace.specs.Trace.{AreCommands, IsFirstFault, is_of_record, op_name, whole_fault, workers_of};
 ghost use Rattle.streams.specs.Watched.{after_call, after_write};
 ghost use Rattle.trace.specs.declared.{commands.Command.Command, fault.TraceFault.TraceFault};
 ghost use Rattle.trace.specs.declared.commands.Op.TheVariants as op;
 ghost use Rattle.trace.specs.declared.fault.TraceFaultKind.TheVariants as fault;
 ghost use Rattle.clap.specs.Words.{Text};
-ghost use Rattle.player.specs.Arguments.{AreWordsOf, IsUnread};
+ghost use Rattle.player.specs.Arguments.{AreWordsOf, WhyUnread};
 ghost use Rattle.player.specs.declared.stop.Stop.TheVariants as stop;
 ghost use Rattle.laws.specs.{Rounds.plain_line, Rounds.read, Rounds.write_by, Streams.Same, Streams.fails, Streams.passes, Streams.some_line};
 
@@ -84,17 +84,17 @@ pub fn ends_of_a_file()
     ensures left_none { (g : Geometry) (i : Stream)
         → (¬ Tells (portion_left run.Memory true) (IsLogOf g) i (passes [] (2 ∷ [])))
         × (¬ Tells (portion_left run.Threads true) (IsLogOf g) i (passes [] (2 ∷ []))) }
-    ensures due { (g : Geometry) (s : Stock) → (due_by op.Write g s ≡ collection_due g s)
-        × (due_by op.New g s ≡ collection_due g s) }
-    ensures none_due { (g : Geometry) (s : Stock) → (due_by op.Read g s ≡ None)
-        × (due_by op.Trim g s ≡ None) × (due_by op.Meet g s ≡ None) }
+    ensures due { (g : Geometry) (s : Stock) → (due_before op.Write g s ≡ collection_due g s)
+        × (due_before op.New g s ≡ collection_due g s) }
+    ensures none_due { (g : Geometry) (s : Stock) → (due_before op.Read g s ≡ None)
+        × (due_before op.Trim g s ≡ None) × (due_before op.Meet g s ≡ None) }
 {}
 
 /// The lines and the words that are printed.
 pub fn lines_of_reports()
     ensures line { line_text 2 op.Write 5 (codes "empty") ≡ codes "2,write,5,empty\n" }
-    ensures names { (name_of op.Read ≡ codes "read") × (name_of op.New ≡ codes "new")
-        × (name_of op.Trim ≡ codes "trim") × (name_of op.Meet ≡ codes "meet") }
+    ensures names { (op_name op.Read ≡ codes "read") × (op_name op.New ≡ codes "new")
+        × (op_name op.Trim ≡ codes "trim") × (op_name op.Meet ≡ codes "meet") }
     ensures wear { (wear_line 1 2 3 true ≡ codes "1,2,3,1\n")
         × (wear_line 1 2 3 false ≡ codes "1,2,3,0\n") }
     ensures wear_head { wear_names ≡ codes "block,erases,live,retired\n" }
@@ -120,10 +120,10 @@ pub fn lines_of_reports()
     ensures calls { (x : List ℕ) → (calls_of false (write_by 3 5 x) ≡ Write 0 5 x ∷ [])
         × (calls_of false (plain_line 3 op.Trim 5) ≡ Trim 0 5 ∷ [])
         × (calls_of false (plain_line 3 op.Read 5) ≡ []) }
-    ensures placed { Placed (1 ∷ 2 ∷ 3 ∷ []) (1 ∷ 7 ∷ 9 ∷ []) 1 (7 ∷ []) 2 }
-    ensures misplaced { (¬ Placed (1 ∷ 2 ∷ []) (7 ∷ 2 ∷ []) 1 (7 ∷ []) 2)
-        × (¬ Placed (1 ∷ []) (1 ∷ 7 ∷ []) 1 (7 ∷ []) 2)
-        × (¬ Placed (1 ∷ 2 ∷ []) (1 ∷ 7 ∷ []) 1 (7 ∷ []) 3) }
+    ensures placed { PutsText (1 ∷ 2 ∷ 3 ∷ []) (1 ∷ 7 ∷ 9 ∷ []) 1 (7 ∷ []) 2 }
+    ensures misplaced { (¬ PutsText (1 ∷ 2 ∷ []) (7 ∷ 2 ∷ []) 1 (7 ∷ []) 2)
+        × (¬ PutsText (1 ∷ []) (1 ∷ 7 ∷ []) 1 (7 ∷ []) 2)
+        × (¬ PutsText (1 ∷ 2 ∷ []) (1 ∷ 7 ∷ []) 1 (7 ∷ []) 3) }
 {}
 
 /// What the records of a trace are, why a trace is not played, and which commands a device can play.
@@ -166,9 +166,9 @@ pub fn commands_and_faults_of_a_trace()
 pub fn words_of_a_command_line()
     ensures words { AreWordsOf (codes "flashplay" ∷ codes "-h" ∷ []) (codes "-h" ∷ []) }
     ensures no_program { ¬ AreWordsOf (codes "-h" ∷ []) (codes "-h" ∷ []) }
-    ensures unread { (w : List Text) → IsUnread (Some w) stop.Memory
-        × (¬ IsUnread (Some w) stop.Help) × (¬ IsUnread (Some w) (stop.Encoding 0)) }
-    ensures encoded { ¬ IsUnread (Some []) (stop.Encoding 1) }
+    ensures unread { (w : List Text) → WhyUnread (Some w) stop.Memory
+        × (¬ WhyUnread (Some w) stop.Help) × (¬ WhyUnread (Some w) (stop.Encoding 0)) }
+    ensures encoded { ¬ WhyUnread (Some []) (stop.Encoding 1) }
     ensures answer { (l : OneFtl) → sector_at (array_of l) 5 ≡ None
         → answer_by l (read 0) ≡ codes "empty" }
     ensures answer_line { (l : OneFtl) → sector_at (array_of l) 5 ≡ None

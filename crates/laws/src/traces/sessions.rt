@@ -6,7 +6,7 @@ ghost use Rattle.clap.specs.{Words.IsAmong, Words.Text, Words.first_of, Words.ki
 ghost use Rattle.geometry.specs.{Geometry.hosts_of, Geometry.numbers_of, declared.fault.GeometryFault.GeometryFault, declared.geometry.Geometry.Geometry};
 ghost use Rattle.geometry.specs.Limits.{first_fault, numbers};
 ghost use Rattle.player.specs.CommandLine.{AreOptionsOf, IsNumberIn, faults_given, numbers_given, rows_given, rows_named};
-ghost use Rattle.player.specs.Session.{AsksClap, HasFailedToOpen, IsIdle, IsLogBy, IsOpenedAs, IsRefused, IsRefusedAs, IsTextFor, portion_left_by};
+ghost use Rattle.player.specs.Session.{AsksClap, HasFailedToOpen, MovesNothing, IsLogBy, IsOpenedAs, IsRefused, IsRefusedAs, IsTextFor, portion_left_by};
 ghost use Rattle.player.specs.Session.{EndsOn, ExplainsFile, ExplainsStop, FailsToOpen, Helped, OpensFiles, WritesFile, WritesSome, stop_of_open};
 ghost use Rattle.player.specs.{Session.filing, Session.name_given, Telling.TellsStop};
 ghost use Rattle.player.specs.declared.command_line.Options.{Options};
@@ -41,7 +41,7 @@ pub fn ends_of_a_session()
     ensures which { (f : GeometryFault) (w : List Text) (i o e : Passage)
         → EndsBy (Err (stop.Geometry f)) w i o e → (given : Options)
         × AreOptionsOf w given × (first_fault (numbers_given given) ≡ Some f)
-        × (faults_given w ≡ []) × IsIdle i o
+        × (faults_given w ≡ []) × MovesNothing i o
         × TellsStop (stop.Geometry f) e }
     ensures stopped { (f : RunFault) (w : List Text) (i o e : Passage)
         → EndsBy (Err (stop.Run f)) w i o e → (given : Options) × (g : Geometry)
@@ -116,23 +116,23 @@ pub fn files_of_a_session()
 /// The files of a run that a session leaves as they were, and the one that could not be opened, by how the session ended.
 pub fn files_left_by_a_session()
     ensures early { (s : Stop) (w : List Text) (i o : Passage) (a b : RunFiles ℕ) → IsEarly s
-        → ExplainsStop s w i o (unknown_files a b) → IsIdle i o × NeitherFails a b }
+        → ExplainsStop s w i o (unknown_files a b) → MovesNothing i o × NeitherFails a b }
     ensures help { (r : Result (Unit {0}) OutputFailed) (w : List Text) (i o : Passage)
         (a b : RunFiles ℕ) → Helped r w i o (unknown_files a b) → NeitherFails a b }
     ensures with_workers { (f : RunFile) (g : Geometry) (given : Options) (i o : Passage)
         (a b : RunFiles ℕ)
         → ExplainsFile f file_stop.NotWithWorkers g given i o (unknown_files a b)
         → (¬ (hosts_of g ≡ 0)) × (f ≡ run_file.Wear)
-        × (is_some (name_given f given) ≡ true) × IsIdle i o × NeitherFails a b }
+        × (is_some (name_given f given) ≡ true) × MovesNothing i o × NeitherFails a b }
     ensures not_opened { (f : RunFile) (g : Geometry) (given : Options) (i o : Passage)
         (a b : RunFiles ℕ)
         → ExplainsFile f file_stop.NotOpened g given i o (unknown_files a b)
-        → (is_some (name_given f given) ≡ true) × IsIdle i o
+        → (is_some (name_given f given) ≡ true) × MovesNothing i o
         × FailsToOpen f open_fault.Refused given (unknown_files a b) }
     ensures in_use { (f : RunFile) (g : Geometry) (given : Options) (i o : Passage)
         (a b : RunFiles ℕ)
         → ExplainsFile f file_stop.NotItsOwn g given i o (unknown_files a b)
-        → (is_some (name_given f given) ≡ true) × IsIdle i o
+        → (is_some (name_given f given) ≡ true) × MovesNothing i o
         × FailsToOpen f open_fault.InUse given (unknown_files a b) }
     ensures wear { (c : OpenFault) (given : Options) (a b : RunFiles ℕ)
         → FailsToOpen run_file.Wear c given (unknown_files a b)

@@ -1,6 +1,6 @@
 use Rattle.std.proofs.Common.{◌+◌, ◌≤◌, ◌∙◌, length, ap, arith, refl, subst, sym}
 use Rattle.std.{proofs.lemmas.List.length-map}
-use Rattle.rounds.specs.{Answers.place_of, Rows.answers_by}
+use Rattle.rounds.specs.{Answers.answer_index, Rows.answers_by}
 use Rattle.runs.{specs.Delivering.passed_in, proofs.RefusedWrites.lines_few, proofs.RefusedWrites.lines_turn}
 use Rattle.runs.proofs.{RefusedWrites.bit_is, RefusedWrites.bit_low, Rows.all_at, Rows.next_is, Rows.next_more, Rows.next_there, Rows.none_passed}
 use Rattle.runs.proofs.refusals.count_refused.Goals as goal
@@ -8,7 +8,7 @@ use Rattle.runs.proofs.refusals.count_refused.Goals as goal
 pub next_answer-answer-requires-clause-there : goal.next_answer-answer-requires-clause-there
 next_answer-answer-requires-clause-there c =
     let next = passed_in c.loop-i.next in
-    let long = length-map c.loop-i.next place_of ∙ c.loop-i.invariant.long in
+    let long = length-map c.loop-i.next answer_index ∙ c.loop-i.invariant.long in
     next_there c.args.rows.now next c.loop-i.i c.args.commands.now c.command-command.result c.loop-i.invariant.next long c.requires.answers
     c.command-command.ensures.rest
 
@@ -20,7 +20,7 @@ loop-i-preserved c =
     let command = c.command-command.result in
     let before = passed_in c.loop-i.next in
     let so_far = c.loop-i.invariant.next in
-    let long = length-map c.loop-i.next place_of ∙ c.loop-i.invariant.long in
+    let long = length-map c.loop-i.next answer_index ∙ c.loop-i.invariant.long in
     let there = next_there rows before i commands command so_far long c.requires.answers c.command-command.ensures.rest in
     let answer = next_is rows before i commands command so_far long _ there c.next_answer-answer.ensures.answer in
     record {

@@ -1,7 +1,7 @@
 use Rattle.std.proofs.Common.{◌≡◌, drop}
-use Rattle.trace.specs.Cutting.{lines_of}
+use Rattle.trace.specs.Cutting.{next_records}
 use Rattle.trace.proofs.cutting.record_start.Given as goal
 
 -- line ends hold no record
 abbrev pub invariant-loop-start : goal.invariant-loop-start
-invariant-loop-start l = lines_of (drop l.from l.text) ≡ lines_of (drop l.start l.text)
+invariant-loop-start l = next_records (drop l.from l.text) ≡ next_records (drop l.start l.text)

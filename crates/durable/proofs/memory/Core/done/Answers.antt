@@ -2,7 +2,7 @@ use Rattle.std.proofs.Common.{◌<◌, ◌^◌, ◌+◌, ℕ, List, length, Opti
 use Rattle.std.proofs.lemmas.List.{length-set}
 use Rattle.geometry.specs.declared.page_addr.PageAddr.{PageAddr}
 use Rattle.durable.specs.Collecting.{AreLiveCounts, HasCapacity}
-use Rattle.durable.specs.Choice.{IsNext}
+use Rattle.durable.specs.Choice.{IsNextCommand}
 use Rattle.durable.specs.declared.command.Command.{Command}
 use Rattle.durable.proofs.Done.{Becomes}
 use Rattle.durable.proofs.Collects.{collects_after, spends_after, page_after_on, first_page_on}
@@ -13,7 +13,7 @@ use Rattle.durable.proofs.memory.Core.done.Goals as goal
 pub invariant_of-self-clause-on_device : goal.invariant_of-self-clause-on_device
 invariant_of-self-clause-on_device c =
     let core = c.args.self.now in
-    let next = subst (IsNext core) c.in-Program.is c.requires.next in
+    let next = subst (IsNextCommand core) c.in-Program.is c.requires.next in
     page_after_on core.blocks core.pages c.in-Program.at c.page_after-self.result (core.on_device c.in-Program.at next.0).0
     (c.page_after-self.ensures.next, c.page_after-self.ensures.last)
 
@@ -39,7 +39,7 @@ invariant_of-self-clause-can_collect c =
 pub invariant_of-self-in-Copy-clause-on_device : goal.invariant_of-self-in-Copy-clause-on_device
 invariant_of-self-in-Copy-clause-on_device c =
     let core = c.args.self.now in
-    let next = subst (IsNext core) c.in-Copy.is c.requires.next in
+    let next = subst (IsNextCommand core) c.in-Copy.is c.requires.next in
     page_after_on core.blocks core.pages c.in-Copy.to c.page_after-self-in-Copy.result (core.on_device c.in-Copy.to next.0).0
     (c.page_after-self-in-Copy.ensures.next, c.page_after-self-in-Copy.ensures.last)
 
@@ -63,7 +63,7 @@ invariant_of-self-in-Copy-clause-can_collect c =
     (c.remap.ensures.map, refl, (c.page_after-self-in-Copy.ensures.next, c.page_after-self-in-Copy.ensures.last)))
 
 pub invariant_of-self-in-Erase-clause-on_device : goal.invariant_of-self-in-Erase-clause-on_device
-invariant_of-self-in-Erase-clause-on_device c = let next = subst (IsNext c.args.self.now) c.in-Erase.is c.requires.next in
+invariant_of-self-in-Erase-clause-on_device c = let next = subst (IsNextCommand c.args.self.now) c.in-Erase.is c.requires.next in
     first_page_on c.args.self.now c.in-Erase.block next.1
 
 pub invariant_of-self-in-Erase-clause-counted : goal.invariant_of-self-in-Erase-clause-counted

@@ -2,7 +2,7 @@ use Rattle.std.proofs.Common.{◌+◌, List, length, vec_len, refl, get_or, drop
 use Rattle.std.proofs.lemmas.{Grind.common_steps, List.length-map}
 use Rattle.answers.{specs.Lines.waiting_of, specs.Streams.stream_of, proofs.Deliveries.WritesOut-rest, proofs.Deliveries.WritesOut-stopped}
 use Rattle.streams.specs.Watched.{inner_of}
-use Rattle.rounds.specs.{Rows.answers_by, Answers.place_of, declared.answer_list.Cursor.Cursor}
+use Rattle.rounds.specs.{Rows.answers_by, Answers.answer_index, declared.answer_list.Cursor.Cursor}
 use Rattle.runs.specs.Delivering.{AreAt, digits_in, passed_in, text_of, HasDigits}
 use Rattle.runs.proofs.Deliveries.{delivery_turn, delivery_whole, text_before, text_begins}
 use Rattle.runs.proofs.Rows.{all_digits, answer_found, lent, none_passed, all_at, next_is, next_more, next_there, AreNext}
@@ -13,7 +13,7 @@ next_answer-answer-requires-clause-there g c =
     let lent = c.deref_mut.ensures.value in
     let next = passed_in c.deref_mut.result.now in
     let so_far = subst (λ (l : List Cursor). AreNext (passed_in l) c.loop-i.i c.args.commands.now) (sym lent) c.loop-i.invariant.next in
-    let long = length-map c.deref_mut.result.now place_of ∙ (ap (length {A = Cursor}) lent ∙ c.loop-i.invariant.long) in
+    let long = length-map c.deref_mut.result.now answer_index ∙ (ap (length {A = Cursor}) lent ∙ c.loop-i.invariant.long) in
     next_there c.args.rows.now next c.loop-i.i c.args.commands.now c.command-command.result so_far long c.requires.answers c.command-command.ensures.rest
 
 pub put_answer-requires-clause-pages : goal.put_answer-requires-clause-pages
@@ -35,7 +35,7 @@ loop-i-preserved g c =
     let lent_next = c.deref_mut.ensures.value in
     let so_far = subst (λ (l : List Cursor). AreNext (passed_in l) i commands) (sym lent_next) c.loop-i.invariant.next in
     let count = ap (length {A = Cursor}) lent_next ∙ c.loop-i.invariant.long in
-    let long = length-map c.deref_mut.result.now place_of ∙ count in
+    let long = length-map c.deref_mut.result.now answer_index ∙ count in
     let there = next_there rows before i commands command so_far long c.requires.answers c.command-command.ensures.rest in
     let back = lent c.loop-i.next.len after (drop (length after) c.loop-i.next.items) (c.next_answer-answer.auto.next ∙ c.deref_mut.ensures.len) in
     let answer = next_is rows before i commands command so_far long _ there c.next_answer-answer.ensures.answer in

@@ -15,7 +15,7 @@ abbrev pub four_digits : ℕ → List ℕ
 four_digits n = two_digits (n / 100) ++ two_digits (n % 100)
 
 -- a text is in a buffer after its first bytes, which are unchanged, and ends here; the buffer is as long as before
-pub record Placed (old new : List ℕ) (at : ℕ) (text : List ℕ) (end : ℕ) : Type 0 where
+pub record PutsText (old new : List ℕ) (at : ℕ) (text : List ℕ) (end : ℕ) : Type 0 where
   pub bytes : take end new ≡ take at old ++ text
   pub within : end ≤ length new
   pub len : length new ≡ length old
