@@ -3,7 +3,7 @@ use Rattle.std.proofs.Common.{◌≡◌, ℕ, ◌+◌, ◌*◌, ◌/◌, ◌%◌
 use Rattle.std.proofs.{Common.eqb-true, Common.subst, Common.length-set, lemmas.Bool.agree_below_at, lemmas.Fmt.decimal_digit}
 use Rattle.std.specs.Fmt.{decimal}
 use Rattle.itoa.proofs.Decimal.{decimal_two, decimal_pair, decimal_four}
-use Rattle.text.{specs.Putting.PutsText, specs.Putting.two_digits, specs.Putting.four_digits, proofs.Places.PutsText-byte, proofs.Places.PutsText-then}
+use Rattle.text.{specs.Putting.PutsText, specs.Putting.two_digits, specs.Putting.four_digits, proofs.Places.Puts-byte, proofs.Places.Puts-then}
 use Rattle.text.specs.declared.put.TheConstants.{PAIRS}
 
 -- the table has the digits
@@ -42,11 +42,11 @@ pub decimal_parts : (n : ℕ) → 10000 ≤ n → n < 2 ^ 64 → decimal (n / 10
 decimal_parts n lo hi = sym (decimal_four n lo hi)
 
 -- two digits of the table
-pub PutsText-two : (a : List ℕ) (i n : ℕ) → n < 100 → i + 2 ≤ length a
+pub Puts-two : (a : List ℕ) (i n : ℕ) → n < 100 → i + 2 ≤ length a
     → PutsText a (set (set a i (get_or PAIRS (2 * n) 0)) (i + 1) (get_or PAIRS (2 * n + 1) 0)) i (two_digits n) (i + 2)
-PutsText-two a i n h room =
+Puts-two a i n h room =
     let same = length-set a i (48 + n / 10) in
     let end : i + 1 + 1 ≡ i + 2 = omega arith in
     rw (tens_are n h, ones_are n h)
     (subst (PutsText a (set (set a i (48 + n / 10)) (i + 1) (48 + n % 10)) i (two_digits n)) end
-    (PutsText-then (PutsText-byte a i (48 + n / 10) (omega arith)) (PutsText-byte (set a i (48 + n / 10)) (i + 1) (48 + n % 10) (omega arith))))
+    (Puts-then (Puts-byte a i (48 + n / 10) (omega arith)) (Puts-byte (set a i (48 + n / 10)) (i + 1) (48 + n % 10) (omega arith))))

@@ -5,7 +5,8 @@ use Rattle.std.specs.Prelude.{Bool, false, MatchBool, if◌then◌else◌}
 use Rattle.geometry.specs.{Geometry.page_bytes_of, Geometry.sectors_of, declared.geometry.Geometry.Geometry}
 use Rattle.hex.specs.{Hex.decode_of, declared.error.FromHexError.FromHexError}
 use Rattle.trace.specs.{Parsing.Adds, Parsing.RefusesBy, Parsing.fault_at, Trace.whole_fault, Trace.workers_of, Trace.◌>>=◌, declared.commands.Command.Command}
-use Rattle.trace.specs.Trace.{IsFirstFault, all_or_first, checked, command_of, commands_of, is_of_record, op_name, number_below, op_of, page_of_op, page_of_bytes}
+use Rattle.trace.specs.Trace.{IsFirstFault, all_or_first, checked, command_of, commands_of, is_of_record, number_below}
+use Rattle.trace.specs.Trace.{op_name, op_of, page_of_bytes, page_of_op}
 use Rattle.trace.specs.declared.{commands.Op.Op, fault.TraceFault.TraceFault, fault.TraceFaultKind.TraceFaultKind}
 use Rattle.trace.specs.declared.commands.Op.TheVariants as op
 use Rattle.trace.specs.declared.fault.TraceFaultKind.TheVariants as fault

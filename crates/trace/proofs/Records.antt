@@ -17,8 +17,8 @@ use Rattle.trace.proofs.{Cuts.begins, Cuts.behind, Cuts.or_false, Cuts.within, F
 -- ---- between two records
 
 -- starts from which the same record is read leave the same records
-same_after : (s t : State) (xs ys : List ℕ) (o : Option Read) → ends_at_end s ≡ false → ends_at_end t ≡ false → read_from s [] [] xs ≡ o → read_from t [] [] ys ≡ o
-    → records_after s xs ≡ records_after t ys
+same_after : (s t : State) (xs ys : List ℕ) (o : Option Read) → ends_at_end s ≡ false → ends_at_end t ≡ false
+    → read_from s [] [] xs ≡ o → read_from t [] [] ys ≡ o → records_after s xs ≡ records_after t ys
 same_after s t xs ys None h k p q = after-none s xs p ∙ sym (after-none t ys q)
 same_after s t xs ys (Some r) h k p q = after-some s xs r h p ∙ sym (after-some t ys r k q)
 
@@ -127,8 +127,8 @@ record-begins (x ∷ xs) n h =
     record-same [] [] x xs p.0 p.1
 
 -- line ends are passed over
-pub starts-more : (text : List ℕ) (from at : ℕ) → next_records (drop from text) ≡ next_records (drop at text) → at < length text → is_line_end (get_or text at 0) ≡ true
-    → next_records (drop from text) ≡ next_records (drop (at + 1) text)
+pub starts-more : (text : List ℕ) (from at : ℕ) → next_records (drop from text) ≡ next_records (drop at text) → at < length text
+    → is_line_end (get_or text at 0) ≡ true → next_records (drop from text) ≡ next_records (drop (at + 1) text)
 starts-more text from at e below h = e ∙ ap next_records (drop_more text at 0 below) ∙ lines-skip (get_or text at 0) (drop (at + 1) text) h
 
 pub reads-first : (text : List ℕ) (from start : ℕ) → StartsRecord text from start → start ≢ length text → Reads text start [] start

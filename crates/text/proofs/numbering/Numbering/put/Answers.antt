@@ -1,6 +1,6 @@
 use Rattle.std.proofs.Common.{◌≡◌, ◌+◌, ◌-◌, ◌/◌, ◌%◌, ◌<◌, ◌≤◌, ap, ◌∙◌, arith}
 use Rattle.std.specs.Fmt.{decimal}
-use Rattle.text.{specs.Putting.four_digits, proofs.Numbers.decimal_parts, proofs.Places.PutsText-as, proofs.Places.PutsText-byte, proofs.Places.PutsText-then}
+use Rattle.text.{specs.Putting.four_digits, proofs.Numbers.decimal_parts, proofs.Places.Puts-as, proofs.Places.Puts-byte, proofs.Places.Puts-then}
 use Rattle.text.proofs.numbering.Numbering.put.Goals as goal
 use Rattle.text.proofs.numbering.Numbering.put.Goals.{then-number-self, else-number-self+else-number-self-ge-STEP}
 
@@ -15,9 +15,9 @@ returns-clause-placed c =
     let whole = s.whole in
     let first : s.from / 10000 ≡ c.args.number / 10000 = omega (arith, near.0, near.1) in
     let last : c.args.number - s.from ≡ c.args.number % 10000 = omega (arith, near.0, near.1) in
-    let front = PutsText-as (s.digits_of ∙ ap decimal first) c.put_short-middle.ensures.placed in
-    let four = PutsText-as (ap four_digits last) c.put_four.ensures in
-    let digits = PutsText-as (decimal_parts c.args.number (omega (arith, c.if-number-lt-STEP.false)) c.ranges.number.fits) (PutsText-then front four) in
+    let front = Puts-as (s.digits_of ∙ ap decimal first) c.put_short-middle.ensures.placed in
+    let four = Puts-as (ap four_digits last) c.put_four.ensures in
+    let digits = Puts-as (decimal_parts c.args.number (omega (arith, c.if-number-lt-STEP.false)) c.ranges.number.fits) (Puts-then front four) in
     let end = c.put_short-middle.ensures.end in
     let same = c.put_short-middle.ensures.placed.len in
-    let still = c.put_four.ensures.len in PutsText-then digits (PutsText-byte c.put_four.new.buffer (c.put_short-middle.result + 4) 44 (omega (arith, c.requires)))
+    let still = c.put_four.ensures.len in Puts-then digits (Puts-byte c.put_four.new.buffer (c.put_short-middle.result + 4) 44 (omega (arith, c.requires)))
