@@ -162,7 +162,8 @@ acknowledges core new s m lt next becomes blocks read pages f t x acked begun is
     update = record { extent = s; value = x }
 
     acknowledged : (m : Command) → IsNextCommand core m → BecomesCore core s m new → Completes m s x f t
-        → Represents t new (array_with m (array_after is.updates) s x) → IsWrittenOn (device_of new) t → LeavesSpare t new → IsConsistent t new (updates_with m update acked) (updates_with m update begun)
+        → Represents t new (array_with m (array_after is.updates) s x)
+        → IsWrittenOn (device_of new) t → LeavesSpare t new → IsConsistent t new (updates_with m update acked) (updates_with m update begun)
     acknowledged (Program at n) next becomes does represents written spare = record {
       updates = update ∷ is.updates;
       includes = inr (acked, refl, is.includes);
