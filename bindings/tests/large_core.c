@@ -1,6 +1,7 @@
 /* The core of large devices: its memory, and that it finds the sectors of a block, where a hint stands for several, without a search of them all. */
 #include "mintlintel_durable.h"
 #include "testing.h"
+#include <malloc.h>
 #include <time.h>
 #include <unistd.h>
 
@@ -50,7 +51,10 @@ static void use(uint32_t blocks, uint32_t percent)
 
 int main(void)
 {
+    CHECK(mallopt(M_MMAP_THRESHOLD, 65536) == 1);
     use(65536, 75);
-    use(16384, 52);
+    use(65536, 55);
+    for (uint32_t percent = 48; percent > 1; percent /= 2)
+        use(16384, percent);
     return 0;
 }

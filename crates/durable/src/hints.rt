@@ -2,25 +2,26 @@ ghost use Rattle.std.specs.Prelude.{◌<◌, ◌≤◌};
 
 use std::alloc::{AllocError, Global};
 
-// The bits of a hint: three or four hints stand in a word.
-const WIDE: usize = 21;
+// How many bits there are for a sector, if hints aren't longer than is needed.
+const MOST_BITS: usize = 32;
 
-const NARROW: usize = 16;
+// The greatest number of bits that a hint has, and that it leaves out of a sector's number.
+const MOST: u32 = 31;
 
-// How many sectors may have narrow hints. Each then stands for at most 256 sectors.
-const MOST_NARROW: usize = 1 << 23;
+// From so many bits on that are left out, a page without a sector is worth a mark, since to look for its sector takes longer.
+const FORGETTING: u32 = 5;
 
-// The greatest number of bits that a hint leaves out.
-const MOST_SCALE: u32 = 12;
-
-/// For each page a few neighbouring sectors of which it may have one, and whether it was programmed for that one alone.
+/// For each page a few neighbouring sectors of which it may have one, and whether it was programmed for that one alone. All hints together take at most
+/// four bytes a sector: the more pages there are for a sector, the shorter they are, and the more sectors they stand for.
 #[derive(Drop)]
 pub struct Hints {
     words: Vec<u64>,
-    is_narrow: bool,
+    // How many bits a hint has. It may begin in one word and end in the next.
+    width: u32,
     // How many low bits of a sector's number are left out.
     scale: u32,
-    pub ghost small: { scale ≤ 12 },
+    pub ghost narrow: { width ≤ 31 },
+    pub ghost small: { scale ≤ 31 },
 }
 
 /// The first of the neighbouring sectors, and whether the page has no other sector.
@@ -31,18 +32,14 @@ pub struct Hint {
 }
 
 impl Hints {
-    /// Nothing is known of any page. With more than 1.45 pages for a sector hints are narrow, so that they take at most four bytes a sector with up to 2.
+    /// Nothing is known of any page.
     pub fn new(alloc: Global, pages: usize, sectors: usize) -> Result<Hints, AllocError> {
-        let is_narrow = pages / 29 > sectors / 20 && sectors <= MOST_NARROW;
-        let (numbers, in_a_word) = if is_narrow {
-            (1 << 15, 4)
-        } else {
-            (1 << 20, 3)
-        };
+        let width = width_of(pages, sectors);
+        let bits = pages.saturating_mul(width as usize);
         Ok(Hints {
-            words: vec![in alloc; u64::MAX; pages / in_a_word + 1]?,
-            is_narrow,
-            scale: scale_of(sectors, numbers),
+            words: vec![in alloc; u64::MAX; bits / 64 + 2]?,
+            width,
+            scale: scale_of(sectors, 1 << width >> 1),
         })
     }
 
@@ -51,67 +48,89 @@ impl Hints {
         1 << self.scale
     }
 
-    /// What is known of a page.
-    pub fn get(&self, page: usize) -> Hint {
-        let bits = self.bits(page);
-        Hint {
-            first: bits >> 1 << self.scale,
-            is_alone: bits % 2 == 1,
-        }
+    /// Whether a page that has lost its sector should be forgotten.
+    pub fn forgets(&self) -> bool {
+        self.scale >= FORGETTING
     }
 
-    /// Whether anything is known of a page, but for some with one of the last sectors.
-    pub fn is_known(&self, page: usize) -> bool {
-        self.bits(page) != self.mask()
+    /// What is known of a page, if anything is.
+    pub fn get(&self, page: usize) -> Option<Hint> {
+        let (at, shift) = self.place(page);
+        let bits = self.word(at) >> shift | self.word(at.wrapping_add(1)) << 1 << (63 - shift);
+        let bits = (bits & u64::from(self.mask())) as u32;
+        (bits != self.mask()).then_some(Hint {
+            first: bits >> 1 << self.scale,
+            is_alone: bits % 2 == 0,
+        })
     }
 
     /// A page has a sector, and perhaps others, if there is such a page.
     pub fn set(&mut self, page: usize, sector: u32, is_alone: bool) {
-        let (word, shift) = self.place(page);
+        self.put(page, sector >> self.scale << 1 | u32::from(!is_alone));
+    }
+
+    /// Nothing is known of a page.
+    pub fn forget(&mut self, page: usize) {
+        self.put(page, self.mask());
+    }
+
+    fn put(&mut self, page: usize, hint: u32) {
+        let (at, shift) = self.place(page);
         let mask = u64::from(self.mask());
-        let hint = sector >> self.scale << 1 | u32::from(is_alone);
-        if let Some(word) = self.words.get_mut(word) {
-            *word = *word & !(mask << shift) | (u64::from(hint) & mask) << shift;
+        let hint = u64::from(hint) & mask;
+        self.put_bits(at, mask << shift, hint << shift);
+        let rest = 63 - shift;
+        self.put_bits(at.wrapping_add(1), mask >> 1 >> rest, hint >> 1 >> rest);
+    }
+
+    fn put_bits(&mut self, at: usize, mask: u64, bits: u64) {
+        if let Some(word) = self.words.get_mut(at) {
+            *word = *word & !mask | bits;
         }
     }
 
-    fn bits(&self, page: usize) -> u32 {
-        let (word, shift) = self.place(page);
-        match self.words.get(word) {
-            Some(word) => (*word >> shift & u64::from(self.mask())) as u32,
-            None => self.mask(),
+    fn word(&self, at: usize) -> u64 {
+        match self.words.get(at) {
+            Some(word) => *word,
+            None => u64::MAX,
         }
     }
 
-    // All bits of a hint. They say that nothing is known, or that the page was programmed for one of the last sectors.
+    // All bits of a hint. They say that nothing is known, or that the page was programmed for several sectors, from one of the last on.
     fn mask(&self) -> u32 {
-        if self.is_narrow {
-            (1 << NARROW) - 1
-        } else {
-            (1 << WIDE) - 1
-        }
+        (1 << self.width) - 1
     }
 
-    // The word of a page's hint, and where it begins there.
-    fn place(&self, page: usize) -> (usize, usize)
+    // The word in which a page's hint begins, and at which bit.
+    fn place(&self, page: usize) -> (usize, u32)
         ensures { result.1 < 64 }
     {
-        if self.is_narrow {
-            (page / 4, page % 4 * NARROW)
-        } else {
-            (page / 3, page % 3 * WIDE)
+        let bit = page.wrapping_mul(self.width as usize);
+        (bit / 64, (bit % 64) as u32)
+    }
+}
+
+// How many bits a hint has: one more than tell the sectors apart, or fewer if that were too many in all.
+fn width_of(pages: usize, sectors: usize) -> u32
+    ensures { result ≤ 31 }
+{
+    let most = sectors.saturating_mul(MOST_BITS) / pages.max(1);
+    for width in 0..MOST {
+        if most <= width as usize || sectors <= 1 << width >> 1 {
+            return width;
         }
     }
+    MOST
 }
 
 // How many low bits of a sector's number a hint leaves out, if it can tell so many numbers.
 fn scale_of(sectors: usize, numbers: usize) -> u32
-    ensures { result ≤ 12 }
+    ensures { result ≤ 31 }
 {
-    for scale in 0..MOST_SCALE {
+    for scale in 0..MOST {
         if sectors.saturating_sub(1) >> scale < numbers {
             return scale;
         }
     }
-    MOST_SCALE
+    MOST
 }

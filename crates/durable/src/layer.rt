@@ -88,7 +88,7 @@ impl Core {
         self.chosen = Command::Refused;
         match command {
             Command::Program(at, number) => {
-                self.owners.programmed(at, extent);
+                self.owners.programmed(&self.map, at, extent);
                 remap_all(&mut self.map, &mut self.counts, extent, at);
                 self.next_number = number + 1;
                 self.next_page = page_after(at, self.pages);

@@ -1,4 +1,5 @@
 ghost use Rattle.std.specs.Prelude.{◌≡◌, ◌<◌, ◌^◌, length, None, Some, IfSome, slice_index_or};
+ghost use Rattle.durable.specs.Updates.{LiesWithin};
 ghost use Rattle.packed_map.specs.Entries.{IsPackable};
 
 use crate::extent::Extent;
@@ -46,16 +47,35 @@ impl Owners {
         Ok(owners)
     }
 
-    /// A page was programmed for these sectors.
-    pub fn programmed(&mut self, at: PageAddr, extent: Extent) {
+    /// A page was programmed for these sectors, which the map has elsewhere as yet.
+    pub fn programmed(&mut self, map: &PackedMap, at: PageAddr, extent: Extent)
+        requires few { length map.now.items < 2 ^ 32 }
+        requires within { LiesWithin (length map.now.items) extent }
+    {
+        if self.hints.forgets() {
+            for sector in extent.first..extent.first + extent.count {
+                if let Some(from) = map.get(sector as usize) {
+                    self.leave(from);
+                }
+            }
+        }
         let page = self.index(at);
         self.hints.set(page, extent.first, extent.count <= 1);
+    }
+
+    // A sector has left a page, which has no other if it was alone.
+    fn leave(&mut self, from: PageAddr) {
+        let page = self.index(from);
+        if self.hints.get(page).is_some_and(|hint| hint.is_alone) {
+            self.hints.forget(page);
+        }
     }
 
     /// A sector was copied from a page to another.
     pub fn copied(&mut self, map: &PackedMap, sector: u32, from: PageAddr, to: PageAddr) {
         self.left = self.left.saturating_sub(1);
-        if !self.hints.get(self.index(from)).is_alone {
+        let hint = self.hints.get(self.index(from));
+        if hint.is_some_and(|hint| !hint.is_alone) {
             if let Some(other) = near(map, from, sector) {
                 self.put(self.left, other);
                 self.left = self.left.saturating_add(1);
@@ -65,7 +85,8 @@ impl Owners {
         self.hints.set(page, sector, true);
     }
 
-    /// Looks for the live sectors of the block with the fewest, beside one. Which pages are live can't be foreseen, so no branch depends on it.
+    /// Looks for the live sectors of the block with the fewest, beside one. Where pages aren't forgotten, which are live can't be foreseen, so no branch
+    /// depends on it.
     pub fn look_through(&mut self, map: &PackedMap, counts: &Counts, avoided: u32)
         requires { length map.now.items < 2 ^ 32 }
     {
@@ -74,22 +95,50 @@ impl Owners {
         if (block as usize) >= counts.len() || counts.get(block) == 0 {
             return;
         }
+        self.left = if self.hints.size() as usize >= map.len() {
+            self.collect(map, block)
+        } else {
+            self.collect_by_hints(map, block)
+        };
+    }
+
+    // Collects the sectors of a block from the whole map, and counts them.
+    fn collect(&mut self, map: &PackedMap, block: u32) -> usize
+        requires { length map.now.items < 2 ^ 32 }
+    {
+        let mut left = 0;
+        for s in 0..map.len() {
+            if map.get(s).is_some_and(|at| at.block == block) {
+                self.put(left, s as u32);
+                left = left.wrapping_add(1);
+            }
+        }
+        left
+    }
+
+    // Collects the sectors of a block's pages, and counts them.
+    fn collect_by_hints(&mut self, map: &PackedMap, block: u32) -> usize
+        requires { length map.now.items < 2 ^ 32 }
+    {
         let size = self.hints.size();
         let first = self.index(PageAddr { block, page: 0 });
         let mut left = 0;
         for page in (0..self.pages).rev() {
             let at = PageAddr { block, page };
-            let hint = self.hints.get(first.wrapping_add(page as usize));
-            if hint.is_alone {
-                let (sector, count) = owner(map, at, hint.first, size);
-                self.put(left, sector);
-                left = left.wrapping_add(count as usize);
-            } else if let Some(sector) = near(map, at, hint.first) {
-                self.put(left, sector);
-                left = left.wrapping_add(1);
+            let Some(hint) = self.hints.get(first.wrapping_add(page as usize)) else {
+                continue;
+            };
+            let (sector, count) = owner(map, at, hint.first, size);
+            self.put(left, sector);
+            left = left.wrapping_add(count as usize);
+            if !hint.is_alone && count == 0 {
+                if let Some(sector) = near(map, at, hint.first) {
+                    self.put(left, sector);
+                    left = left.wrapping_add(1);
+                }
             }
         }
-        self.left = left;
+        left
     }
 
     /// A sector that is mapped to the block that was looked through, and its page.
@@ -121,7 +170,7 @@ impl Owners {
     // A page has one sector more.
     fn share(&mut self, at: PageAddr, sector: u32) {
         let page = self.index(at);
-        let is_alone = !self.hints.is_known(page);
+        let is_alone = self.hints.get(page).is_none();
         self.hints.set(page, sector, is_alone);
     }
 
