@@ -3,11 +3,14 @@ use Rattle.std.proofs.Common.{◌≡◌, ◌<◌, ⊎_elim, ℕ, zero, suc, List
 use Rattle.durable.specs.declared.found.Candidate.{Candidate}
 use Rattle.durable.specs.Flash.{Flash}
 use Rattle.durable.specs.Losses.{CountsGaps, IsPreferred, gaps_in}
-use Rattle.durable.specs.Mounting.{IsRead, IsBest, IsLone, FoundBefore}
+use Rattle.durable.specs.Mounting.{AreOfDevice, IsRead, IsBest, IsLone, FoundBefore}
 use Rattle.durable.proofs.Kept.{same_words}
 
 unread : (pages c q : ℕ) → IsRead pages 0 0 c q → ⊥
 unread pages c q read = ⊎_elim (λ less. omega (arith, less)) (λ here. omega (arith, here.1)) read.1
+
+pub nothing_own : (f : Flash) (pages sectors : ℕ) → AreOfDevice f pages 0 0 sectors
+nothing_own f pages sectors c q e m v read is = absurd (unread pages c q read)
 
 no_page : (n s : ℕ) (x : Option Candidate) → x ≡ None → get_or (replicate n x) s None ≡ None
 no_page zero s x is = refl

@@ -7,7 +7,7 @@ use Rattle.durable.specs.Flash.{Flash, HoldsNoValue}
 use Rattle.durable.specs.Commands.{Completes, CutLeaves, IsAllowed, updates_with}
 use Rattle.durable.specs.Device.{device_of, device_in, losses_of, IsWrittenOn, NamesOn}
 use Rattle.durable.specs.Memory.{map_entry}
-use Rattle.durable.specs.Mounting.{FoundBefore, TellsValues}
+use Rattle.durable.specs.Mounting.{AreOfDevice, FoundBefore, TellsValues}
 use Rattle.durable.specs.Candidates.{AreNeeded}
 use Rattle.durable.specs.Losses.{CountsGaps, IsPreferred, HasNoLoss, losses_in}
 use Rattle.durable.specs.Promise.{IsReadable, IsRecoverable, IsConsistent}
@@ -36,9 +36,10 @@ Acknowledges old extent command new = (f t : Flash) (value : Sector) (acked begu
     → let update : Update = record { extent = extent; value = value } in IsConsistent t new (updates_with command update acked) (updates_with command
     update begun)
 
--- the stamps that were noted are those of the flash's pages, block by block, their gaps were counted, and their values marked
+-- the stamps that were noted are those of the flash's pages, block by block, and of the device; their gaps were counted, and their values marked
 pub record HasNoted (f : Flash) (mount : Mount) : Type 0 where
   pub finds : FoundBefore f mount.pages mount.block mount.page mount.found.items mount.next_number
+  pub own : AreOfDevice f mount.pages mount.block mount.page (length mount.found.items)
   pub values : TellsValues f mount.pages mount.block mount.page (length mount.found.items) mount.valued.items
   pub counts : CountsGaps f mount.pages mount.block mount.page mount.gaps.items mount.versions
   pub prefers : (s : ℕ) → s < length mount.found.items

@@ -1,5 +1,5 @@
 -- The sizes of a device, and what lies on it.
-use Rattle.std.specs.Prelude.{◌≡◌, ◌<◌, ◌+◌, ◌^◌, ℕ, length, Option}
+use Rattle.std.specs.Prelude.{◌≡◌, ◌<◌, ◌+◌, ◌^◌, ℕ, length, Option, IfSome}
 use Rattle.geometry.specs.Sectors.{Sector}
 use Rattle.geometry.specs.declared.page_addr.PageAddr.{PageAddr}
 use Rattle.durable.specs.Updates.{LiesWithin}
@@ -8,6 +8,7 @@ use Rattle.durable.specs.declared.extent.Extent.{Extent}
 use Rattle.durable.specs.declared.command.Command.{Command}
 use Rattle.durable.specs.declared.command.Command.TheVariants.{Program, Copy, Erase, Refused}
 use Rattle.durable.specs.declared.memory.Core.{Core}
+use Rattle.durable.specs.declared.found.Stamp.{Stamp}
 use Rattle.durable.specs.declared.mount.Mount.{Mount}
 
 -- how many blocks a device has in use, how many are read: those, and bad ones and a reserve after them; how many pages a block has, and how many
@@ -29,6 +30,14 @@ device_in mount = record { blocks = mount.blocks; read_blocks = mount.read_block
 -- the number of the next version
 abbrev pub next_number_of : Core → ℕ
 next_number_of core = core.next_number
+
+-- the number of the next version, as far as the stamps are noted
+abbrev pub next_number_in : Mount → ℕ
+next_number_in mount = mount.next_number
+
+-- the version is of sectors that the device has, and its number isn't the greatest
+abbrev pub IsStampOn : Device → Option Stamp → Type 0
+IsStampOn device stamp = IfSome stamp (λ s. LiesWithin device.sectors s.extent × (s.number + 1 < 2 ^ 64))
 
 -- how many losses the mount has told
 abbrev pub losses_of : Core → ℕ
@@ -57,3 +66,8 @@ NamesOn device Refused = Unit {0}
 abbrev pub IsWrittenOn : Device → Flash → Type 0
 IsWrittenOn device f = (b p : ℕ) (e : Extent) (m : ℕ) (v : Sector) → f b p ≡ Version e m v
     → (b < device.read_blocks) × (p < device.pages) × LiesWithin device.sectors e × (m + 1 < 2 ^ 64)
+
+-- each version in a page that is read is of sectors that the device has, and its number isn't the greatest
+abbrev pub HasOwnVersions : Device → Flash → Type 0
+HasOwnVersions device f = (b p : ℕ) (e : Extent) (m : ℕ) (v : Sector) → b < device.read_blocks → p < device.pages → f b p ≡ Version e m v
+    → LiesWithin device.sectors e × (m + 1 < 2 ^ 64)

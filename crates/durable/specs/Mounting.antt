@@ -1,5 +1,5 @@
 -- What a mount has found, up to a page.
-use Rattle.std.specs.Prelude.{◌≡◌, ◌≢◌, ◌⊎◌, ◌<◌, ◌≤◌, ◌+◌, ℕ, Bool, true, false, if◌then◌else◌, nat_lt, List, length, Option, None, Some}
+use Rattle.std.specs.Prelude.{◌≡◌, ◌≢◌, ◌⊎◌, ◌<◌, ◌≤◌, ◌+◌, ◌^◌, ℕ, Bool, true, false, if◌then◌else◌, nat_lt, List, length, Option, None, Some}
 use Rattle.std.specs.Prelude.{slice_index_or}
 use Rattle.geometry.specs.Sectors.{Sector}
 use Rattle.geometry.specs.declared.page_addr.PageAddr.{PageAddr}
@@ -8,6 +8,7 @@ use Rattle.durable.specs.declared.found.Stamp.{Stamp}
 use Rattle.durable.specs.declared.found.Candidate.{Candidate}
 use Rattle.durable.specs.Flash.{Version, Flash, HasVersion, is_trim}
 use Rattle.durable.specs.Marks.{is_valued}
+use Rattle.durable.specs.Updates.{LiesWithin}
 use Rattle.durable.specs.declared.mount.Mount.{Mount}
 
 -- this page, if it lies on a device with so many blocks
@@ -54,6 +55,11 @@ pub record FoundBefore (f : Flash) (pages b p : ℕ) (found : List (Option Candi
   pub best : (s : ℕ) → s < length found → IsBest f pages b p s (slice_index_or found s None)
   pub numbers : (c q : ℕ) (e : Extent) (m : ℕ) (v : Sector) → IsRead pages b p c q → f c q ≡ Version e m v → m < next
   pub lone : (s : ℕ) → s < length found → IsLone f pages b p s (slice_index_or found s None)
+
+-- each version before page p of block b is of sectors that the device has, and its number isn't the greatest
+abbrev pub AreOfDevice : Flash → ℕ → ℕ → ℕ → ℕ → Type 0
+AreOfDevice f pages b p sectors = (c q : ℕ) (e : Extent) (m : ℕ) (v : Sector) → IsRead pages b p c q → f c q ≡ Version e m v
+    → LiesWithin sectors e × (m + 1 < 2 ^ 64)
 
 -- whether a page before page p of block b has a value of the sector
 abbrev pub TellsValue : Flash → ℕ → ℕ → ℕ → ℕ → Bool → Type 0

@@ -10,7 +10,8 @@ ghost use Rattle.durable.specs.Choice.{IsNextCommand, Spends, StaysOpen, left, n
 ghost use Rattle.durable.specs.declared.found.Candidate.{Candidate as Seen};
 ghost use Rattle.durable.specs.Collecting.{AreLiveCounts, CanCollect, HasCapacity, IsFree, IsPageOn, MapsAll, live_in};
 ghost use Rattle.durable.specs.Commands.{Completes, CutLeaves, IsAllowed, is_program, updates_with};
-ghost use Rattle.durable.specs.Device.{Device, IsReadOn, IsWrittenOn, NamesOn, device_in, device_of, losses_of, next_number_of, next_page_of};
+ghost use Rattle.durable.specs.Device.{Device, HasOwnVersions, IsReadOn, IsStampOn, IsWrittenOn, NamesOn, device_in, device_of, losses_of};
+ghost use Rattle.durable.specs.Device.{next_number_in, next_number_of, next_page_of};
 ghost use Rattle.durable.specs.Failures.{Changes, HasVersionlessBlock, HoldsNoVersion, IsRenumbered, IsSameFlashOf, IsSwapped, swapped};
 ghost use Rattle.durable.specs.Faults.{mount_fault_text};
 ghost use Rattle.durable.specs.Flash.{Erased, Flash, HasValue, HasVersion, HoldsNeeded, HoldsNewest, HoldsNoValue, IsErased, RecoversSector};
@@ -171,6 +172,13 @@ pub fn commands()
 
 /// What lies on a device of 3 blocks of 4 pages for 8 sectors, and what doesn't.
 pub fn devices()
+    ensures own { (f : Flash) (v : Sector) → f 0 0 ≡ Version (sole 7) 5 v
+        → ¬ HasOwnVersions (record { blocks = 3; read_blocks = 3; pages = 4; sectors = 7 }) f }
+    ensures own_number { (f : Flash) (v : Sector) → f 0 0 ≡ Version (sole 7) (2 ^ 64 - 1) v
+        → ¬ HasOwnVersions (record { blocks = 3; read_blocks = 3; pages = 4; sectors = 8 }) f }
+    ensures own_read { (f : Flash) (v : Sector) → f 3 3 ≡ Version (sole 8) 5 v
+        → ¬ HasOwnVersions (record { blocks = 3; read_blocks = 4; pages = 4; sectors = 8 }) f }
+    ensures own_written { (f : Flash) (device : Device) → IsWrittenOn device f → HasOwnVersions device f }
     ensures fits { HasCapacity 7 3 4 }
     ensures full { ¬ HasCapacity 8 3 4 }
     ensures no_blocks { ¬ HasCapacity 0 0 4 }
@@ -280,6 +288,14 @@ pub fn next_commands()
 
 /// The order in which stamps are noted, and what is kept of them.
 pub fn stamps()
+    ensures next { (mount : Reading) → mount.next_number ≡ 5 → next_number_in mount ≡ 5 }
+    ensures on_device { (device : Device) → device.sectors ≡ 9
+        → IsStampOn device (Some (record { extent = sole 8; number = 5; is_trim = false })) }
+    ensures off_device { (device : Device) → device.sectors ≡ 8
+        → ¬ IsStampOn device (Some (record { extent = sole 8; number = 5; is_trim = false })) }
+    ensures greatest { (device : Device) → ¬ IsStampOn device
+        (Some (record { extent = sole 8; number = 2 ^ 64 - 1; is_trim = false })) }
+    ensures no_version { (device : Device) → IsStampOn device None }
     ensures erased { (f : Flash) → f 1 2 ≡ Erased → IsStampOf f 1 2 None }
     ensures torn { (f : Flash) → f 1 2 ≡ Torn → IsStampOf f 1 2 None }
     ensures version { (f : Flash) (v : Sector)
@@ -582,6 +598,9 @@ pub fn promises()
         → IsConsistent t new (record { extent = sole 7; value = v } ∷ acked) (record { extent = sole 7; value = v } ∷ begun) }
     ensures noted { (f : Flash) (mount : Reading) (v : Sector) → HasNoted f mount
         → f 0 0 ≡ Version (sole 7) 5 v → 0 < mount.block → 5 < mount.next_number }
+    ensures noted_own { (f : Flash) (mount : Reading) (v : Sector) → HasNoted f mount
+        → f 0 0 ≡ Version (sole 7) 5 v → 0 < mount.block → 0 < mount.pages
+        → (device_in mount).sectors ≢ 7 }
     ensures remounts { (f : Flash) (mount : Reading) (core : Layer) (acked begun : List Update)
         → Remounts mount core → HasNoted f mount
         → IsReadable f (device_in mount) acked begun → IsConsistent f core acked begun }

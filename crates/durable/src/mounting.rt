@@ -16,7 +16,9 @@ use std::alloc::Global;
 
 impl Mount {
     ghost use Rattle.durable.specs.Updates.{Update};
-    ghost use Rattle.durable.specs.Device.{device_of, device_in, losses_of, IsWrittenOn};
+    ghost use Rattle.durable.specs.Candidates.{number_above};
+    ghost use Rattle.durable.specs.Device.{device_of, device_in, losses_of, next_number_in, next_number_of};
+    ghost use Rattle.durable.specs.Device.{HasOwnVersions, IsStampOn, IsWrittenOn};
     ghost use Rattle.durable.specs.Whole.{MountsWhole};
     ghost use Rattle.durable.specs.Collecting.{HasCapacity};
     ghost use Rattle.durable.specs.Mounting.{IsStampOf, next_in, after_in};
@@ -31,6 +33,7 @@ impl Mount {
             ≡ record { blocks = blocks; read_blocks = blocks; pages = pages; sectors = sectors }) }
         ensures first { IfOk result
             (λ mount. next_in mount ≡ Some (record { block = 0; page = 0 })) }
+        ensures number { IfOk result (λ mount. next_number_in mount ≡ 0) }
         ensures notes { IfOk result (λ mount. (f : Flash) → HasNoted f mount) }
         ensures refused { HasCapacity sectors blocks pages → result ≢ Err TooManySectors }
         ensures capacity { OnOk result (HasCapacity sectors blocks pages) }
@@ -53,6 +56,7 @@ impl Mount {
             ≡ record { blocks = blocks; read_blocks = read_blocks; pages = pages; sectors = sectors }) }
         ensures first { IfOk result
             (λ mount. next_in mount ≡ Some (record { block = 0; page = 0 })) }
+        ensures number { IfOk result (λ mount. next_number_in mount ≡ 0) }
         ensures notes { IfOk result (λ mount. (f : Flash) → HasNoted f mount) }
         ensures refused { HasCapacity sectors blocks pages → result ≢ Err TooManySectors }
         ensures capacity { OnOk result (HasCapacity sectors blocks pages) }
@@ -99,12 +103,15 @@ impl Mount {
         requires { next_in self.old ≢ None }
         ensures device { device_in self.new ≡ device_in self.old }
         ensures next { OnOk result (next_in self.new ≡ after_in self.old) }
+        ensures number { OnOk result
+            (next_number_in self.new ≡ number_above (next_number_in self.old) stamp) }
         ensures notes { OnOk result ((f : Flash) → HasNoted f self.old
             → IfSome (next_in self.old) (λ at. IsStampOf f at.block at.page stamp)
             → HasNoted f self.new) }
         ensures accepts { (f : Flash) → IsWrittenOn (device_in self.old) f
             → IfSome (next_in self.old) (λ at. IsStampOf f at.block at.page stamp)
             → result ≡ Ok tt }
+        ensures refused { OnOk result (IsStampOn (device_in self.old) stamp) }
         ensures cause { OnErr result (result ≡ Err ForeignStamp) }
         ensures same { OnErr result (self.new ≡ self.old) }
     {
@@ -138,6 +145,8 @@ impl Mount {
     pub fn finish(self, alloc: Global) -> Result<Core, MountFault>
         requires { next_in self ≡ None }
         ensures device { IfOk result (λ core. device_of core ≡ device_in self) }
+        ensures number { IfOk result (λ core. next_number_of core ≡ next_number_in self) }
+        ensures own { OnOk result ((f : Flash) → HasNoted f self → HasOwnVersions (device_in self) f) }
         ensures remounts { IfOk result (Remounts self) }
         ensures drops { IfOk result (DropsTrims self) }
 

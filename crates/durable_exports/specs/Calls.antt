@@ -4,7 +4,8 @@ use Rattle.geometry.specs.declared.page_addr.PageAddr.{PageAddr}
 use Rattle.durable.specs.Flash.{Flash}
 use Rattle.durable.specs.declared.extent.Extent.{Extent}
 use Rattle.durable.specs.Updates.{Update, array_after}
-use Rattle.durable.specs.Device.{Device, device_of, device_in, losses_of, next_page_of, next_number_of, IsWrittenOn}
+use Rattle.durable.specs.Candidates.{number_above}
+use Rattle.durable.specs.Device.{Device, device_of, device_in, losses_of, next_page_of, next_number_in, next_number_of, IsStampOn, IsWrittenOn}
 use Rattle.durable.specs.Memory.{IsMappedTo}
 use Rattle.durable.specs.Mounting.{IsStampOf, next_in, after_in}
 use Rattle.durable.specs.Choice.{IsNextCommand, Spends, StaysOpen, left, number_after}
@@ -16,6 +17,8 @@ use Rattle.durable.specs.declared.command.Command.{Command}
 use Rattle.durable.specs.declared.command.Command.TheVariants.{Refused}
 use Rattle.durable.specs.declared.found.Stamp.{Stamp}
 use Rattle.durable.specs.declared.mount.Mount.{Mount}
+use Rattle.durable_exports.specs.declared.codes.TheConstants.{DONE, CLOSED, NO_SECTOR, NO_MEMORY, NO_BLOCK, ALREADY_OPEN, WRONG_KIND}
+use Rattle.durable_exports.specs.declared.codes.TheConstants.{OTHER_DEVICE, OUT_OF_ORDER, TOO_FEW_BLOCKS}
 use Rattle.durable_exports.specs.declared.layer.Layer.{Layer}
 use Rattle.durable_exports.specs.declared.reports.CommandReport.{CommandReport}
 use Rattle.durable_exports.specs.declared.seat.Seat.{Seat}
@@ -30,16 +33,16 @@ layer_device l = device_of l.core
 abbrev pub layer_losses : Layer → ℕ
 layer_losses l = losses_of l.core
 
--- the code of a call for a mount: 2 for a closed handle, and 9 for a layer
+-- the code of a call for a mount, which a layer refuses
 abbrev pub code_of_mount : Option Seat → (Mount → ℕ) → ℕ
-code_of_mount None code = 2
+code_of_mount None code = CLOSED
 code_of_mount (Some (Mounting m)) code = code m
-code_of_mount (Some (Mounted l)) code = 9
+code_of_mount (Some (Mounted l)) code = WRONG_KIND
 
--- the code of a call for a layer: 2 for a closed handle, and 9 for a mount under way
+-- the code of a call for a layer, which a mount under way refuses
 abbrev pub code_of_layer : Option Seat → (Layer → ℕ) → ℕ
-code_of_layer None code = 2
-code_of_layer (Some (Mounting m)) code = 9
+code_of_layer None code = CLOSED
+code_of_layer (Some (Mounting m)) code = WRONG_KIND
 code_of_layer (Some (Mounted l)) code = code l
 
 -- this holds of the mount under way, if there is one
@@ -68,51 +71,58 @@ HasLayer (Some (Mounted l)) says = says l
 
 -- the code of an open: whether the handle is closed, then whether the sectors have room, and then whether there is memory, which no state says
 abbrev pub begin_code : Option Seat → Bool → Bool → ℕ
-begin_code None has_room no_memory = if has_room then (if no_memory then 6 else 0) else 109
-begin_code (Some x) has_room no_memory = 8
+begin_code None has_room no_memory = if has_room then (if no_memory then NO_MEMORY else DONE) else TOO_FEW_BLOCKS
+begin_code (Some x) has_room no_memory = ALREADY_OPEN
 
 -- the code of a note, by whether a page is left to be noted and whether its stamp is of the device
 abbrev pub note_code : Option PageAddr → Bool → ℕ
-note_code None foreign = 32
-note_code (Some at) foreign = if foreign then 30 else 0
+note_code None foreign = OUT_OF_ORDER
+note_code (Some at) foreign = if foreign then OTHER_DEVICE else DONE
 
--- the code of a finish, by whether a page is left to be noted, and how it went
-abbrev pub finish_code : Option PageAddr → ℕ → ℕ
-finish_code None went = went
-finish_code (Some at) went = 32
+-- the code of a finish: whether a page is left to be noted, then whether no block can be freed, and then whether there is no memory
+abbrev pub finish_code : Option PageAddr → Bool → Bool → ℕ
+finish_code None no_block no_memory = if no_block then NO_BLOCK else (if no_memory then NO_MEMORY else DONE)
+finish_code (Some at) no_block no_memory = OUT_OF_ORDER
 
--- a mount as it begins: of this device, with the first page to be noted
+-- a mount as it begins: of this device, with the first page to be noted, and 0 as the next number
 abbrev pub IsBegun : Device → Mount → Type 0
-IsBegun device m = (device_in m ≡ device) × (next_in m ≡ Some (record { block = 0; page = 0 })) × ((f : Flash) → HasNoted f m)
+IsBegun device m =
+    (device_in m ≡ device) × (next_in m ≡ Some (record { block = 0; page = 0 })) × (next_number_in m ≡ 0)
+    × ((f : Flash) → HasNoted f m)
 
 -- a note that returns this code takes a stamp of the flash's next page, where all versions are of the device
 abbrev pub Accepts : Option Stamp → ℕ → Mount → Type 0
-Accepts stamp code m = (f : Flash) → IsWrittenOn (device_in m) f → IfSome (next_in m) (λ at. IsStampOf f at.block at.page stamp) → code ≢ 30
+Accepts stamp code m = (f : Flash) → IsWrittenOn (device_in m) f → IfSome (next_in m) (λ at. IsStampOf f at.block at.page stamp) → code ≢ OTHER_DEVICE
+
+-- a note that returns this code refuses a stamp that isn't of the device
+abbrev pub Refuses : Option Stamp → ℕ → Mount → Type 0
+Refuses stamp code m = code ≡ DONE → IsStampOn (device_in m) stamp
 
 -- a mount after the next page's stamp was noted
 abbrev pub IsNoted : Option Stamp → Mount → Mount → Type 0
 IsNoted stamp m after =
     (device_in after ≡ device_in m) × (next_in after ≡ after_in m)
+    × (next_number_in after ≡ number_above (next_number_in m) stamp)
     × ((f : Flash) → HasNoted f m → IfSome (next_in m) (λ at. IsStampOf f at.block at.page stamp) → HasNoted f after)
 
 -- a finish that returns this code frees a block where the flash that was noted can be mounted
 abbrev pub FreesBlock : ℕ → Mount → Type 0
-FreesBlock code m = (f : Flash) (acked begun : List Update) → HasNoted f m → IsRecoverable f (device_in m) acked begun → code ≢ 7
+FreesBlock code m = (f : Flash) (acked begun : List Update) → HasNoted f m → IsRecoverable f (device_in m) acked begun → code ≢ NO_BLOCK
 
 -- a layer that a mount gave: it is consistent with the flash, and has done nothing yet
 abbrev pub IsMounted : Mount → Layer → Type 0
 IsMounted m l =
-    (layer_device l ≡ device_in m) × Remounts m l.core × (l.totals ≡ no_totals)
+    (layer_device l ≡ device_in m) × (next_number_of l.core ≡ next_number_in m) × Remounts m l.core × (l.totals ≡ no_totals)
     × CountsLosses m l.core × DropsTrims m l.core × TellsLosses m l.core × TellsNoFalseLoss m l.core
     × MountsWhole m l.core
 
 -- the code of a call for a sector of a layer
 abbrev pub sector_code : ℕ → ℕ → Layer → ℕ
-sector_code s code l = if nat_le (layer_device l).sectors s then 3 else code
+sector_code s code l = if nat_le (layer_device l).sectors s then NO_SECTOR else code
 
 -- the code of a call for an extent of a layer
 abbrev pub extent_code : Extent → ℕ → Layer → ℕ
-extent_code e code l = if nat_lt 0 e.count && nat_le (e.first + e.count) (layer_device l).sectors then code else 3
+extent_code e code l = if nat_lt 0 e.count && nat_le (e.first + e.count) (layer_device l).sectors then code else NO_SECTOR
 
 -- the page that was found has the newest version of the sector, if the device has the sector
 abbrev pub IsNewestPageOf : ℕ → Option PageAddr → Layer → Type 0

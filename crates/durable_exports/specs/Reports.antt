@@ -3,6 +3,7 @@ use Rattle.std.specs.Prelude.{ℕ, ◌+◌, min, ◌^◌, ◌-◌, ◌==◌, if�
 use Rattle.geometry.specs.declared.page_addr.PageAddr.{PageAddr}
 use Rattle.durable.specs.declared.command.Command.{Command}
 use Rattle.durable.specs.declared.command.Command.TheVariants.{Program, Copy, Erase, Refused}
+use Rattle.durable_exports.specs.declared.codes.TheConstants.{WRITTEN}
 use Rattle.durable_exports.specs.declared.reports.CommandReport.{CommandReport}
 use Rattle.durable_exports.specs.declared.reports.PlaceReport.{PlaceReport}
 use Rattle.durable_exports.specs.declared.reports.Totals.{Totals}
@@ -17,7 +18,7 @@ page_at place = record { block = place.block; page = place.page }
 
 -- the page that a call found, if its code says that there is one
 abbrev pub found_page : ℕ → PlaceReport → Option PageAddr
-found_page code place = if code == 1 then Some (page_at place) else None
+found_page code place = if code == WRITTEN then Some (page_at place) else None
 
 -- a command for a sector's new version, as it is reported
 abbrev pub report_of : ℕ → Command → CommandReport

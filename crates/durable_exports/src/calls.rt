@@ -2,10 +2,11 @@
 ghost use Rattle.std.specs.Prelude.{◌≡◌, ◌≢◌, ◌<◌, ◌≤◌, ◌+◌, ◌-◌, ◌*◌, ◌^◌, ◌&&◌, true, Some, None, nat_eq, nat_le, nat_lt, if◌then◌else◌, ◌==◌};
 ghost use Rattle.durable.specs.Device.{next_number_of};
 ghost use Rattle.durable.specs.Mounting.{next_in};
+ghost use Rattle.durable_exports.specs.declared.codes.TheConstants.{DONE, WRITTEN, NO_MEMORY, NO_BLOCK, OTHER_DEVICE, NO_NUMBER, OUT_OF_ORDER};
 ghost use Rattle.durable_exports.specs.Handles.{seat_of};
 ghost use Rattle.durable_exports.specs.Reports.{found_page};
 ghost use Rattle.durable_exports.specs.Calls.{code_of_mount, code_of_layer, OfMount, OfLayer, HasMount, HasLayer, begin_code, note_code};
-ghost use Rattle.durable_exports.specs.Calls.{finish_code, FreesBlock, Accepts, IsBegun, IsNoted, IsMounted};
+ghost use Rattle.durable_exports.specs.Calls.{finish_code, FreesBlock, Accepts, Refuses, IsBegun, IsNoted, IsMounted};
 ghost use Rattle.durable_exports.specs.Calls.{sector_code, extent_code, IsNewestPageOf, IsCommandFor, IsDone, layer_losses, stamp_of};
 
 use crate::codes::{
@@ -30,10 +31,10 @@ pub extern "C" fn mintlintel_core_open(
 ) -> u32
     ensures code { result
         ≡ begin_code (seat_of handle.old)
-        (nat_lt sectors ((blocks - 1) * pages)) (nat_eq result 6) }
-    ensures begun { result ≡ 0 → HasMount (seat_of handle.new)
+        (nat_lt sectors ((blocks - 1) * pages)) (nat_eq result NO_MEMORY) }
+    ensures begun { result ≡ DONE → HasMount (seat_of handle.new)
         (IsBegun (record { blocks = blocks; read_blocks = blocks; pages = pages; sectors = sectors })) }
-    ensures same { result ≢ 0 → seat_of handle.new ≡ seat_of handle.old }
+    ensures same { result ≢ DONE → seat_of handle.new ≡ seat_of handle.old }
 {
     open(alloc, handle, blocks, blocks, pages, sectors)
 }
@@ -50,10 +51,10 @@ pub extern "C" fn mintlintel_core_open_over(
 ) -> u32
     ensures code { result
         ≡ begin_code (seat_of handle.old)
-        (nat_le blocks read_blocks && nat_lt sectors ((blocks - 1) * pages)) (nat_eq result 6) }
-    ensures begun { result ≡ 0 → HasMount (seat_of handle.new)
+        (nat_le blocks read_blocks && nat_lt sectors ((blocks - 1) * pages)) (nat_eq result NO_MEMORY) }
+    ensures begun { result ≡ DONE → HasMount (seat_of handle.new)
         (IsBegun (record { blocks = blocks; read_blocks = read_blocks; pages = pages; sectors = sectors })) }
-    ensures same { result ≢ 0 → seat_of handle.new ≡ seat_of handle.old }
+    ensures same { result ≢ DONE → seat_of handle.new ≡ seat_of handle.old }
 {
     if blocks > read_blocks {
         return if handle.is_open() {
@@ -76,10 +77,10 @@ fn open(
     requires { blocks ≤ read_blocks }
     ensures code { result
         ≡ begin_code (seat_of handle.old)
-        (nat_lt sectors ((blocks - 1) * pages)) (nat_eq result 6) }
-    ensures begun { result ≡ 0 → HasMount (seat_of handle.new)
+        (nat_lt sectors ((blocks - 1) * pages)) (nat_eq result NO_MEMORY) }
+    ensures begun { result ≡ DONE → HasMount (seat_of handle.new)
         (IsBegun (record { blocks = blocks; read_blocks = read_blocks; pages = pages; sectors = sectors })) }
-    ensures same { result ≢ 0 → seat_of handle.new ≡ seat_of handle.old }
+    ensures same { result ≢ DONE → seat_of handle.new ≡ seat_of handle.old }
 {
     if handle.is_open() {
         return ALREADY_OPEN;
@@ -116,14 +117,16 @@ pub extern "C" fn mintlintel_core_note(
     number: u64,
 ) -> u32
     ensures code { result ≡ code_of_mount (seat_of handle.old)
-        (λ m. note_code (next_in m) (nat_eq result 30)) }
-    ensures kinds { 2 < has_version → result ≢ 0 }
+        (λ m. note_code (next_in m) (nat_eq result OTHER_DEVICE)) }
+    ensures kinds { 2 < has_version → result ≢ DONE }
     ensures accepts { has_version ≤ 2
         → OfMount (seat_of handle.old)
         (Accepts (stamp_of has_version (record { first = first; count = count }) number) result) }
-    ensures noted { result ≡ 0 → OfMount (seat_of handle.old)
+    ensures refuses { OfMount (seat_of handle.old)
+        (Refuses (stamp_of has_version (record { first = first; count = count }) number) result) }
+    ensures noted { result ≡ DONE → OfMount (seat_of handle.old)
         (λ m. HasMount (seat_of handle.new) (IsNoted (stamp_of has_version (record { first = first; count = count }) number) m)) }
-    ensures same { result ≢ 0 → seat_of handle.new ≡ seat_of handle.old }
+    ensures same { result ≢ DONE → seat_of handle.new ≡ seat_of handle.old }
 {
     let extent = Extent { first, count };
     let is_trim = has_version == 2;
@@ -148,7 +151,7 @@ pub extern "C" fn mintlintel_core_note(
 // The code of a note of something that is no stamp.
 fn refuse(seat: &Seat) -> u32
     ensures code { result ≡ code_of_mount (Some seat.now) (λ m. note_code (next_in m) true) }
-    ensures refused { result ≢ 0 }
+    ensures refused { result ≢ DONE }
 {
     match seat {
         Seat::Mounting(mount) => mounts::refuse(mount),
@@ -158,11 +161,12 @@ fn refuse(seat: &Seat) -> u32
 
 fn note(seat: &mut Seat, stamp: Option<Stamp>) -> u32
     ensures code { result ≡ code_of_mount (Some seat.old)
-        (λ m. note_code (next_in m) (nat_eq result 30)) }
+        (λ m. note_code (next_in m) (nat_eq result OTHER_DEVICE)) }
     ensures accepts { OfMount (Some seat.old) (Accepts stamp result) }
-    ensures noted { result ≡ 0
+    ensures refuses { OfMount (Some seat.old) (Refuses stamp result) }
+    ensures noted { result ≡ DONE
         → OfMount (Some seat.old) (λ m. HasMount (Some seat.new) (IsNoted stamp m)) }
-    ensures same { result ≢ 0 → seat.new ≡ seat.old }
+    ensures same { result ≢ DONE → seat.new ≡ seat.old }
 {
     match seat {
         Seat::Mounting(mount) => mounts::note(mount, stamp),
@@ -174,13 +178,14 @@ fn note(seat: &mut Seat, stamp: Option<Stamp>) -> u32
 #[unsafe(no_mangle)]
 pub extern "C" fn mintlintel_core_finish(alloc: Global, handle: &mut Handle) -> u32
     ensures code { result ≡ code_of_mount (seat_of handle.old)
-        (λ m. finish_code (next_in m) (if result == 0 then 0 else (if result == 6 then 6 else 7))) }
+        (λ m. finish_code (next_in m) (nat_eq result NO_BLOCK) (nat_eq result NO_MEMORY)) }
     ensures frees { OfMount (seat_of handle.old) (FreesBlock result) }
-    ensures mounted { result ≡ 0
+    ensures mounted { result ≡ DONE
         → OfMount (seat_of handle.old) (λ m. HasLayer (seat_of handle.new) (IsMounted m)) }
-    ensures memory { result ≡ 6 → seat_of handle.new ≡ None }
-    ensures block { result ≡ 7 → seat_of handle.new ≡ None }
-    ensures same { result ≢ 0 → result ≢ 6 → result ≢ 7 → seat_of handle.new ≡ seat_of handle.old }
+    ensures memory { result ≡ NO_MEMORY → seat_of handle.new ≡ None }
+    ensures block { result ≡ NO_BLOCK → seat_of handle.new ≡ None }
+    ensures same { result ≢ DONE → result ≢ NO_MEMORY → result ≢ NO_BLOCK
+        → seat_of handle.new ≡ seat_of handle.old }
 {
     let handle = handle.typed();
     let Some(seat) = handle.take(alloc) else {
@@ -223,10 +228,11 @@ pub extern "C" fn mintlintel_core_page(
     out: &mut PlaceReport,
 ) -> u32
     ensures code { result
-        ≡ code_of_layer (seat_of handle.old) (sector_code sector (if result == 1 then 1 else 0)) }
+        ≡ code_of_layer (seat_of handle.old)
+        (sector_code sector (if result == WRITTEN then WRITTEN else DONE)) }
     ensures page { OfLayer (seat_of handle.old)
         (IsNewestPageOf sector (found_page result out.new)) }
-    ensures report { result ≢ 1 → out.new ≡ out.old }
+    ensures report { result ≢ WRITTEN → out.new ≡ out.old }
     ensures same { seat_of handle.new ≡ seat_of handle.old }
 {
     handle
@@ -236,9 +242,10 @@ pub extern "C" fn mintlintel_core_page(
 
 fn page(seat: &Seat, sector: u32, out: &mut PlaceReport) -> u32
     ensures code { result
-        ≡ code_of_layer (Some seat.now) (sector_code sector (if result == 1 then 1 else 0)) }
+        ≡ code_of_layer (Some seat.now)
+        (sector_code sector (if result == WRITTEN then WRITTEN else DONE)) }
     ensures page { OfLayer (Some seat.now) (IsNewestPageOf sector (found_page result out.new)) }
-    ensures report { result ≢ 1 → out.new ≡ out.old }
+    ensures report { result ≢ WRITTEN → out.new ≡ out.old }
 {
     match seat {
         Seat::Mounted(layer) => layer.page(sector, out),
@@ -257,13 +264,14 @@ pub extern "C" fn mintlintel_core_next(
 ) -> u32
     ensures code { result
         ≡ code_of_layer (seat_of handle.old)
-        (extent_code (record { first = first; count = count }) (if result == 31 then 31 else 0)) }
+        (extent_code (record { first = first; count = count })
+        (if result == NO_NUMBER then NO_NUMBER else DONE)) }
     ensures progress { OfLayer (seat_of handle.old)
-        (λ l. next_number_of l.core + 1 < 2 ^ 64 → result ≢ 31) }
-    ensures command { result ≡ 0
+        (λ l. next_number_of l.core + 1 < 2 ^ 64 → result ≢ NO_NUMBER) }
+    ensures command { result ≡ DONE
         → OfLayer (seat_of handle.old)
         (IsCommandFor (record { first = first; count = count }) out.new) }
-    ensures report { result ≢ 0 → out.new ≡ out.old }
+    ensures report { result ≢ DONE → out.new ≡ out.old }
     ensures same { seat_of handle.new ≡ seat_of handle.old }
 {
     handle.typed().on_with(alloc, out, |seat, out| match seat {
@@ -283,10 +291,11 @@ pub extern "C" fn mintlintel_core_done(
 ) -> u32
     ensures code { result
         ≡ code_of_layer (seat_of handle.old)
-        (extent_code (record { first = first; count = count }) (if result == 32 then 32 else 0)) }
-    ensures done { result ≡ 0
+        (extent_code (record { first = first; count = count })
+        (if result == OUT_OF_ORDER then OUT_OF_ORDER else DONE)) }
+    ensures done { result ≡ DONE
         → OfLayer (seat_of handle.old) (λ l. HasLayer (seat_of handle.new) (IsDone (record { first = first; count = count }) command.old l)) }
-    ensures same { result ≢ 0 → seat_of handle.new ≡ seat_of handle.old }
+    ensures same { result ≢ DONE → seat_of handle.new ≡ seat_of handle.old }
     ensures report { command.new ≡ command.old }
 {
     let command = *command;
@@ -304,7 +313,7 @@ pub extern "C" fn mintlintel_core_erased(
     block: u32,
     erases: u32,
 ) -> u32
-    ensures code { result ≡ code_of_layer (seat_of handle.old) (λ _. 0) }
+    ensures code { result ≡ code_of_layer (seat_of handle.old) (λ _. DONE) }
     ensures same { seat_of handle.new ≡ seat_of handle.old }
 {
     handle.typed().on(alloc, |seat| match seat {
@@ -323,9 +332,9 @@ pub extern "C" fn mintlintel_core_counts(
     handle: &mut Handle,
     out: &mut Totals,
 ) -> u32
-    ensures code { result ≡ code_of_layer (seat_of handle.old) (λ _. 0) }
+    ensures code { result ≡ code_of_layer (seat_of handle.old) (λ _. DONE) }
     ensures totals { OfLayer (seat_of handle.old) (λ l. out.new ≡ l.totals) }
-    ensures report { result ≢ 0 → out.new ≡ out.old }
+    ensures report { result ≢ DONE → out.new ≡ out.old }
     ensures same { seat_of handle.new ≡ seat_of handle.old }
 {
     handle.typed().on_with(alloc, out, |seat, out| match seat {
@@ -340,9 +349,9 @@ pub extern "C" fn mintlintel_core_counts(
 /// How many losses the mount has found.
 #[unsafe(no_mangle)]
 pub extern "C" fn mintlintel_core_losses(alloc: Global, handle: &mut Handle, out: &mut u64) -> u32
-    ensures code { result ≡ code_of_layer (seat_of handle.old) (λ _. 0) }
+    ensures code { result ≡ code_of_layer (seat_of handle.old) (λ _. DONE) }
     ensures losses { OfLayer (seat_of handle.old) (λ l. out.new ≡ layer_losses l) }
-    ensures report { result ≢ 0 → out.new ≡ out.old }
+    ensures report { result ≢ DONE → out.new ≡ out.old }
     ensures same { seat_of handle.new ≡ seat_of handle.old }
 {
     handle.typed().on_with(alloc, out, |seat, out| match seat {

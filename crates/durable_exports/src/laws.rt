@@ -1,10 +1,10 @@
 //! Laws of what C sees of a handle. Each function has no code: its clauses say where a definition holds and where it doesn't, and what a code or a report
 //! is on small values.
-ghost use Rattle.std.specs.Prelude.{◌≡◌, ◌≢◌, ◌-◌, ◌^◌, ℕ, List, Some, None, true, false};
+ghost use Rattle.std.specs.Prelude.{◌≡◌, ◌≢◌, ◌+◌, ◌-◌, ◌^◌, max, ℕ, List, Some, None, true, false};
 ghost use Rattle.geometry.specs.declared.page_addr.PageAddr.{PageAddr as Addr};
 ghost use Rattle.durable.specs.Flash.{Flash};
 ghost use Rattle.durable.specs.Updates.{Update};
-ghost use Rattle.durable.specs.Device.{Device, device_in, next_number_of, next_page_of};
+ghost use Rattle.durable.specs.Device.{Device, device_in, next_number_in, next_number_of, next_page_of, IsStampOn};
 ghost use Rattle.durable.specs.Mounting.{IsStampOf, next_in, after_in};
 ghost use Rattle.durable.specs.Promise.{IsReadable, IsRecoverable};
 ghost use Rattle.durable.specs.Choice.{IsNextCommand, Spends, StaysOpen, left, number_after};
@@ -26,7 +26,7 @@ ghost use Rattle.durable_exports.specs.Reports.{found_page, place_report, page_a
 ghost use Rattle.durable_exports.specs.Calls.{layer_device, layer_losses, code_of_mount, code_of_layer, OfMount, OfLayer, HasMount, HasLayer};
 ghost use Rattle.durable.specs.Updates.{sole};
 ghost use Rattle.durable_exports.specs.Calls.{begin_code, note_code, finish_code, sector_code, extent_code, stamp_of};
-ghost use Rattle.durable_exports.specs.Calls.{Accepts, FreesBlock, IsBegun, IsNoted, IsMounted, IsNewestPageOf, IsCommandFor, IsDone};
+ghost use Rattle.durable_exports.specs.Calls.{Accepts, Refuses, FreesBlock, IsBegun, IsNoted, IsMounted, IsNewestPageOf, IsCommandFor, IsDone};
 
 /// The code of a call, by what the handle has.
 pub fn codes()
@@ -43,8 +43,10 @@ pub fn codes()
     ensures all_noted { note_code None false ≡ 32 }
     ensures foreign { (at : Addr) → note_code (Some at) true ≡ 30 }
     ensures noted { (at : Addr) → note_code (Some at) false ≡ 0 }
-    ensures finished { finish_code None 7 ≡ 7 }
-    ensures too_early { (at : Addr) → finish_code (Some at) 7 ≡ 32 }
+    ensures finished { finish_code None false false ≡ 0 }
+    ensures no_memory_left { finish_code None false true ≡ 6 }
+    ensures no_block { finish_code None true false ≡ 7 }
+    ensures too_early { (at : Addr) → finish_code (Some at) false false ≡ 32 }
     ensures no_sector { (l : Layer) → (layer_device l).sectors ≡ 8 → sector_code 8 0 l ≡ 3 }
     ensures sector { (l : Layer) → (layer_device l).sectors ≡ 8 → sector_code 7 5 l ≡ 5 }
     ensures extent { (l : Layer) → (layer_device l).sectors ≡ 8
@@ -109,20 +111,29 @@ pub fn calls()
     ensures begun { (device : Device) (m : Mount) → IsBegun device m → device_in m ≡ device }
     ensures first { (device : Device) (m : Mount) → IsBegun device m
         → next_in m ≡ Some (record { block = 0; page = 0 }) }
+    ensures unnumbered { (device : Device) (m : Mount) → IsBegun device m → next_number_in m ≡ 0 }
     ensures unread { (device : Device) (m : Mount) (f : Flash) → IsBegun device m → HasNoted f m }
     ensures next { (stamp : Stamp) (m n : Mount)
         → IsNoted (Some stamp) m n → next_in n ≡ after_in m }
+    ensures above { (stamp : Stamp) (m n : Mount) → IsNoted (Some stamp) m n
+        → next_number_in n ≡ max (next_number_in m) (stamp.number + 1) }
+    ensures no_number { (m n : Mount) → IsNoted None m n → next_number_in n ≡ next_number_in m }
     ensures stamped { (f : Flash) (stamp : Stamp) (m n : Mount) → IsNoted (Some stamp) m n
         → HasNoted f m → next_in m ≡ Some (record { block = 1; page = 2 })
         → IsStampOf f 1 2 (Some stamp) → HasNoted f n }
     ensures same_device { (m n : Mount) → IsNoted None m n → device_in n ≡ device_in m }
     ensures taken { (stamp : Stamp) (m : Mount) → Accepts (Some stamp) 0 m }
+    ensures of_device { (stamp : Stamp) (m : Mount)
+        → Refuses (Some stamp) 0 m → IsStampOn (device_in m) (Some stamp) }
+    ensures refused { (stamp : Stamp) (m : Mount) → Refuses (Some stamp) 30 m }
     ensures free { (m : Mount) → FreesBlock 0 m }
     ensures stuck { (f : Flash) (m : Mount) (acked begun : List Update) → HasNoted f m
         → IsRecoverable f (device_in m) acked begun → ¬ FreesBlock 7 m }
     ensures mounted { (m : Mount) (l : Layer) → IsMounted m l → Remounts m l.core }
     ensures idle { (m : Mount) (l : Layer) → IsMounted m l → l.totals ≡ no_totals }
     ensures sizes { (m : Mount) (l : Layer) → IsMounted m l → layer_device l ≡ device_in m }
+    ensures number { (m : Mount) (l : Layer)
+        → IsMounted m l → next_number_of l.core ≡ next_number_in m }
     ensures losses { (m : Mount) (l : Layer) → IsMounted m l → CountsLosses m l.core }
     ensures drops { (m : Mount) (l : Layer) → IsMounted m l → DropsTrims m l.core }
     ensures tells { (m : Mount) (l : Layer) → IsMounted m l → TellsLosses m l.core }

@@ -15,6 +15,7 @@ pub struct Layer {
 impl Layer {
     ghost use Rattle.std.specs.Prelude.{◌≢◌, ◌<◌, ◌+◌, ◌^◌, ◌==◌, if◌then◌else◌};
     ghost use Rattle.durable.specs.Device.{next_number_of};
+    ghost use Rattle.durable_exports.specs.declared.codes.TheConstants.{DONE, WRITTEN, NO_NUMBER, OUT_OF_ORDER};
     ghost use Rattle.durable_exports.specs.Reports.{no_totals, found_page};
     ghost use Rattle.durable_exports.specs.Calls.{sector_code, extent_code, IsNewestPageOf, IsCommandFor, IsDone};
 
@@ -35,9 +36,10 @@ impl Layer {
 
     // The page of a sector.
     pub(crate) fn page(&self, sector: u32, out: &mut PlaceReport) -> u32
-        ensures code { result ≡ sector_code sector (if result == 1 then 1 else 0) self.now }
+        ensures code { result
+            ≡ sector_code sector (if result == WRITTEN then WRITTEN else DONE) self.now }
         ensures page { IsNewestPageOf sector (found_page result out.new) self.now }
-        ensures same { result ≢ 1 → out.new ≡ out.old }
+        ensures same { result ≢ WRITTEN → out.new ≡ out.old }
     {
         if sector >= self.core.sectors() {
             return NO_SECTOR;
@@ -51,10 +53,11 @@ impl Layer {
 
     // The command that comes next for an extent.
     pub(crate) fn next(&self, extent: Extent, out: &mut CommandReport) -> u32
-        ensures code { result ≡ extent_code extent (if result == 31 then 31 else 0) self.now }
-        ensures progress { next_number_of self.now.core + 1 < 2 ^ 64 → result ≢ 31 }
-        ensures command { result ≡ 0 → IsCommandFor extent out.new self.now }
-        ensures same { result ≢ 0 → out.new ≡ out.old }
+        ensures code { result
+            ≡ extent_code extent (if result == NO_NUMBER then NO_NUMBER else DONE) self.now }
+        ensures progress { next_number_of self.now.core + 1 < 2 ^ 64 → result ≢ NO_NUMBER }
+        ensures command { result ≡ DONE → IsCommandFor extent out.new self.now }
+        ensures same { result ≢ DONE → out.new ≡ out.old }
     {
         if !extent.lies_within(self.core.sectors() as usize) {
             return NO_SECTOR;
@@ -69,9 +72,10 @@ impl Layer {
 
     // Takes the success of the command that comes next for an extent.
     pub(crate) fn done(&mut self, extent: Extent, did: CommandReport) -> u32
-        ensures code { result ≡ extent_code extent (if result == 32 then 32 else 0) self.old }
-        ensures done { result ≡ 0 → IsDone extent did self.old self.new }
-        ensures same { result ≢ 0 → self.new ≡ self.old }
+        ensures code { result
+            ≡ extent_code extent (if result == OUT_OF_ORDER then OUT_OF_ORDER else DONE) self.old }
+        ensures done { result ≡ DONE → IsDone extent did self.old self.new }
+        ensures same { result ≢ DONE → self.new ≡ self.old }
     {
         if !extent.lies_within(self.core.sectors() as usize) {
             return NO_SECTOR;

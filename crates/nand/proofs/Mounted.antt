@@ -19,6 +19,8 @@ use Rattle.nand.specs.declared.failure.OpenFailure.TheVariants as why
 use Rattle.nand.specs.declared.flash.Reading.{Reading}
 use Rattle.nand.specs.declared.flash.Reading.TheVariants as outcome
 use Rattle.nand.specs.Nand.{ReadsStamp, IsNoVersion, noted_of}
+use Rattle.nand.specs.Opened.{NumbersBelow}
+use Rattle.durable.specs.Candidates.{number_above}
 
 -- a page that is read as no version is none
 none_noted : (f : Flash) (b p : ℕ) (reading : Reading) → IsNoVersion reading → ((s : Extent) (m : ℕ) (v : Sector) → f b p ≡ Version s m v → ⊥)
@@ -40,6 +42,17 @@ noted f b p reading reads = noted_at f b p (f b p) refl reading reads
 pub next_noted : (f : Flash) (next : Option PageAddr) (at : PageAddr) (reading : Reading) (told : Option Noted) → next ≡ Some at
     → told ≡ noted_of reading → ReadsStamp (f at.block at.page) reading → IfSome next (λ a. IsStampOf f a.block a.page told)
 next_noted f next at reading told is noting reads = rw (is, noting) (noted f at.block at.page reading reads)
+
+bounded : (f : Flash) (n next b p : ℕ) (told : Option Noted) → NumbersBelow f n → next ≤ n → IsStampOf f b p told → number_above next told ≤ n
+bounded f n next b p None below le is = le
+bounded f n next b p (Some stamp) below le is = omega (arith, le, below b p stamp.extent stamp.number is.0 is.1)
+
+-- a bound of all numbers is one of the next number too, once the page that comes next is noted
+pub next_bounded : (f : Flash) (n next new : ℕ) (here : Option PageAddr) (at : PageAddr) (told : Option Noted) → here ≡ Some at
+    → IfSome here (λ a. IsStampOf f a.block a.page told) → new ≡ number_above next told → NumbersBelow f n → next ≤ n → new ≤ n
+next_bounded f n next new here at told is known number below le =
+    let stamp : IsStampOf f at.block at.page told = subst (λ (x : Option PageAddr). IfSome x (λ a. IsStampOf f a.block a.page told)) is known in
+    omega (arith, number, bounded f n next at.block at.page told below le stamp)
 
 -- how many pages are still to be read, from this one on
 abbrev pub unread : ℕ → ℕ → Option PageAddr → ℕ

@@ -12,7 +12,6 @@ use Rattle.durable.specs.Updates.{Covers, Update, array_after, is_covered, sole}
 use Rattle.durable.specs.declared.extent.Extent.{Extent}
 use Rattle.durable.proofs.Extents.{covered}
 use Rattle.nand.specs.declared.failure.Failure.{Failure}
-use Rattle.nand.specs.declared.failure.Failure.TheVariants as failure
 use Rattle.nand.specs.Stored.{AreEmptyBefore, ReadsStored, TellsStored, WereStored, stored_value, told_of, value_at, value_for}
 use Rattle.nand.specs.Nand.{ReadsMain}
 use Rattle.nand.specs.Numbers.{chip_page, numbered}

@@ -6,7 +6,7 @@ use Rattle.geometry.specs.declared.answer.Got.TheVariants as got
 use Rattle.geometry.specs.declared.answer.Was.{Was}
 use Rattle.geometry.specs.declared.answer.Was.TheVariants as was
 use Rattle.durable.specs.Failures.{HoldsNoVersion}
-use Rattle.durable.specs.Flash.{Flash}
+use Rattle.durable.specs.Flash.{Flash, Version}
 use Rattle.durable.specs.Device.{Device, device_of, next_number_of}
 use Rattle.durable.specs.Promise.{IsConsistent, IsReadable}
 use Rattle.durable.specs.Spare.{IsDuplicated}
@@ -43,6 +43,10 @@ layer_sectors {N} layer = (device_of layer.core).sectors
 -- the number of the next version
 abbrev pub number_of : {N : Type 0} → Durable N → ℕ
 number_of {N} layer = next_number_of layer.core
+
+-- the number of each version is below this one
+abbrev pub NumbersBelow : Flash → ℕ → Type 0
+NumbersBelow f n = (b p : ℕ) (e : Extent) (m : ℕ) (v : Sector) → f b p ≡ Version e m v → m < n
 
 -- an update of an extent's sectors
 abbrev pub update_of : Extent → Sector → Update

@@ -23,7 +23,7 @@ ghost use Rattle.nand.specs.Numbers.{IsInReserve, IsInUse, IsOrder, Marks, chip_
 ghost use Rattle.nand.specs.Numbers.{is_marked, most_in_use, numbered};
 ghost use Rattle.nand.specs.Opened.{CanFreeInUse, CanOpen, Fails, HasFailed, IsUnmounted, IsOpenLayer, IsRefusal, IsSameDevice, IsSpent};
 ghost use Rattle.nand.specs.Opened.{IsTrueCause, KeepsDevice, MarksFailed, ReadsSector, Were};
-ghost use Rattle.nand.specs.Opened.{device_on, layer_sectors, most_used, number_of, reserve_of, update_of};
+ghost use Rattle.nand.specs.Opened.{NumbersBelow, device_on, layer_sectors, most_used, number_of, reserve_of, update_of};
 ghost use Rattle.nand.specs.Programs.{AddsVersion, HasSomewhere, ProgramsOnce, TalliesOnce};
 ghost use Rattle.nand.specs.declared.chip.Chip.{Chip as Modelled};
 ghost use Rattle.nand.specs.declared.chip.Cut.TheVariants as cut;
@@ -337,6 +337,9 @@ pub fn opened()
         → (device_of layer.core).sectors ≡ 8 → layer_sectors layer ≡ 8 }
     ensures number { (layer : Layer Modelled)
         → next_number_of layer.core ≡ 5 → number_of layer ≡ 5 }
+    ensures below { (f : Flash) (v : Sector) → f 0 0 ≡ Version (sole 7) 5 v
+        → ¬ NumbersBelow f 5 }
+    ensures none_below { (f : Flash) → IsErased f → NumbersBelow f 0 }
     ensures rest { (layer : Layer Modelled) → layer.reserve ≡ 2 → reserve_of layer ≡ 2 }
     ensures is_closed { (layer : Layer Modelled) → layer.mounted ≡ false → IsUnmounted layer }
     ensures closed { (layer : Layer Modelled) (updates : List Update) → IsUnmounted layer

@@ -1,4 +1,4 @@
-ghost use Rattle.std.specs.Prelude.{◌≡◌, ◌≢◌, ◌⊎◌, ◌<◌, ◌+◌, ◌%◌, ◌^◌, List, ◌∷◌, [], length};
+ghost use Rattle.std.specs.Prelude.{◌≡◌, ◌≢◌, ◌⊎◌, ◌<◌, ◌≤◌, ◌+◌, ◌%◌, ◌^◌, ℕ, List, ◌∷◌, [], length};
 ghost use Rattle.std.specs.Prelude.{None, Some, Ok, Err, OnOk, OnErr, IfOk, IfErr};
 ghost use Rattle.geometry.specs.Sectors.{was_of};
 ghost use Rattle.geometry.specs.declared.answer.Got.TheVariants as got;
@@ -6,11 +6,12 @@ ghost use Rattle.geometry.specs.declared.answer.Was.TheVariants as was;
 ghost use Rattle.durable.specs.Collecting.{HasCapacity};
 ghost use Rattle.durable.specs.Updates.{LiesWithin, Update, array_after, sole};
 ghost use Rattle.durable.specs.declared.fault.MountFault.TheVariants as mount_fault;
-ghost use Rattle.durable.specs.Device.{IsWrittenOn, losses_of};
+ghost use Rattle.durable.specs.Device.{HasOwnVersions, IsWrittenOn, losses_of};
 ghost use Rattle.durable.specs.Flash.{IsErased, PageContents};
-ghost use Rattle.nand.specs.Numbers.{good_before};
+ghost use Rattle.durable.specs.Losses.{HasNoLoss};
+ghost use Rattle.nand.specs.Numbers.{good_before, numbered};
 ghost use Rattle.nand.specs.Opened.{CanOpen, Fails, IsUnmounted, IsOpenLayer, IsSameDevice, IsTrueCause, KeepsDevice, MarksFailed, ReadsSector, Were};
-ghost use Rattle.nand.specs.Opened.{device_on, layer_sectors, reserve_of, update_of};
+ghost use Rattle.nand.specs.Opened.{NumbersBelow, device_on, layer_sectors, number_of, reserve_of, update_of};
 ghost use Rattle.nand.specs.Stored.{ReadsStored, StopsLook, StopsUpdate, TellsStored, WereStored, stored_value, told_of, value_for};
 ghost use Rattle.nand.specs.Looks.{Looks};
 ghost use Rattle.nand.specs.Nand.{HasBytes, ReadsStamp};
@@ -82,6 +83,25 @@ impl<N: Nand> Durable<N> {
             × (N.bad layer.nand ≡ N.bad nand) × (layer_sectors layer ≡ sectors)) }
         ensures tally { IfOk result (λ layer. N.tally layer.nand ≡ N.tally nand)
             × IfErr result (λ refused. N.tally refused.nand ≡ N.tally nand) }
+        ensures number { IfOk result (λ layer. (n : ℕ) → NumbersBelow (N.flash nand) n
+            → number_of layer ≤ n) }
+
+        // It tells no loss exactly if each sector's newest version, where it is needed, has a page in a block without a gap.
+        ensures tells { IfOk result
+            (λ layer. IsWrittenOn
+            (device_on (N.shape nand) (N.bad nand) sectors) (N.flash nand)
+            → losses_of layer.core ≡ 0
+            → HasNoLoss (numbered layer.numbers.items (N.flash nand)) sectors) }
+        ensures quiet { (updates : List Update) → CanOpen N.flash N.shape N.bad nand sectors updates
+            → IfOk result
+            (λ layer. HasNoLoss (numbered layer.numbers.items (N.flash nand)) sectors
+            → losses_of layer.core ≡ 0) }
+
+        // A device with fewer sectors than were written is refused.
+        ensures own { IfOk result
+            (λ layer. HasOwnVersions
+            (device_on (N.shape nand) (N.bad nand) sectors)
+            (numbered layer.numbers.items (N.flash nand))) }
         ensures capacity { OnOk result
             (HasCapacity sectors (good_before (N.bad nand) (N.shape nand).blocks)
             (N.shape nand).pages) }

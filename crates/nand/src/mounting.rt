@@ -1,12 +1,13 @@
 ghost use Rattle.std.specs.Prelude.{◌≡◌, ◌≢◌, ◌≤◌, ◌+◌, ℕ, List, Some, None, Ok, Err, IfOk, IfErr, OnOk};
 ghost use Rattle.durable.specs.Collecting.{HasCapacity};
-ghost use Rattle.durable.specs.Device.{IsWrittenOn, device_of};
+ghost use Rattle.durable.specs.Device.{HasOwnVersions, IsWrittenOn, device_of, losses_of, next_number_of};
+ghost use Rattle.durable.specs.Losses.{HasNoLoss};
 ghost use Rattle.durable.specs.Updates.{Update};
 ghost use Rattle.durable.specs.Promise.{IsConsistent, IsReadable, IsRecoverable};
 ghost use Rattle.durable.specs.declared.fault.MountFault.TheVariants as mount_fault;
 ghost use Rattle.nand.specs.Nand.{noted_of};
 ghost use Rattle.nand.specs.Numbers.{IsOrder, good_before, numbered};
-ghost use Rattle.nand.specs.Opened.{CanOpen, device_on, device_using, used_blocks};
+ghost use Rattle.nand.specs.Opened.{CanOpen, NumbersBelow, device_on, device_using, used_blocks};
 ghost use Rattle.nand.specs.declared.flash.Fault.{Fault as Cause};
 ghost use Rattle.nand.specs.declared.flash.Fault.TheVariants as fault;
 ghost use Rattle.nand.specs.declared.failure.OpenFailure.TheVariants as why;
@@ -53,11 +54,27 @@ pub fn mount<N: Nand>(alloc: Global, nand: &mut N, sectors: u32) -> Result<Mount
     ensures reserve { IfOk result
         (λ mounted. mounted.reserve + used_blocks (N.shape nand.old) (N.bad nand.old) sectors
         ≡ good_before (N.bad nand.old) (N.shape nand.old).blocks) }
+    ensures number { IfOk result (λ mounted. (n : ℕ) → NumbersBelow (N.flash nand.old) n
+        → next_number_of mounted.core ≤ n) }
     ensures consistent { (updates : List Update)
         → CanOpen N.flash N.shape N.bad nand.old sectors updates
         → IfOk result
         (λ mounted. IsConsistent
         (numbered mounted.numbers.items (N.flash nand.old)) mounted.core updates updates) }
+    ensures own { IfOk result
+        (λ mounted. HasOwnVersions
+        (device_on (N.shape nand.old) (N.bad nand.old) sectors)
+        (numbered mounted.numbers.items (N.flash nand.old))) }
+    ensures tells { IfOk result
+        (λ mounted. IsWrittenOn
+        (device_on (N.shape nand.old) (N.bad nand.old) sectors) (N.flash nand.old)
+        → losses_of mounted.core ≡ 0
+        → HasNoLoss (numbered mounted.numbers.items (N.flash nand.old)) sectors) }
+    ensures quiet { (updates : List Update)
+        → CanOpen N.flash N.shape N.bad nand.old sectors updates
+        → IfOk result
+        (λ mounted. HasNoLoss (numbered mounted.numbers.items (N.flash nand.old)) sectors
+        → losses_of mounted.core ≡ 0) }
     ensures foreign { IsWrittenOn
         (device_on (N.shape nand.old) (N.bad nand.old) sectors) (N.flash nand.old)
         → result ≢ Err (why.Refused mount_fault.ForeignStamp) }
@@ -102,12 +119,30 @@ fn mount_in_order<N: Nand>(
     ensures tally { N.tally nand.new ≡ N.tally nand.old }
     ensures device { IfOk result
         (λ core. device_of core ≡ device_using used (N.shape nand.old) sectors) }
+    ensures number { IfOk result
+        (λ core. (n : ℕ) → NumbersBelow (numbered numbers.now (N.flash nand.old)) n
+        → next_number_of core ≤ n) }
     ensures consistent { (updates : List Update)
         → IsReadable (numbered numbers.now (N.flash nand.old))
         (device_using used (N.shape nand.old) sectors)
         updates updates
         → IfOk result
         (λ core. IsConsistent (numbered numbers.now (N.flash nand.old)) core updates updates) }
+    ensures own { OnOk result
+        (HasOwnVersions (device_using used (N.shape nand.old) sectors)
+        (numbered numbers.now (N.flash nand.old))) }
+    ensures tells { IfOk result
+        (λ core. IsWrittenOn (device_using used (N.shape nand.old) sectors)
+        (numbered numbers.now (N.flash nand.old))
+        → losses_of core ≡ 0
+        → HasNoLoss (numbered numbers.now (N.flash nand.old)) sectors) }
+    ensures quiet { (updates : List Update)
+        → IsReadable (numbered numbers.now (N.flash nand.old))
+        (device_using used (N.shape nand.old) sectors)
+        updates updates
+        → IfOk result
+        (λ core. HasNoLoss (numbered numbers.now (N.flash nand.old)) sectors
+        → losses_of core ≡ 0) }
     ensures foreign { IsWrittenOn (device_using used (N.shape nand.old) sectors)
         (numbered numbers.now (N.flash nand.old))
         → result ≢ Err (why.Refused mount_fault.ForeignStamp) }

@@ -1,6 +1,6 @@
-use Rattle.std.proofs.Common.{ℕ, ◌≡◌, ◌∙◌, false, Option, None, Some, Err, option_map, refl, sym, ap, subst}
+use Rattle.std.proofs.Common.{Bool, ◌≡◌, ◌∙◌, false, true, Option, None, Some, Err, option_map, refl, sym, ap, subst}
 use Rattle.durable.specs.Calls.{CountsLosses, DropsTrims, Remounts, TellsLosses, TellsNoFalseLoss}
-use Rattle.durable.specs.Device.{device_of}
+use Rattle.durable.specs.Device.{device_of, next_number_of}
 use Rattle.durable.specs.Whole.{MountsWhole}
 use Rattle.durable_exports.specs.Calls.{OfMount, HasLayer, FreesBlock, IsMounted, code_of_mount, finish_code}
 use Rattle.std.proofs.lemmas.Bool.{false≢true}
@@ -8,6 +8,7 @@ use Rattle.core.specs.Option.{is_some}
 use Rattle.durable.specs.Mounting.{next_in}
 use Rattle.durable.specs.declared.mount.Mount.{Mount}
 use Rattle.geometry.specs.declared.page_addr.PageAddr.{PageAddr}
+use Rattle.durable_exports.specs.declared.codes.TheConstants.{NO_BLOCK}
 use Rattle.durable_exports.specs.Handles.{seat_of}
 use Rattle.handles.specs.Kept.{boxed}
 use Rattle.handles.specs.Calls.{value_of}
@@ -21,7 +22,7 @@ returns-in-Err-NoFreeBlock-clause-frees c =
     ap (λ (x : Seat). Some x) (sym c.into_inner.ensures ∙ c.in-Mounting-into_inner.is) in
     let has : seat_of c.args.handle.now ≡ Some (Mounting c.in-Mounting-into_inner.mount) =
     sym (ap value_of c.typed-handle.ensures.value) ∙ sym c.take.ensures.value ∙ ap (option_map boxed) c.in-Some.is ∙ held in
-    subst (λ (x : Option Seat). OfMount x (FreesBlock 7)) (sym has) (λ f acked begun noted is _.
+    subst (λ (x : Option Seat). OfMount x (FreesBlock NO_BLOCK)) (sym has) (λ f acked begun noted is _.
     absurd (c.finish.ensures.frees f acked begun noted is (c.in-Err-NoFreeBlock.is ∙ ap Err c.in-Err-NoFreeBlock.field-0-is)))
 
 pub returns-then-fill-clause-mounted : goal.returns-then-fill-clause-mounted
@@ -33,6 +34,7 @@ returns-then-fill-clause-mounted c _ =
     let core = c.new.ensures.core in
     let mounted : IsMounted mount c.new.result = (
       ap device_of core ∙ c.in-Ok.ensures.device,
+      ap next_number_of core ∙ c.in-Ok.ensures.number,
       subst (Remounts mount) (sym core) c.in-Ok.ensures.remounts,
       c.new.ensures.totals,
       subst (CountsLosses mount) (sym core) c.in-Ok.ensures.losses,
@@ -52,18 +54,19 @@ not_some None e = refl
 not_some (Some at) e = absurd (false≢true e)
 
 -- a mount is closed with this code once no page is left
-finishes : (k : ℕ) (s : Option Seat) (mount other : Mount) (next : Option PageAddr) → s ≡ Some (Mounting mount) →
-    Mounting other ≡ Mounting mount → next ≡ next_in other → false ≡ is_some next → k ≡ code_of_mount s (λ m. finish_code (next_in m) k)
-finishes k s mount other next has same reads ends =
+finishes : (no_block no_memory : Bool) (s : Option Seat) (mount other : Mount) (next : Option PageAddr) → s ≡ Some (Mounting mount) →
+    Mounting other ≡ Mounting mount → next ≡ next_in other → false ≡ is_some next →
+    finish_code None no_block no_memory ≡ code_of_mount s (λ m. finish_code (next_in m) no_block no_memory)
+finishes no_block no_memory s mount other next has same reads ends =
     let none : next_in mount ≡ None = subst (λ (m : Mount). next_in m ≡ None) (same_mount other mount same) (sym reads ∙ not_some next ends) in
-    subst (λ (x : Option Seat). k ≡ code_of_mount x (λ m. finish_code (next_in m) k)) (sym has)
-    (ap (λ (n : Option PageAddr). finish_code n k) (sym none))
+    subst (λ (x : Option Seat). finish_code None no_block no_memory ≡ code_of_mount x (λ m. finish_code (next_in m) no_block no_memory)) (sym has)
+    (ap (λ (n : Option PageAddr). finish_code n no_block no_memory) (sym none))
 
 pub returns-then-fill-clause-code : goal.returns-then-fill-clause-code
 returns-then-fill-clause-code c =
     let held : Some c.in-Some.seat.value ≡ Some (Mounting c.in-Mounting-into_inner.mount) =
     ap (λ (x : Seat). Some x) (sym c.into_inner.ensures ∙ c.in-Mounting-into_inner.is) in
-    finishes 0 _ c.in-Mounting-into_inner.mount c.in-Mounting.mount c.next_page.result
+    finishes false false _ c.in-Mounting-into_inner.mount c.in-Mounting.mount c.next_page.result
     (sym (ap value_of c.typed-handle.ensures.value) ∙ sym c.take.ensures.value ∙ ap (option_map boxed) c.in-Some.is ∙ held)
     (sym c.in-Mounting.is ∙ c.deref.ensures ∙ sym c.into_inner.ensures ∙ c.in-Mounting-into_inner.is) c.next_page.ensures c.if-is_some.ensures
 
@@ -71,6 +74,6 @@ pub returns-else-fill-clause-code : goal.returns-else-fill-clause-code
 returns-else-fill-clause-code c =
     let held : Some c.in-Some.seat.value ≡ Some (Mounting c.in-Mounting-into_inner.mount) =
     ap (λ (x : Seat). Some x) (sym c.into_inner.ensures ∙ c.in-Mounting-into_inner.is) in
-    finishes 6 _ c.in-Mounting-into_inner.mount c.in-Mounting.mount c.next_page.result
+    finishes false true _ c.in-Mounting-into_inner.mount c.in-Mounting.mount c.next_page.result
     (sym (ap value_of c.typed-handle.ensures.value) ∙ sym c.take.ensures.value ∙ ap (option_map boxed) c.in-Some.is ∙ held)
     (sym c.in-Mounting.is ∙ c.deref.ensures ∙ sym c.into_inner.ensures ∙ c.in-Mounting-into_inner.is) c.next_page.ensures c.if-is_some.ensures

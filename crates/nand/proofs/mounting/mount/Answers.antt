@@ -1,7 +1,7 @@
 use Rattle.std.proofs.Common.{◌≡◌, ◌∙◌, Err, ap, arith}
 use Rattle.durable.specs.declared.fault.MountFault.TheVariants as mount_fault
 use Rattle.nand.specs.declared.failure.OpenFailure.TheVariants as why
-use Rattle.nand.specs.Numbers.{good_before}
+use Rattle.nand.specs.Numbers.{chip_block, good_before}
 use Rattle.nand.specs.Opened.{used_blocks}
 use Rattle.nand.proofs.Orders.{capacity_of_used, mountable, written_in_order}
 use Rattle.nand.proofs.mounting.mount.Goals as goal
@@ -11,6 +11,35 @@ returns-in-Ok-clause-reserve g c =
     let used : c.used_of-used.result ≡ used_blocks (g.N.Nand.shape c.args.nand.now) (g.N.Nand.bad c.args.nand.now) c.args.sectors =
     rw (c.shape.ensures, c.order_of.ensures.shape, c.in_ok-order.ensures.good) at c.used_of-used.ensures.used in
     omega (arith, used, c.used_of-used.ensures.few, c.in_ok-order.ensures.good)
+
+pub returns-in-Ok-clause-number : goal.returns-in-Ok-clause-number
+returns-in-Ok-clause-number g c n below =
+    let number = rw (c.deref.ensures.value, c.order_of.ensures.flash) at c.in-Ok.ensures.number in
+    number n (λ b p e m v is. below (chip_block c.in_ok-order.order.numbers.items b) p e m v is)
+
+pub returns-in-Ok-clause-own : goal.returns-in-Ok-clause-own
+returns-in-Ok-clause-own g c =
+    let used : c.used_of-used.result ≡ used_blocks (g.N.Nand.shape c.args.nand.now) (g.N.Nand.bad c.args.nand.now) c.args.sectors =
+    rw (c.shape.ensures, c.order_of.ensures.shape, c.in_ok-order.ensures.good) at c.used_of-used.ensures.used in
+    rw (c.deref.ensures.value, c.order_of.ensures.flash, c.order_of.ensures.shape, used) at c.in-Ok.ensures.own
+
+pub returns-in-Ok-clause-tells : goal.returns-in-Ok-clause-tells
+returns-in-Ok-clause-tells g c written =
+    let used : c.used_of-used.result ≡ used_blocks (g.N.Nand.shape c.args.nand.now) (g.N.Nand.bad c.args.nand.now) c.args.sectors =
+    rw (c.shape.ensures, c.order_of.ensures.shape, c.in_ok-order.ensures.good) at c.used_of-used.ensures.used in
+    let here = written_in_order (g.N.Nand.flash c.args.nand.now) (g.N.Nand.shape c.args.nand.now) (g.N.Nand.bad c.args.nand.now)
+    c.in_ok-order.order.numbers.items c.args.sectors c.in_ok-order.ensures.order written in
+    let tells = rw (c.deref.ensures.value, c.order_of.ensures.flash, c.order_of.ensures.shape, used) at c.in-Ok.ensures.tells in
+    tells here
+
+pub returns-in-Ok-clause-quiet : goal.returns-in-Ok-clause-quiet
+returns-in-Ok-clause-quiet g c updates is =
+    let used : c.used_of-used.result ≡ used_blocks (g.N.Nand.shape c.args.nand.now) (g.N.Nand.bad c.args.nand.now) c.args.sectors =
+    rw (c.shape.ensures, c.order_of.ensures.shape, c.in_ok-order.ensures.good) at c.used_of-used.ensures.used in
+    let there = mountable (g.N.Nand.flash c.args.nand.now) (g.N.Nand.shape c.args.nand.now) (g.N.Nand.bad c.args.nand.now)
+    c.in_ok-order.order.numbers.items c.args.sectors c.in_ok-order.ensures.order updates is in
+    let quiet = rw (c.deref.ensures.value, c.order_of.ensures.flash, c.order_of.ensures.shape, used) at c.in-Ok.ensures.quiet in
+    quiet updates (record { keeps = there.keeps; written = there.written })
 
 pub returns-in-Ok-clause-consistent : goal.returns-in-Ok-clause-consistent
 returns-in-Ok-clause-consistent g c updates is =

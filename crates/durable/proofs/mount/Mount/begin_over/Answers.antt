@@ -1,4 +1,4 @@
-use Rattle.durable.proofs.Begun.{nothing_found, nothing_counted, nothing_preferred}
+use Rattle.durable.proofs.Begun.{nothing_found, nothing_counted, nothing_own, nothing_preferred}
 use Rattle.durable.proofs.Kept.{none_told}
 use Rattle.std.proofs.Common.{rules, ◌≡◌, ◌+◌, ◌/◌, ℕ, List, length, replicate, sym, subst}
 use Rattle.durable.specs.Mounting.{TellsValues}
@@ -11,6 +11,7 @@ returns-clause-notes c f =
     let gaps : c.in-Ok-vec-2.gaps.items ≡ replicate c.args.read_blocks 0 = search rules in
     record {
       finds = nothing_found f c.args.pages found _ c.in-Ok.ensures;
+      own = nothing_own f c.args.pages (length found);
       values = subst (λ (v : List ℕ). TellsValues f c.args.pages 0 0 (length found) v) (sym words)
           (none_told f c.args.pages (length found) _);
       counts = nothing_counted f c.args.pages c.in-Ok-vec-2.gaps.items _ gaps;

@@ -1,4 +1,4 @@
-use Rattle.std.proofs.Common.{◌≡◌, ◌∙◌, ◌<◌, ◌^◌, ℕ, List, length, Option, None, get_or, refl, sym, ap, arith, subst}
+use Rattle.std.proofs.Common.{inl, ◌≡◌, ◌∙◌, ◌<◌, ◌^◌, ℕ, List, length, Option, None, get_or, refl, sym, ap, arith, subst}
 use Rattle.durable.specs.Collecting.{HasCapacity}
 use Rattle.durable.specs.Device.{device_in}
 use Rattle.durable.specs.Candidates.{AreNeeded, IsEntryOf, IsFreeable}
@@ -110,3 +110,9 @@ returns-clause-whole c f acked begun noted is unharmed =
       counted_losses mount kept c.losses-losses.result c.deref-3.result.now c.losses-losses.ensures c.deref-3.ensures.value
           ∙ quiet mount at_end f noted is.written kept needed array is.keeps.recovers unharmed.no_loss,
     )
+
+pub returns-clause-own : goal.returns-clause-own
+returns-clause-own c f noted b p e m v read within is =
+    let mount = c.args.self in
+    let all = all_noted mount.read_blocks (record { block = mount.block; page = mount.page }) c.requires in
+    noted.own b p e m v (within, inl (omega (arith, read, all))) is

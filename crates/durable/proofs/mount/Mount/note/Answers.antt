@@ -1,8 +1,8 @@
-use Rattle.std.proofs.Common.{refl, arith, ◌≡◌, ◌+◌, ◌<◌, sym, subst, ℕ, List, length}
+use Rattle.std.proofs.Common.{rules, refl, arith, ◌≡◌, ◌+◌, ◌<◌, sym, subst, ℕ, List, length}
 use Rattle.geometry.specs.declared.page_addr.PageAddr.{PageAddr}
-use Rattle.durable.specs.Mounting.{IsStampOf, TellsValues}
+use Rattle.durable.specs.Mounting.{AreOfDevice, IsStampOf, TellsValues}
 use Rattle.durable.specs.Candidates.{IsFoundWith}
-use Rattle.durable.proofs.Noting.{of_next, some_left}
+use Rattle.durable.proofs.Noting.{of_next, own_next, own_wrap, some_left}
 use Rattle.durable.proofs.Kept.{found_size, values_next, values_wrap}
 use Rattle.durable.proofs.Scans.{finds_wrap}
 use Rattle.durable.proofs.Counted.{noted_all, counts_wrap, prefers_wrap}
@@ -22,6 +22,9 @@ returns-then-self-clause-notes c f was stamp =
     (of_next mount.read_blocks at (λ at. IsStampOf f at.block at.page c.args.stamp) c.requires stamp) (was.finds, was.counts, was.prefers) in
     record {
       finds = now.0;
+      own = subst (λ (n : ℕ). AreOfDevice f mount.pages mount.block (mount.page + 1) n) (sym size)
+          (own_next f mount.pages mount.block mount.page (length mount.found.items) c.args.stamp was.own
+          (of_next mount.read_blocks at (λ at. IsStampOf f at.block at.page c.args.stamp) c.requires stamp) (search rules));
       values = subst (λ (n : ℕ). TellsValues f mount.pages mount.block (mount.page + 1) n c.mark_values.new.marks.items) (sym size)
           (values_next f mount.pages mount.block mount.page mount.page_within (length mount.found.items) mount.valued.items c.mark_values.new.marks.items
           was.values c.args.stamp c.mark_values.ensures.marks
@@ -44,6 +47,10 @@ returns-else-self-clause-notes c f was stamp =
     c.count_gaps.ensures.gaps c.count_gaps.ensures.versions
     (of_next mount.read_blocks at (λ at. IsStampOf f at.block at.page c.args.stamp) c.requires stamp) (was.finds, was.counts, was.prefers) in
     record {
+      own = subst (λ (n : ℕ). AreOfDevice f mount.pages (mount.block + 1) 0 n) (sym size)
+          (own_wrap f mount.pages mount.block mount.page (length mount.found.items) full
+          (own_next f mount.pages mount.block mount.page (length mount.found.items) c.args.stamp was.own
+          (of_next mount.read_blocks at (λ at. IsStampOf f at.block at.page c.args.stamp) c.requires stamp) (search rules)));
       finds = finds_wrap f mount.pages mount.block mount.page c.take.new.found.items c.take.new.next_number full now.0;
       values = subst (λ (n : ℕ). TellsValues f mount.pages (mount.block + 1) 0 n c.mark_values.new.marks.items) (sym size)
           (values_wrap f mount.pages mount.block mount.page (length mount.found.items) c.mark_values.new.marks.items full

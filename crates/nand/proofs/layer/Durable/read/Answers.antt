@@ -2,7 +2,7 @@ use Rattle.std.proofs.Common.{◌∙◌, Option, Ok, refl, sym, ap, subst}
 use Rattle.geometry.specs.Sectors.{Sector}
 use Rattle.geometry.specs.declared.answer.Got.TheVariants as got
 use Rattle.nand.specs.Stored.{ReadsStored}
-use Rattle.nand.proofs.Readings.{data_in, empty_there, gives, in_page, no_page, tells}
+use Rattle.nand.proofs.Readings.{data_in, empty_there, gives, in_page, no_page}
 use Rattle.nand.proofs.layer.Durable.read.Goals as goal
 
 pub returns-in_default-clause-stored : goal.returns-in_default-clause-stored

@@ -5,7 +5,6 @@ use Rattle.geometry.specs.declared.answer.Was.TheVariants as was
 use Rattle.durable.specs.Updates.{array_after}
 use Rattle.nand.specs.Stored.{stored_value, told_of}
 use Rattle.nand.specs.declared.failure.Failure.{Failure}
-use Rattle.nand.specs.declared.failure.Failure.TheVariants as failure
 use Rattle.nand.proofs.Readings.{in_page, no_page, tells, told_there}
 use Rattle.nand.proofs.layer.Durable.was.Goals as goal
 

@@ -1,6 +1,5 @@
 use Rattle.std.proofs.Common.{Some}
 use Rattle.durable.specs.Updates.{sole}
-use Rattle.geometry.specs.declared.answer.Was.TheVariants as was
 use Rattle.nand.specs.Opened.{update_of}
 use Rattle.nand.specs.declared.failure.Failure.TheVariants as failure
 use Rattle.nand.proofs.Steps.{fails_after, fails_open, if_err, if_ok, marked_after, not_failed, not_lost}
