@@ -18,15 +18,16 @@ enum mintlintel_image_mode {
 };
 
 /* A handle: `struct mintlintel_image image = {0};`. The calls mintlintel_durable_.. take `&image.device`, except open and close. They return 46 where
- * the file failed, and then only close and open help; nothing that was acknowledged is lost. */
+ * the file failed, and then only close and open help: nothing that was acknowledged is lost, unless a sync failed. */
 struct mintlintel_image { struct mintlintel_durable device; struct mintlintel_image_file *file; };
 
 /* What the head of an image says. */
 struct mintlintel_image_head { uint32_t version; struct mintlintel_durable_numbers numbers; };
 
 /* Opens the image, and makes it if there is no such file. Numbers that are all 0 stand for those of the image, which is not
- * made then. 0; 8; a code of mintlintel_durable_open; 40 to 46. It locks the file, so that a second open returns 41. If the machine's power was
- * cut, or the file comes from another machine, it reads each page and sets those aside that don't fit their check. */
+ * made then. 0; 8; a code of mintlintel_durable_open; 40 to 46. It locks the file, so that a second open returns 41. If the image wasn't closed, and
+ * the machine was started anew since or is another one, its power may have been cut: then blocks that were erased since the last flush in mode `flush`
+ * have what they had before, and each page is read, and set aside if it doesn't fit its check. */
 uint32_t mintlintel_image_open(struct mintlintel_image *image, const char *path, enum mintlintel_image_mode mode, uint32_t luns, uint32_t blocks,
                                uint32_t pages, uint32_t page_bytes, uint32_t sectors);
 

@@ -119,9 +119,13 @@ static void keep_line(const struct chip *chip, const char *line, const char *wha
         nbdkit_error("%s: %s: %s %s, which will be forgotten", chip->file, strerror(errno), what, line);
 }
 
+// The image is synced first: a power cut may bring a block back to what it had at the last flush, and one that is marked isn't read.
 static int chip_mark_bad(void *at, uint32_t block) {
     struct chip *chip = at;
     char number[sizeof "4294967295"];
+    int answer = chip->nand.sync(chip->nand.chip);
+    if (answer != DONE)
+        return answer;
     set_bad(chip, block);
     chip->is_untimed = 1;
     snprintf(number, sizeof number, "%" PRIu32, block);

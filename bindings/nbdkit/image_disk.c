@@ -14,6 +14,7 @@
 
 #include "luns.h"
 #include "pieces.h"
+#include "power.h"
 
 // Who has the lock lets others have it after so many sectors of a trim.
 enum { SECTORS_OF_A_TURN = 4096 };
@@ -26,11 +27,13 @@ static void tell_other_numbers(const struct options *options) {
     struct mintlintel_image_head head;
     mintlintel_image_look(options->image, &head);
     const struct mintlintel_durable_numbers *has = &head.numbers;
+    const char *told = options->is_unfinished ? "the disk was never finished, so give the numbers that it was begun with, or remove its layers"
+                       : options->layers > 1  ? "give the disk's numbers, or none of them"
+                                              : "give these numbers, or none of them";
     nbdkit_error("image=%s has %" PRIu32 " sectors and %" PRIu32 " blocks of %" PRIu32 " pages of %" PRIu32 " bytes on %" PRIu32
-                 " LUNs, and not %" PRIu32 " and %" PRIu32 " of %" PRIu32 " of %" PRIu32 " on %" PRIu32
-                 ": give %s numbers, or none of them",
+                 " LUNs, and not %" PRIu32 " and %" PRIu32 " of %" PRIu32 " of %" PRIu32 " on %" PRIu32 ": %s",
                  options->image, has->sectors, has->blocks, has->pages, has->page_bytes, has->luns, options->sectors, options->blocks, options->pages,
-                 options->page, options->luns, options->layers > 1 ? "the disk's" : "these");
+                 options->page, options->luns, told);
 }
 
 static void tell_refusal(const struct options *options, uint32_t code, int error) {
@@ -89,18 +92,16 @@ int image_disk_open(struct image_disk *disk, struct options *options) {
     if (disk->is_worn)
         tell_worn();
     if (options->page <= MAX_PAGE_BYTES)
-        return unreadable_begin(&disk->unreadable, &options->unreadable, options->sectors) == -1 ? -1 : power_open(&disk->power, options);
+        return unreadable_begin(&disk->unreadable, &options->unreadable, options->sectors);
     nbdkit_error("image=%s has pages of %" PRIu32 " bytes, and the plugin takes at most %d", options->image, options->page, MAX_PAGE_BYTES);
     return -1;
 }
 
-int image_disk_start(struct image_disk *disk) {
+void image_disk_start(struct image_disk *disk) {
     chip_start(&disk->chip);
-    return power_start(&disk->power);
 }
 
 static void close_image(struct image_disk *disk) {
-    power_close(&disk->power);
     if (mintlintel_image_close(&disk->image) != MINTLINTEL_DONE)
         nbdkit_error("image=%s wasn't closed well: %s", disk->options->image, strerror(errno));
     pthread_mutex_destroy(&disk->mutex);

@@ -11,7 +11,6 @@
 
 #include "chip.h"
 #include "options.h"
-#include "power.h"
 
 // Who has the lock lets others have it after so many pages of a request.
 enum { PAGES_OF_A_TURN = 32 };
@@ -21,7 +20,6 @@ struct image_disk {
     pthread_mutex_t mutex; // of all below
     struct mintlintel_image image;
     struct chip chip;
-    struct power power;
     uint64_t reads, writes, trims, flushes; // what clients asked for, in pages, and flushes
     struct unreadable unreadable;
     int has_failed; // a failure was told
@@ -30,7 +28,7 @@ struct image_disk {
 
 // Opens the image, or makes it, and takes the numbers that weren't given from it. 0, or -1 with an error reported.
 int image_disk_open(struct image_disk *disk, struct options *options);
-int image_disk_start(struct image_disk *disk);
+void image_disk_start(struct image_disk *disk);
 void image_disk_close(struct image_disk *disk);
 
 // The requests: 0, or -1 with an error set and reported.

@@ -73,8 +73,6 @@ static int look_into(const struct options *options, struct found *found) {
 }
 
 static const char *needs_one_layer(const struct options *options) {
-    if (options->cut != NO_CUT)
-        return "cut";
     return options->part.read > 0 ? "part" : options->bad.count > 0 ? "bad" : options->unreadable.count > 0 ? "unreadable" : NULL;
 }
 
@@ -165,7 +163,8 @@ static int share_options(struct layers *layers, uint32_t layer, int is_finished)
     own->sectors = (uint32_t) share_of(layers, layer, all->sectors, PAGES_OF_A_STRIPE);
     uint32_t share = (all->blocks - 1) / layers->count + 1;
     own->blocks = all->has_blocks ? (share + own->luns - 1) / own->luns * own->luns : options_blocks(own);
-    own->has_numbers |= !is_finished;
+    own->is_unfinished = !is_finished;
+    own->has_numbers |= own->is_unfinished;
     return own->image ? 0 : -1;
 }
 
@@ -237,17 +236,20 @@ int layers_open(struct layers *layers, struct options *options) {
     for (uint32_t layer = layers->count; layer-- > 0;)
         if (open_layer(layers, layer, finished) == -1)
             return -1;
-    return take_numbers(layers);
+    for (uint32_t layer = 0; layer < layers->count; layer++)
+        layers->power.images[layer] = layers->own_options[layer].image;
+    layers->power.count = layers->count;
+    return take_numbers(layers) == -1 ? -1 : power_open(&layers->power, options);
 }
 
 int layers_start(struct layers *layers) {
     for (uint32_t layer = 0; layer < layers->count; layer++)
-        if (image_disk_start(&layers->disks[layer]) == -1)
-            return -1;
-    return 0;
+        image_disk_start(&layers->disks[layer]);
+    return power_start(&layers->power);
 }
 
 void layers_close(struct layers *layers) {
+    power_close(&layers->power);
     for (uint32_t layer = 0; layer < layers->count; layer++) {
         image_disk_close(&layers->disks[layer]);
         if (layers->count > 1)

@@ -9,6 +9,7 @@
 
 #include "image_disk.h"
 #include "options.h"
+#include "power.h"
 
 enum { PAGES_OF_A_STRIPE = PAGES_OF_A_TURN };
 
@@ -17,6 +18,7 @@ struct layers {
     struct options *options;
     struct options own_options[MAX_LAYERS]; // each layer's share of the numbers, and its image
     struct image_disk disks[MAX_LAYERS];
+    struct power power;
 };
 
 // Before the options are complete: finds how many layers the disk has. 0, or -1 with an error reported.

@@ -296,7 +296,8 @@ static uint64_t kept_blocks(const struct options *options) {
     return options->image ? BLOCKS_OF_AN_IMAGE : options->hosts + 2 * (uint64_t) options->brooms;
 }
 
-// An image is synced for each block, so a large one has large blocks. One that is there has its own, from which the number of blocks follows.
+// A flush takes two syncs if a block was opened since the last one, so a large image has large blocks. One that is there has its own, from which the
+// number of blocks follows.
 static void choose_pages(struct options *options) {
     struct mintlintel_image_head head = {0};
     if (options->pages)

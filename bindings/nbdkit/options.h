@@ -32,6 +32,7 @@ struct options {
     int has_blocks;  // their number was given
     int sync;        // when writes reach the image's disk: a mode of mintlintel_image.h
     int has_numbers; // some number of the device was given
+    int is_unfinished; // of a layer: another one was never made
     int64_t cut;     // the power is cut at this write to the image; 0 by SIGUSR2 alone; or NO_CUT
     const char *of_memory, *of_image; // a parameter that was given and is only of the one or the other, or NULL
     struct part part; // its times, or zeros: then no command takes time

@@ -3,6 +3,7 @@
 #include "power.h"
 
 #include <errno.h>
+#include <fcntl.h>
 #include <inttypes.h>
 #include <mintlintel_image.h>
 #include <nbdkit-plugin.h>
@@ -18,6 +19,8 @@
 #include "random.h"
 
 enum { DISK_SECTOR = 512, WAIT_FOR_A_WRITE_US = 10000 };
+// So many bytes are kept of writes that aren't synced; then they are written to the disk, as a system does at some time.
+enum { MOST_KEPT = 1 << 28 };
 
 // Where an image's record of its session stands, by docs/FORMATS.md: the name of the machine's run, and the check of what is before it.
 enum { SESSION_AT = 4096, BOOT_AT = 8, BOOT_BYTES = 36, SESSION_CHECK_AT = BOOT_AT + BOOT_BYTES, SESSION_BYTES = SESSION_CHECK_AT + 4 };
@@ -31,12 +34,14 @@ struct unsynced {
     uint8_t bytes[]; // those before, and those after
 };
 
-// There is one image, whose file several threads read and write. What they do is in some order, by the mutex.
+// Several threads read and write the images' files. What they do is in some order, by the mutex.
 static struct {
-    pthread_mutex_t mutex; // of all but the last two
+    pthread_mutex_t mutex; // of all but the last three
     struct unsynced *newest, *oldest;
+    size_t bytes; // of these
     uint64_t writes, cut, random, kept, lost;
     int is_armed;
+    const struct power *power;
     _Atomic int is_due; // the next write is cut
 } state = {.mutex = PTHREAD_MUTEX_INITIALIZER};
 
@@ -53,13 +58,20 @@ int __wrap_fdatasync(int fd);
 char power_given, power_written;
 #endif
 
-static void forget_all(void) {
-    while (state.oldest) {
-        struct unsynced *next = state.oldest->newer;
-        free(state.oldest);
-        state.oldest = next;
+static void forget(struct unsynced *write) {
+    *(write->older ? &write->older->newer : &state.oldest) = write->newer;
+    *(write->newer ? &write->newer->older : &state.newest) = write->older;
+    state.bytes -= 2 * write->count;
+    free(write);
+}
+
+// Forgets the writes to a file, which are synced.
+static void forget_all(int fd) {
+    for (struct unsynced *write = state.oldest, *next; write; write = next) {
+        next = write->newer;
+        if (write->fd == fd)
+            forget(write);
     }
-    state.newest = NULL;
 }
 
 // ---- The cut.
@@ -84,9 +96,10 @@ static void lose_writes(void) {
 }
 
 // The machine's run has another name from now on, so that the next server doubts what it finds.
-static void end_session(int fd) {
+static void end_session(const char *image) {
     uint8_t session[SESSION_BYTES];
-    if (__real_pread64(fd, session, sizeof session, SESSION_AT) != sizeof session)
+    int fd = open(image, O_RDWR | O_CLOEXEC);
+    if (fd == -1 || __real_pread64(fd, session, sizeof session, SESSION_AT) != sizeof session)
         return;
     memset(session + BOOT_AT, '-', BOOT_BYTES);
     uint32_t check = mintlintel_crc32c(0, session, SESSION_CHECK_AT);
@@ -95,10 +108,10 @@ static void end_session(int fd) {
     put(fd, session, sizeof session, SESSION_AT);
 }
 
-static void cut(int fd) {
+static void cut(void) {
     lose_writes();
-    if (fd != -1)
-        end_session(fd);
+    for (uint32_t i = 0; i < state.power->count; i++)
+        end_session(state.power->images[i]);
     fprintf(stderr, "mintlintel: the power is cut at write %" PRIu64 " to the image: of those that were not synced %" PRIu64 " are lost, and %" PRIu64
                     " kept\n", state.writes, state.lost, state.kept);
     _exit(STATUS_OF_A_CUT);
@@ -120,6 +133,7 @@ static int keep(int fd, const void *bytes, size_t count, off_t at) {
     memcpy(write->bytes + count, bytes, count);
     *(state.newest ? &state.newest->newer : &state.oldest) = write;
     state.newest = write;
+    state.bytes += 2 * count;
     return 1;
 }
 
@@ -148,8 +162,11 @@ static ssize_t write_armed(int fd, const void *bytes, size_t count, off_t at) {
         return -1;
     }
     if (is_cut)
-        cut(fd);
-    return __real_pwrite64(fd, bytes, count, at);
+        cut();
+    ssize_t written = __real_pwrite64(fd, bytes, count, at);
+    if (state.bytes > MOST_KEPT && __real_fdatasync(fd) == 0)
+        forget_all(fd);
+    return written;
 }
 
 ssize_t __wrap_pwrite64(int fd, const void *bytes, size_t count, off_t at) {
@@ -186,7 +203,7 @@ int __wrap_fdatasync(int fd) {
     pthread_mutex_lock(&state.mutex);
     int result = __real_fdatasync(fd);
     if (result == 0)
-        forget_all();
+        forget_all(fd);
     pthread_mutex_unlock(&state.mutex);
     return result;
 }
@@ -212,15 +229,16 @@ static void *wait_for_signal(void *argument) {
     atomic_store(&state.is_due, 1);
     usleep(WAIT_FOR_A_WRITE_US);
     pthread_mutex_lock(&state.mutex);
-    cut(state.newest ? state.newest->fd : -1);
+    cut();
     return NULL;
 }
 
 int power_open(struct power *power, const struct options *options) {
-    *power = (struct power){.is_armed = options->cut != NO_CUT};
+    power->is_armed = options->cut != NO_CUT;
     if (!power->is_armed)
         return 0;
     state.is_armed = 1;
+    state.power = power;
     state.cut = (uint64_t) options->cut;
     state.random = options->seed;
     sigset_t signals;
@@ -249,5 +267,6 @@ void power_close(struct power *power) {
         power->has_thread = 0;
     }
     state.is_armed = 0;
-    forget_all();
+    while (state.oldest)
+        forget(state.oldest);
 }

@@ -1,4 +1,4 @@
-// Power cuts of an image's disk, by cut=: the power goes at a write to the file, or at SIGUSR2. That write is torn, each write that was not synced
+// Power cuts of a disk in images, by cut=: the power goes at a write to a file, or at SIGUSR2. That write is torn, each write that was not synced
 // is lost or kept, by the seed, and the server ends. The next one finds what a machine finds after a power cut.
 //
 // All reads, writes and syncs of the library go through this: its calls of pread, pwrite and fdatasync are linked to the functions here.
@@ -13,12 +13,14 @@
 enum { STATUS_OF_A_CUT = 3 };
 
 struct power {
+    const char *images[MAX_LAYERS]; // their files, as many as the disk has layers
+    uint32_t count;
     pthread_t thread; // waits for SIGUSR2
     int has_thread, is_armed;
     _Atomic int is_stopping;
 };
 
-// From now on the writes to the image are counted and kept, if the options have a cut. 0, or -1 with an error reported.
+// From now on the writes to the images are counted and kept, if the options have a cut. 0, or -1 with an error reported.
 int power_open(struct power *power, const struct options *options);
 
 // Starts the thread that waits for SIGUSR2.

@@ -21,6 +21,7 @@ struct look {
     int fd;
     struct mintlintel_durable_numbers numbers;
     struct image_layout layout;
+    uint8_t *sides;        /* on which each block is, for an open */
     uint8_t *spares, *page;
     uint32_t *erases;      /* of each block, as its newest version tells */
     uint32_t *gaps;        /* of each block */
@@ -92,9 +93,36 @@ static void count_gaps(struct look *look, uint32_t block)
     }
 }
 
+/* Finds on which side an open would find each block: 0, or the code of what is wrong. */
+static uint32_t find_sides(struct look *look)
+{
+    uint8_t session[SESSION_BYTES], boot[BOOT_BYTES], parts[CHECKPOINTS][PART_BYTES];
+    size_t bytes = (size_t)look->numbers.blocks * ENTRY_BYTES;
+    uint64_t checkpoint = 0, number;
+    uint32_t code = MINTLINTEL_DONE;
+    if (look->layout.sides == 1)
+        return code;
+    uint8_t *entries = malloc(bytes);
+    if (!entries)
+        return MINTLINTEL_NO_MEMORY;
+    if (!read_all(look->fd, session, sizeof session, PART_BYTES) || !read_all(look->fd, entries, bytes, look->layout.entries_at) ||
+        !read_all(look->fd, parts[0], sizeof parts, look->layout.checkpoints_at))
+        code = MINTLINTEL_FILE_FAILED;
+    else if (!mtl_last_checkpoint((const uint8_t (*)[PART_BYTES])parts, &checkpoint))
+        code = MINTLINTEL_NOT_AN_IMAGE;
+    mtl_read_boot(boot);
+    for (uint32_t block = 0; code == MINTLINTEL_DONE && block < look->numbers.blocks; block++) {
+        if (!mtl_entry_number(entries + (size_t)block * ENTRY_BYTES, &number) || number / 2 > checkpoint + 1)
+            code = MINTLINTEL_NOT_AN_IMAGE;
+        look->sides[block] = number % 2 ^ (number / 2 > checkpoint && mtl_session_has_doubts(session, boot));
+    }
+    free(entries);
+    return code;
+}
+
 static int check_block(struct look *look, uint32_t block)
 {
-    uint64_t at = HEAD_BYTES + block * look->layout.block_bytes, newest_of_block = 0;
+    uint64_t at = HEAD_BYTES + ((uint64_t)look->sides[block] * look->numbers.blocks + block) * look->layout.block_bytes, newest_of_block = 0;
     if (!read_all(look->fd, look->spares, (size_t)look->numbers.pages * SPARE_BYTES, at))
         return 0;
     count_gaps(look, block);
@@ -201,16 +229,20 @@ static int look_at(struct look *look, const char *path, uint32_t endurance)
     if (status >= 0)
         return status;
     look->numbers = head.numbers;
-    look->layout = mtl_image_layout(&head.numbers);
-    if (fstat(look->fd, &about) != 0 || (uint64_t)about.st_size < HEAD_BYTES + head.numbers.blocks * look->layout.block_bytes)
+    look->layout = mtl_image_layout(head.version, &head.numbers);
+    if (fstat(look->fd, &about) != 0 || (uint64_t)about.st_size < look->layout.length)
         return image_refused(MINTLINTEL_CUT_SHORT);
     look->spares = malloc((size_t)head.numbers.pages * SPARE_BYTES);
     look->page = malloc(head.numbers.page_bytes);
     look->erases = calloc(head.numbers.blocks, sizeof *look->erases);
     look->gaps = calloc(head.numbers.blocks, sizeof *look->gaps);
     look->sectors = calloc(head.numbers.sectors, sizeof *look->sectors);
-    if (!look->spares || !look->page || !look->erases || !look->gaps || !look->sectors)
+    look->sides = calloc(head.numbers.blocks, 1);
+    if (!look->sides || !look->spares || !look->page || !look->erases || !look->gaps || !look->sectors)
         return image_refused(MINTLINTEL_NO_MEMORY);
+    code = find_sides(look);
+    if (code != MINTLINTEL_DONE)
+        return image_refused(code);
     for (uint32_t block = 0; block < head.numbers.blocks; block++)
         if (!check_block(look, block))
             return image_refused(MINTLINTEL_FILE_FAILED);
@@ -227,6 +259,7 @@ int check_image(const char *path, uint32_t endurance)
     free(look.erases);
     free(look.gaps);
     free(look.sectors);
+    free(look.sides);
     if (look.fd >= 0)
         close(look.fd);
     return status;

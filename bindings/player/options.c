@@ -4,7 +4,7 @@
 #include <stdlib.h>
 #include <string.h>
 
-enum { FORMAT = 1, LUNS = 1, BLOCKS = 64, PAGES = 64, WORDS = 64, SECTORS = 3072, WORD_BYTES = 8, MOST_WORDS = 8192, MOST_ENDURANCE = 1000000 };
+enum { LUNS = 1, BLOCKS = 64, PAGES = 64, WORDS = 64, SECTORS = 3072, WORD_BYTES = 8, MOST_WORDS = 8192, MOST_ENDURANCE = 1000000 };
 
 static const char help[] =
     "Plays a trace on a device in an image file, which survives the end of the process.\n"
@@ -183,8 +183,8 @@ int head_refused(uint32_t code, const struct mintlintel_image_head *head)
 {
     if (code != MINTLINTEL_DONE)
         return image_refused(code);
-    if (head->version == FORMAT)
+    if (head->numbers.blocks > 0)
         return -1;
-    fprintf(stderr, "image: version %u, not %u\n", head->version, FORMAT);
+    fprintf(stderr, "image: version %u, not 1 or 2\n", head->version);
     return BROKEN;
 }

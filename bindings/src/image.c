@@ -20,7 +20,7 @@
 /* How many blocks a mount asks for ahead of the one that it reads. */
 enum { BLOCKS_AHEAD = 16 };
 /* Larger images aren't mapped, since the system keeps 8 bytes for each page of 4 KiB. */
-#define MOST_MAPPED ((off_t)1 << 31)
+#define MOST_MAPPED ((off_t)1 << 32)
 /* No block. */
 enum { NOWHERE = -1 };
 
@@ -102,7 +102,7 @@ int mtl_file_set_parts(struct mintlintel_image_file *file, struct iovec *parts, 
     return error ? mtl_file_failed(file, error == EFAULT ? EIO : error) : 0;
 }
 
-int mtl_file_sync(struct mintlintel_image_file *file)
+static int sync_bytes(struct mintlintel_image_file *file)
 {
     if (file->is_dirty && fdatasync(file->fd) != 0)
         return mtl_file_failed(file, errno);
@@ -110,9 +110,17 @@ int mtl_file_sync(struct mintlintel_image_file *file)
     return 0;
 }
 
-static off_t length_of(const struct mintlintel_image_file *file)
+/* If blocks have moved, a checkpoint follows once all else is on the disk. */
+int mtl_file_sync(struct mintlintel_image_file *file)
 {
-    return (off_t)(HEAD_BYTES + file->numbers.blocks * file->layout.block_bytes);
+    if (sync_bytes(file) != 0)
+        return 3;
+    if (file->sides.count == 0)
+        return 0;
+    if (mtl_sides_write_checkpoint(file) != 0 || sync_bytes(file) != 0)
+        return 3;
+    mtl_sides_let_go(file);
+    return 0;
 }
 
 /* ---- The chip ---- */
@@ -136,7 +144,7 @@ static int is_hole(struct mintlintel_image_file *file, off_t from, off_t to)
         return 1;
     off_t data = lseek(file->fd, from, SEEK_DATA);
     file->data_from = from;
-    file->data_to = data >= 0 ? data : errno == ENXIO ? length_of(file) : from;
+    file->data_to = data >= 0 ? data : errno == ENXIO ? (off_t)file->layout.length : from;
     return to <= file->data_to;
 }
 
@@ -329,7 +337,7 @@ static uint32_t head_from(const uint8_t *part, struct mintlintel_image_head *hea
     if (memcmp(part, magic, sizeof magic) != 0)
         return MINTLINTEL_NOT_AN_IMAGE;
     head->version = mtl_get32(part + AT_VERSION);
-    if (head->version != VERSION)
+    if (head->version != VERSION && head->version != VERSION_OF_ONE_SIDE)
         return MINTLINTEL_OTHER_VERSION;
     if (mtl_get32(part + PART_BYTES - CHECK_BYTES) != mtl_crc(0, part, PART_BYTES - CHECK_BYTES))
         return MINTLINTEL_NOT_AN_IMAGE;
@@ -363,8 +371,7 @@ uint32_t mintlintel_image_look(const char *path, struct mintlintel_image_head *h
     return code == MINTLINTEL_OTHER_VERSION ? MINTLINTEL_DONE : code;
 }
 
-/* The name of this run of the machine; without one all zeros, which no session is in use by. */
-static void read_boot(uint8_t *boot)
+void mtl_read_boot(uint8_t *boot)
 {
     memset(boot, 0, BOOT_BYTES);
     int fd = open("/proc/sys/kernel/random/boot_id", O_RDONLY | O_CLOEXEC);
@@ -375,31 +382,41 @@ static void read_boot(uint8_t *boot)
     }
 }
 
-/* Says on the disk who uses the image. In mode `never` a record that says it already is left, since a sync would write all pages of earlier sessions. */
+int mtl_session_has_doubts(const uint8_t *session, const uint8_t *boot)
+{
+    if (mtl_get32(session + AT_SESSION_CHECK) != mtl_crc(0, session, AT_SESSION_CHECK))
+        return 1;
+    return mtl_get32(session + AT_STATE) != CLOSED && (boot[0] == 0 || memcmp(boot, session + AT_BOOT, BOOT_BYTES) != 0);
+}
+
+/* Says on the disk who uses the image. In mode `never` a record that says it already is left, since a sync would write all pages of earlier sessions; in
+ * mode `always` these are synced first, since after a power cut the record says by which rules they are checked. */
 static int write_session(struct mintlintel_image_file *file, enum state state)
 {
-    uint8_t session[AT_SESSION_CHECK + CHECK_BYTES], earlier[sizeof session];
+    uint8_t session[SESSION_BYTES], earlier[sizeof session];
     put32(session + AT_STATE, state);
     put32(session + AT_MODE, file->mode);
-    read_boot(session + AT_BOOT);
+    memcpy(session + AT_BOOT, file->boot, BOOT_BYTES);
     put32(session + AT_SESSION_CHECK, mtl_crc(0, session, AT_SESSION_CHECK));
     if (mtl_file_get(file, earlier, sizeof earlier, PART_BYTES) != 0)
         return 1;
     if (file->mode == MINTLINTEL_NEVER && memcmp(earlier, session, sizeof session) == 0)
         return 0;
+    file->is_dirty |= file->mode == MINTLINTEL_ALWAYS;
+    if (file->mode == MINTLINTEL_ALWAYS && mtl_file_sync(file) != 0)
+        return 1;
     return mtl_file_set(file, session, sizeof session, PART_BYTES) != 0 || mtl_file_sync(file) != 0;
 }
 
-/* Whether every page has to be read: the last session may have lost power, or its record is damaged. `mode` is the session's. */
+/* Whether every page has to be read. `mode` is the last session's, or `flush` if its record is damaged. */
 static int needs_checks(struct mintlintel_image_file *file, uint32_t *mode)
 {
-    uint8_t session[AT_SESSION_CHECK + CHECK_BYTES], boot[BOOT_BYTES];
-    *mode = MINTLINTEL_FLUSH;
-    if (mtl_file_get(file, session, sizeof session, PART_BYTES) != 0 || mtl_get32(session + AT_SESSION_CHECK) != mtl_crc(0, session, AT_SESSION_CHECK))
+    uint8_t session[SESSION_BYTES];
+    if (mtl_file_get(file, session, sizeof session, PART_BYTES) != 0)
         return 1;
-    *mode = mtl_get32(session + AT_MODE);
-    read_boot(boot);
-    return mtl_get32(session + AT_STATE) != CLOSED && (boot[0] == 0 || memcmp(boot, session + AT_BOOT, BOOT_BYTES) != 0);
+    int fits = mtl_get32(session + AT_SESSION_CHECK) == mtl_crc(0, session, AT_SESSION_CHECK);
+    *mode = fits ? mtl_get32(session + AT_MODE) : MINTLINTEL_FLUSH;
+    return mtl_session_has_doubts(session, file->boot);
 }
 
 /* ---- After a power cut ---- */
@@ -450,11 +467,13 @@ static void free_file(struct mintlintel_image_file *file)
     if (file) {
         if (file->fd >= 0)
             close(file->fd);
+        free(file->sides.of_blocks);
+        free(file->sides.moved);
         free(file->spares);
         free(file->zeros);
         free(file->page);
         if (file->map)
-            munmap(file->map, (size_t)length_of(file));
+            munmap(file->map, (size_t)file->layout.length);
         free(file->queue.copies);
         free(file);
     }
@@ -470,16 +489,23 @@ static uint64_t in_whole_parts(uint64_t bytes)
     return (bytes + PART_BYTES - 1) / PART_BYTES * PART_BYTES;
 }
 
-struct image_layout mtl_image_layout(const struct mintlintel_durable_numbers *numbers)
+struct image_layout mtl_image_layout(uint32_t version, const struct mintlintel_durable_numbers *numbers)
 {
-    uint64_t spare_bytes = in_whole_parts((uint64_t)numbers->pages * SPARE_BYTES);
-    return (struct image_layout){spare_bytes, spare_bytes + in_whole_parts((uint64_t)numbers->pages * numbers->page_bytes)};
+    struct image_layout layout = {.sides = version == VERSION_OF_ONE_SIDE ? 1 : 2};
+    layout.spare_bytes = in_whole_parts((uint64_t)numbers->pages * SPARE_BYTES);
+    layout.block_bytes = layout.spare_bytes + in_whole_parts((uint64_t)numbers->pages * numbers->page_bytes);
+    layout.length = layout.entries_at = HEAD_BYTES + layout.sides * numbers->blocks * layout.block_bytes;
+    if (layout.sides == 2) {
+        layout.checkpoints_at = layout.entries_at + in_whole_parts((uint64_t)numbers->blocks * ENTRY_BYTES);
+        layout.length = layout.checkpoints_at + CHECKPOINTS * PART_BYTES;
+    }
+    return layout;
 }
 
-static void lay_out(struct mintlintel_image_file *file, const struct mintlintel_durable_numbers *numbers)
+static void lay_out(struct mintlintel_image_file *file, uint32_t version, const struct mintlintel_durable_numbers *numbers)
 {
     file->numbers = *numbers;
-    file->layout = mtl_image_layout(numbers);
+    file->layout = mtl_image_layout(version, numbers);
     file->cached = UINT32_MAX;
 }
 
@@ -513,7 +539,12 @@ static uint32_t make_image(struct mintlintel_image_file *file, const char *path,
     if (code != MINTLINTEL_DONE)
         return code;
     head_into(part, &file->numbers);
-    if (ftruncate(file->fd, length_of(file)) != 0 || mtl_file_set(file, part, sizeof part, 0) != 0 || write_session(file, IN_USE) != 0 || fsync(file->fd) != 0)
+    if (ftruncate(file->fd, (off_t)file->layout.length) != 0 || mtl_file_set(file, part, sizeof part, 0) != 0)
+        return mtl_file_failed(file, errno), MINTLINTEL_FILE_FAILED;
+    code = mtl_sides_make(file);
+    if (code != MINTLINTEL_DONE)
+        return code;
+    if (write_session(file, IN_USE) != 0 || fsync(file->fd) != 0)
         return mtl_file_failed(file, errno), MINTLINTEL_FILE_FAILED;
     if (link(other, path) != 0)
         return errno == EEXIST ? MINTLINTEL_IN_USE : MINTLINTEL_NO_FILE;
@@ -533,7 +564,7 @@ static uint32_t open_file(struct mintlintel_image_file *file, const char *path, 
         return MINTLINTEL_NO_MEMORY;
     clock_gettime(CLOCK_REALTIME, &now);
     snprintf(other, room, "%s.new-%ld-%ld", path, (long)getpid(), (long)now.tv_nsec);
-    lay_out(file, numbers);
+    lay_out(file, VERSION, numbers);
     uint32_t code = make_image(file, path, other);
     unlink(other);
     free(other);
@@ -543,7 +574,7 @@ static uint32_t open_file(struct mintlintel_image_file *file, const char *path, 
 /* Maps a file, so that copies needn't be read. */
 static void map_file(struct mintlintel_image_file *file)
 {
-    void *map = length_of(file) < MOST_MAPPED ? mmap(NULL, (size_t)length_of(file), PROT_READ, MAP_SHARED, file->fd, 0) : MAP_FAILED;
+    void *map = (off_t)file->layout.length < MOST_MAPPED ? mmap(NULL, (size_t)file->layout.length, PROT_READ, MAP_SHARED, file->fd, 0) : MAP_FAILED;
     file->map = map == MAP_FAILED ? NULL : map;
 }
 
@@ -551,24 +582,29 @@ static uint32_t take_image(struct mintlintel_image_file *file, const struct mint
 {
     struct mintlintel_image_head head;
     struct stat about;
-    uint32_t mode, code = read_head(file->fd, &head);
+    uint32_t mode = MINTLINTEL_FLUSH, code = read_head(file->fd, &head);
     if (code == MINTLINTEL_FILE_FAILED)
         mtl_file_failed(file, errno);
     if (code != MINTLINTEL_DONE)
         return code;
     if (!are_zero(numbers) && memcmp(numbers, &head.numbers, sizeof *numbers) != 0)
         return MINTLINTEL_OTHER_NUMBERS;
-    lay_out(file, &head.numbers);
-    if (fstat(file->fd, &about) != 0 || about.st_size < length_of(file))
+    lay_out(file, head.version, &head.numbers);
+    if (fstat(file->fd, &about) != 0 || about.st_size < (off_t)file->layout.length)
         return MINTLINTEL_CUT_SHORT;
+    file->sides.of_blocks = calloc(head.numbers.blocks, 1);
+    file->sides.moved = malloc((size_t)head.numbers.blocks * sizeof *file->sides.moved);
     file->spares = malloc((size_t)head.numbers.pages * SPARE_BYTES);
     file->zeros = calloc(head.numbers.pages, SPARE_BYTES);
     file->page = malloc(head.numbers.page_bytes);
     file->queue.copies = malloc((size_t)MOST_TOGETHER * head.numbers.page_bytes);
-    if (!file->spares || !file->zeros || !file->page || !file->queue.copies)
+    if (!file->sides.of_blocks || !file->sides.moved || !file->spares || !file->zeros || !file->page || !file->queue.copies)
         return MINTLINTEL_NO_MEMORY;
     map_file(file);
-    if (needs_checks(file, &mode) && check_pages(file, mode) != 0)
+    code = mtl_sides_read(file);
+    if (code != MINTLINTEL_DONE)
+        return code;
+    if (needs_checks(file, &mode) && (mtl_sides_go_back(file) != 0 || check_pages(file, mode) != 0))
         return MINTLINTEL_FILE_FAILED;
     return write_session(file, IN_USE) == 0 ? MINTLINTEL_DONE : MINTLINTEL_FILE_FAILED;
 }
@@ -591,6 +627,7 @@ static uint32_t open_device(struct mintlintel_image *image, const char *path, en
     file->fd = -1;
     file->mode = mode;
     file->is_mounting = 1;
+    mtl_read_boot(file->boot);
     uint32_t code = open_image(file, path, numbers);
     if (code == MINTLINTEL_DONE)
         code = mtl_durable_open(&image->device, &nand, &file->numbers, &file->reason, losses);
@@ -631,6 +668,8 @@ uint32_t mintlintel_image_close(struct mintlintel_image *image)
         code = MINTLINTEL_FILE_FAILED;
         errno = file->error;
     }
+    if (file && !file->reason)
+        mtl_sides_punch(file);
     free_file(file);
     return code;
 }
@@ -662,7 +701,7 @@ static int copy_run(struct mintlintel_image_file *file, int to, off_t at, off_t 
 /* Copies what is data, and leaves the holes: 0, or an errno. */
 static int copy_data(struct mintlintel_image_file *file, int to)
 {
-    off_t at = 0, length = length_of(file);
+    off_t at = 0, length = (off_t)file->layout.length;
     int error = ftruncate(to, length) == 0 ? 0 : errno;
     while (error == 0 && at < length) {
         off_t data = lseek(file->fd, at, SEEK_DATA);
@@ -685,7 +724,8 @@ uint32_t mintlintel_image_copy(struct mintlintel_image *image, const char *path)
     int to = open(path, O_RDWR | O_CREAT | O_EXCL | O_CLOEXEC, 0666);
     if (to < 0)
         return MINTLINTEL_NO_FILE;
-    int error = copy_data(image->file, to);
+    int is_synced = has_failed(image->file) || image->file->mode != MINTLINTEL_FLUSH || image_sync(image->file) == 0;
+    int error = is_synced ? copy_data(image->file, to) : image->file->error;
     if (error == 0 && image->file->mode != MINTLINTEL_NEVER)
         error = fsync(to) == 0 ? 0 : errno;
     close(to);

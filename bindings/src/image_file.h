@@ -31,12 +31,23 @@ struct queue {
     uint32_t is_led, ended, sleepers[TURNS]; /* whether there is a leader; how often one has ended; how many sleep in each turn */
 };
 
+/* Each block's side. In mode `flush` an erase moves the block to its other side, and the one before keeps what it had at the last checkpoint, which a sync
+ * makes. After a power cut all blocks that have moved since are back in the sides before. */
+struct sides {
+    uint8_t *of_blocks;      /* 0 or 1, and HAS_MOVED since the last checkpoint. Atomic */
+    uint32_t *moved, count;  /* the blocks that have moved */
+    uint64_t checkpoint;     /* the number of the last one */
+};
+enum { HAS_MOVED = 2 };
+
 struct mintlintel_image_file {
     int fd, error;           /* the errno of the first failure, or 0 */
     uint32_t reason;         /* MINTLINTEL_FILE_FAILED after one. Atomic */
     enum mintlintel_image_mode mode;
+    uint8_t boot[BOOT_BYTES]; /* the name of this run of the machine, or zeros */
     struct mintlintel_durable_numbers numbers;
     struct image_layout layout;
+    struct sides sides;
     int is_mounting, is_dirty, is_erased; /* stamps or such were written since the last sync; a block was erased since then */
     uint32_t cached;         /* the block whose spare bytes are in `spares`; it isn't programmed before it is erased */
     uint8_t *spares, *zeros, *page;
@@ -59,15 +70,49 @@ static inline int has_failed(const struct mintlintel_image_file *file)
     return __atomic_load_n(&file->reason, __ATOMIC_ACQUIRE) != 0;
 }
 
+/* ---- Sides: 0 or 3 ---- */
+
+/* Whether an erase moves its block: in mode `flush`, if a block has two sides, and the next open can tell whether the power was cut. */
+int mtl_sides_move(const struct mintlintel_image_file *file);
+
+/* Writes the entries and checkpoints of a new image, so that there is room for them on the disk: 0, 6 or 46. */
+uint32_t mtl_sides_make(struct mintlintel_image_file *file);
+
+/* Reads the last checkpoint and the sides: 0, 6, 42 or 46. */
+uint32_t mtl_sides_read(struct mintlintel_image_file *file);
+
+/* After a power cut: blocks that have moved since the last checkpoint are back. A sync makes that durable. */
+int mtl_sides_go_back(struct mintlintel_image_file *file);
+
+/* Erases a block: on its other side, unless it has moved already or doesn't move. */
+int mtl_sides_erase(struct mintlintel_image_file *file, uint32_t block);
+
+/* Writes the next checkpoint, and once that is durable lets the sides go that blocks have moved from. */
+int mtl_sides_write_checkpoint(struct mintlintel_image_file *file);
+void mtl_sides_let_go(struct mintlintel_image_file *file);
+
+/* Gives the disk's room of all sides that no block has back, if the system can. */
+void mtl_sides_punch(const struct mintlintel_image_file *file);
+
+static inline uint32_t side_of(const struct mintlintel_image_file *file, uint32_t block)
+{
+    return __atomic_load_n(&file->sides.of_blocks[block], __ATOMIC_SEQ_CST) & 1;
+}
+
+static inline off_t side_at(const struct mintlintel_image_file *file, uint32_t block, uint32_t side)
+{
+    return (off_t)(HEAD_BYTES + ((uint64_t)side * file->numbers.blocks + block) * file->layout.block_bytes);
+}
+
 /* Where the spare bytes of a page stand, and its main bytes. */
 static inline off_t spare_at(const struct mintlintel_image_file *file, uint32_t block, uint32_t page)
 {
-    return (off_t)(HEAD_BYTES + block * file->layout.block_bytes + (uint64_t)page * SPARE_BYTES);
+    return side_at(file, block, side_of(file, block)) + (off_t)page * SPARE_BYTES;
 }
 
 static inline off_t page_at(const struct mintlintel_image_file *file, uint32_t block, uint32_t page)
 {
-    return (off_t)(HEAD_BYTES + block * file->layout.block_bytes + file->layout.spare_bytes + (uint64_t)page * file->numbers.page_bytes);
+    return side_at(file, block, side_of(file, block)) + (off_t)(file->layout.spare_bytes + (uint64_t)page * file->numbers.page_bytes);
 }
 
 /* ---- The commands that wait: 0 or 3 ---- */

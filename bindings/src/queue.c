@@ -14,8 +14,6 @@
 
 /* How often a thread lets others run before it sleeps. */
 enum { YIELDS = 4 };
-/* Of how many main bytes the system is asked to begin writing at once. */
-enum { STRETCH_BYTES = 1 << 19 };
 
 static const struct command *command_at(const struct queue *queue, uint64_t number)
 {
@@ -61,17 +59,10 @@ static int read_copies(struct mintlintel_image_file *file, uint64_t first, uint3
     return 0;
 }
 
-/* In mode `flush` lets the disk begin with a stretch of main bytes that is whole, since each block is synced before the next one is opened. */
-static void write_ahead(const struct mintlintel_image_file *file, const struct command *first, uint32_t count)
+/* In mode `flush` an erase of a block that doesn't move has to be on the disk before what comes after it, and behind what came before it. */
+static int syncs_erases(const struct mintlintel_image_file *file)
 {
-#ifdef SYNC_FILE_RANGE_WRITE
-    off_t block = page_at(file, first->block, 0), from = page_at(file, first->block, first->page) - block;
-    off_t begin = from / STRETCH_BYTES * STRETCH_BYTES, end = (from + (off_t)count * file->numbers.page_bytes) / STRETCH_BYTES * STRETCH_BYTES;
-    if (file->mode == MINTLINTEL_FLUSH && end > begin)
-        (void)sync_file_range(file->fd, block + begin, end - begin, SYNC_FILE_RANGE_WRITE);
-#else
-    (void)file, (void)first, (void)count;
-#endif
+    return file->mode == MINTLINTEL_FLUSH && !mtl_sides_move(file);
 }
 
 /* The main bytes of a command: those that it was given, or of a copy where its page stands in the map of the file, or where they are read to. */
@@ -94,21 +85,20 @@ static int program(struct mintlintel_image_file *file, uint64_t first, uint32_t 
         main[i] = (struct iovec){main_of(file, command_at(queue, first + i), queue->copies + i * bytes), bytes};
         spares[i] = (struct iovec){queue->spares[(first + i) % MOST_WAITING], SPARE_BYTES};
     }
-    if (file->mode == MINTLINTEL_FLUSH && file->is_erased && mtl_file_sync(file) != 0)
+    if (syncs_erases(file) && file->is_erased && mtl_file_sync(file) != 0)
         return 3;
     if ((!file->map && read_copies(file, first, count) != 0) ||
         mtl_file_set_parts(file, main, count, page_at(file, command->block, command->page)) != 0 ||
         mtl_file_set_parts(file, spares, count, spare_at(file, command->block, command->page)) != 0)
         return 3;
-    write_ahead(file, command, count);
     return file->mode == MINTLINTEL_ALWAYS ? mtl_file_sync(file) : 0;
 }
 
 static int erase(struct mintlintel_image_file *file, uint32_t block)
 {
-    if (file->mode == MINTLINTEL_FLUSH && mtl_file_sync(file) != 0)
+    if (syncs_erases(file) && mtl_file_sync(file) != 0)
         return 3;
-    if (mtl_file_set(file, file->zeros, (size_t)file->numbers.pages * SPARE_BYTES, spare_at(file, block, 0)) != 0)
+    if (mtl_sides_erase(file, block) != 0)
         return 3;
     file->is_erased = 1;
     return file->mode == MINTLINTEL_ALWAYS ? mtl_file_sync(file) : 0;

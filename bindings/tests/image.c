@@ -9,7 +9,8 @@
 #include <sys/stat.h>
 #include <unistd.h>
 
-enum { LUNS = 1, BLOCKS = 8, PAGES = 4, PAGE_BYTES = 512, SECTORS = 20, HEAD_BYTES = 8192, SESSION_AT = 4096, BLOCK_BYTES = 4096 + 4096, SPARE_BYTES = 32 };
+enum { LUNS = 1, BLOCKS = 8, PAGES = 4, PAGE_BYTES = 512, SECTORS = 20, HEAD_BYTES = 8192, SESSION_AT = 4096, BLOCK_BYTES = 4096 + 4096, SPARE_BYTES = 32,
+       ENTRY_BYTES = 16, ENTRIES_AT = HEAD_BYTES + 2 * BLOCKS * BLOCK_BYTES, CHECKPOINTS_AT = ENTRIES_AT + 4096, LENGTH = CHECKPOINTS_AT + 4 * 4096 };
 #define NUMBERS LUNS, BLOCKS, PAGES, PAGE_BYTES, SECTORS
 
 static char path[4096], other[4096];
@@ -75,14 +76,40 @@ static void change_byte(off_t at, uint8_t flipped)
     close(fd);
 }
 
-/* Each mode, with calls over several sessions. */
+/* The session of an image becomes one that has lost power. */
+static void lose_power(const char *name)
+{
+    uint8_t session[48];
+    int fd = open(name, O_RDWR);
+    CHECK(fd >= 0 && pread(fd, session, sizeof session, SESSION_AT) == sizeof session);
+    session[0] = 1;
+    memset(session + 8, '0', 36);
+    uint32_t check = mintlintel_crc32c(0, session, 44);
+    for (int i = 0; i < 4; i++)
+        session[44 + i] = (uint8_t)(check >> 8 * i);
+    CHECK(pwrite(fd, session, sizeof session, SESSION_AT) == sizeof session);
+    close(fd);
+}
+
+/* Up to where the entries and checkpoints have room on the disk. */
+static off_t room_behind_the_blocks(void)
+{
+    int fd = open(path, O_RDONLY);
+    off_t end = lseek(fd, ENTRIES_AT, SEEK_HOLE);
+    close(fd);
+    return end;
+}
+
+/* Each mode, with calls over several sessions. An image that is closed takes no more room than one side of each block. */
 static void sessions(void)
 {
     static const enum mintlintel_image_mode modes[3] = {MINTLINTEL_ALWAYS, MINTLINTEL_FLUSH, MINTLINTEL_NEVER};
     struct mintlintel_image image = {0}, second = {0};
     struct mintlintel_image_head head;
+    struct stat about;
     for (int mode = 0; mode < 3; mode++) {
         begin(&image, modes[mode]);
+        CHECK(room_behind_the_blocks() == LENGTH);
         for (int session = 0; session < 5; session++) {
             CHECK(mintlintel_image_open(&image, path, modes[mode], NUMBERS) == MINTLINTEL_ALREADY_OPEN);
             CHECK(mintlintel_image_open(&second, path, modes[mode], NUMBERS) == MINTLINTEL_IN_USE);
@@ -94,8 +121,9 @@ static void sessions(void)
             CHECK(unreadable(&image) == 0);
         }
         mintlintel_image_close(&image);
+        CHECK(stat(path, &about) == 0 && about.st_size == LENGTH && about.st_blocks * 512 <= LENGTH - BLOCKS * BLOCK_BYTES);
     }
-    CHECK(mintlintel_image_look(path, &head) == MINTLINTEL_DONE && head.version == 1 && head.numbers.sectors == SECTORS);
+    CHECK(mintlintel_image_look(path, &head) == MINTLINTEL_DONE && head.version == 2 && head.numbers.sectors == SECTORS);
 }
 
 /* Files that are not this image. */
@@ -112,11 +140,11 @@ static void refusals(void)
     CHECK(mintlintel_image_open(&image, in_no_folder, MINTLINTEL_NEVER, NUMBERS) == MINTLINTEL_NO_FILE && errno == ENOENT);
     CHECK(mintlintel_image_open(&image, other, MINTLINTEL_NEVER, 0, 0, 0, 0, 0) == MINTLINTEL_NO_FILE);
     CHECK(mintlintel_image_look(other, &head) == MINTLINTEL_NO_FILE);
-    change_byte(8, 3);
+    change_byte(8, 1);
     CHECK(mintlintel_image_open(&image, path, MINTLINTEL_NEVER, NUMBERS) == MINTLINTEL_OTHER_VERSION);
-    CHECK(mintlintel_image_look(path, &head) == MINTLINTEL_DONE && head.version == 2);
-    change_byte(8, 3);
-    CHECK(truncate(path, HEAD_BYTES + BLOCKS * BLOCK_BYTES - 1) == 0);
+    CHECK(mintlintel_image_look(path, &head) == MINTLINTEL_DONE && head.version == 3);
+    change_byte(8, 1);
+    CHECK(truncate(path, LENGTH - 1) == 0);
     CHECK(mintlintel_image_open(&image, path, MINTLINTEL_NEVER, NUMBERS) == MINTLINTEL_CUT_SHORT);
     CHECK(truncate(path, HEAD_BYTES) == 0);
     CHECK(mintlintel_image_open(&image, path, MINTLINTEL_NEVER, NUMBERS) == MINTLINTEL_CUT_SHORT);
@@ -126,17 +154,30 @@ static void refusals(void)
     CHECK(mintlintel_image_open(&image, path, MINTLINTEL_NEVER, NUMBERS) == MINTLINTEL_NOT_AN_IMAGE);
 }
 
-/* Each byte of the head, flipped in one bit: the image is refused, or it is right. */
+/* The byte behind this one, of those that are flipped: all of the head, of the entries and of the checkpoints. */
+static off_t next_byte(off_t at)
+{
+    if (at == HEAD_BYTES - 1)
+        return ENTRIES_AT;
+    if (at == ENTRIES_AT + BLOCKS * ENTRY_BYTES - 1)
+        return CHECKPOINTS_AT;
+    return at >= CHECKPOINTS_AT && at % 4096 == ENTRY_BYTES - 1 ? at + 4096 - ENTRY_BYTES + 1 : at + 1;
+}
+
+/* Each byte of the head and of what tells the sides, flipped in one bit: the image is refused, or it is right, and a checkpoint has a copy. Then the same
+ * after a power cut. */
 static void flipped_heads(void)
 {
     struct mintlintel_image image = {0};
     int refused = 0;
     begin(&image, MINTLINTEL_FLUSH);
     mintlintel_image_close(&image);
-    for (off_t at = 0; at < HEAD_BYTES; at++) {
+    for (off_t at = 0; at < LENGTH; at = next_byte(at)) {
         uint8_t flip = (uint8_t)(1 << drawn(&state) % 8), session[48];
         int fd = open(path, O_RDWR);
         CHECK(pread(fd, session, sizeof session, SESSION_AT) == sizeof session);
+        if (at >= ENTRIES_AT)
+            lose_power(path);
         change_byte(at, flip);
         uint32_t code = mintlintel_image_open(&image, path, MINTLINTEL_FLUSH, NUMBERS);
         refused += code != MINTLINTEL_DONE;
@@ -148,7 +189,7 @@ static void flipped_heads(void)
         CHECK(pwrite(fd, session, sizeof session, SESSION_AT) == sizeof session);
         close(fd);
     }
-    CHECK(refused == SESSION_AT);
+    CHECK(refused == SESSION_AT + BLOCKS * ENTRY_BYTES);
 }
 
 /* Bytes of blocks, flipped: a sector has its value, or its page can't be read. A flipped stamp may give the value before, which only the chip can tell. */
@@ -197,7 +238,7 @@ static void swapped(void)
     }
 }
 
-/* A copy has what the image had, and goes its own way. */
+/* A copy has what the image had, after a power cut too, and goes its own way. */
 static void copies(void)
 {
     struct mintlintel_image image = {0}, copy = {0};
@@ -209,10 +250,11 @@ static void copies(void)
     CHECK(mintlintel_image_copy(&image, other) == MINTLINTEL_NO_FILE && errno == EEXIST);
     use(&image, 300);
     CHECK(unreadable(&image) == 0);
+    lose_power(other);
     CHECK(mintlintel_image_open(&copy, other, MINTLINTEL_FLUSH, NUMBERS) == MINTLINTEL_DONE);
     memcpy(values, then, sizeof values);
     CHECK(unreadable(&copy) == 0);
-    CHECK(stat(other, &about) == 0 && about.st_size == HEAD_BYTES + BLOCKS * BLOCK_BYTES);
+    CHECK(stat(other, &about) == 0 && about.st_size == LENGTH);
     mintlintel_image_close(&copy);
     mintlintel_image_close(&image);
     CHECK(mintlintel_image_copy(&image, other) == MINTLINTEL_CLOSED);
@@ -266,13 +308,13 @@ static struct found find(struct mintlintel_image *image)
 
 /* Some sectors are written together, and their pages are read by runs: those found just now are as they are, and those found earlier as they were, or
  * refused. */
-static void runs(void)
+static void runs(enum mintlintel_image_mode mode)
 {
     struct mintlintel_image image = {0};
     struct found earlier[16];
     uint8_t pages[4][PAGE_BYTES] = {{0}};
     long alone = 0, together = 0, kept = 0, refused = 0;
-    begin(&image, MINTLINTEL_NEVER);
+    begin(&image, mode);
     for (int i = 0; i < 16; i++)
         earlier[i] = find(&image);
     for (int round = 0; round < 20000; round++) {
@@ -345,7 +387,8 @@ int main(int argc, char **argv)
     swapped();
     copies();
     collections();
-    runs();
+    runs(MINTLINTEL_NEVER);
+    runs(MINTLINTEL_FLUSH);
     full_disk();
     unlink(path);
     printf("image: sessions, refusals, flipped and swapped bytes, copies and a full disk agree with what was acknowledged\n");

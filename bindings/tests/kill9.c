@@ -7,6 +7,7 @@
 #include <signal.h>
 #include <stdatomic.h>
 #include <sys/mman.h>
+#include <sys/uio.h>
 #include <sys/wait.h>
 #include <time.h>
 #include <unistd.h>
@@ -24,6 +25,10 @@ static struct mintlintel_image used;
 static pthread_mutex_t lock = PTHREAD_MUTEX_INITIALIZER; /* of the calls of `used` */
 static char path[4096];
 static uint64_t state = 88172645463325252u;
+static int is_slow; /* the file is */
+
+ssize_t __real_pwritev64(int fd, const struct iovec *parts, int count, off_t at);
+ssize_t __wrap_pwritev64(int fd, const struct iovec *parts, int count, off_t at);
 
 /* Writes some sectors, whose pages wait until the lock is given back, and are then done beside those of other threads. */
 static void write_some(uint32_t first, uint32_t count, uint32_t value)
@@ -122,10 +127,18 @@ static void tell_sleeper(int signal)
     _exit(write(STDERR_FILENO, text, sizeof text - 1) > 0 ? 1 : 2);
 }
 
-/* Erases are synced, so that threads sleep meanwhile. Behind each burst nobody comes who would wake them. */
+ssize_t __wrap_pwritev64(int fd, const struct iovec *parts, int count, off_t at)
+{
+    if (is_slow)
+        usleep(300);
+    return __real_pwritev64(fd, parts, count, at);
+}
+
+/* Writes are slow, so that threads sleep meanwhile. Behind each burst nobody comes who would wake them. */
 static void write_at_once(void)
 {
     pthread_t threads[THREADS];
+    is_slow = 1;
     CHECK(mintlintel_image_open(&used, path, MINTLINTEL_FLUSH, LUNS, BLOCKS, PAGES, PAGE_BYTES, SECTORS) == MINTLINTEL_DONE);
     CHECK(pthread_barrier_init(&all_begin, NULL, THREADS) == 0);
     signal(SIGALRM, tell_sleeper);
@@ -136,6 +149,7 @@ static void write_at_once(void)
         CHECK(pthread_join(threads[i], NULL) == 0);
     alarm(0);
     CHECK(mintlintel_image_close(&used) == MINTLINTEL_DONE);
+    is_slow = 0;
     unlink(path);
 }
 

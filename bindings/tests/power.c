@@ -1,7 +1,7 @@
 /* power FOLDER [ROUNDS]: an image whose machine loses power at random. Of what was written since the last sync each 4096 bytes are on the disk, or not, or
  * each sector of 512 bytes is for itself, up to any of the writes to it. In mode `always` the image then has each acknowledged call, and in mode `flush`
  * a beginning of the history with all that was flushed. A process that is killed between two writes leaves a beginning with all that was acknowledged.
- * The writes and syncs of the library are wrapped, and every other image can't be mapped. */
+ * The writes and syncs of the library are wrapped, and every other image can't be mapped. Some machines tell no name of their run. */
 #include "../src/flash.h"
 #include "mintlintel_image.h"
 #include "testing.h"
@@ -12,11 +12,11 @@
 #include <unistd.h>
 
 enum { LUNS = 1, BLOCKS = 5, PAGES = 40, PAGE_BYTES = 256, SECTORS = 120, BLOCK_BYTES = 4096 + 12288, HEAD_BYTES = 8192, SPARE_BYTES = 32,
-       LENGTH = HEAD_BYTES + BLOCKS * BLOCK_BYTES };
-enum { SECTOR_BYTES = 512, PART_BYTES = 4096, MOST = 4096, CALLS = 3000, MOST_TOGETHER = 8 };
+       LENGTH_OF_ONE_SIDE = HEAD_BYTES + BLOCKS * BLOCK_BYTES, ENTRIES_AT = HEAD_BYTES + 2 * BLOCKS * BLOCK_BYTES, LENGTH = ENTRIES_AT + 5 * 4096 };
+enum { SECTOR_BYTES = 512, PART_BYTES = 4096, MOST = 1 << 16, CALLS = 3000, MOST_TOGETHER = 8 };
 enum { NOTHING, SOME, ALL };
-/* Where the state of the last session and its mode stand, and what the state is. */
-enum { AT_SESSION = 4096, AT_MODE = 4100, IN_USE = 1, CLOSED = 2 };
+/* Where the format's version stands, the state of the last session and its mode, and what the state is. */
+enum { AT_VERSION = 8, AT_SESSION = 4096, AT_MODE = 4100, IN_USE = 1, CLOSED = 2 };
 
 struct write { size_t at, count; uint8_t *bytes; };
 struct update { uint32_t sector, value; };
@@ -28,6 +28,9 @@ static uint32_t begun, safe, answered; /* updates that were begun, those that ha
 static size_t writes;
 static long left; /* writes and syncs up to the power cut */
 static int is_off, is_write; /* the power is off; it went in a write */
+static int is_nameless;      /* the machine tells no name of its run */
+static int changes_mode;     /* an open may be in the other mode */
+static enum mintlintel_image_mode used; /* that of the last open */
 static uint64_t state = 88172645463325252u;
 static char path[4096];
 static long cuts, calls, kills, syncs;
@@ -37,6 +40,8 @@ ssize_t __wrap_pwrite64(int fd, const void *bytes, size_t count, off_t at);
 ssize_t __wrap_pwritev64(int fd, const struct iovec *parts, int count, off_t at);
 int __wrap_fdatasync(int fd);
 int __wrap_fsync(int fd);
+int __real_open64(const char *name, int flags, ...);
+int __wrap_open64(const char *name, int flags, ...);
 void *__real_mmap64(void *at, size_t bytes, int rights, int flags, int fd, off_t from);
 void *__wrap_mmap64(void *at, size_t bytes, int rights, int flags, int fd, off_t from);
 
@@ -44,6 +49,13 @@ void *__wrap_mmap64(void *at, size_t bytes, int rights, int flags, int fd, off_t
 {
     static unsigned maps;
     return maps++ % 2 ? MAP_FAILED : __real_mmap64(at, bytes, rights, flags, fd, from);
+}
+
+int __wrap_open64(const char *name, int flags, ...)
+{
+    if (is_nameless && strcmp(name, "/proc/sys/kernel/random/boot_id") == 0)
+        return -1;
+    return __real_open64(name, flags, 0666);
 }
 
 static int goes_off(void)
@@ -57,7 +69,7 @@ static void check_stamp(int fd, size_t count, off_t at)
 {
     uint8_t spares[PAGES * SPARE_BYTES];
     size_t inside = (size_t)(at - HEAD_BYTES) % BLOCK_BYTES;
-    if (at < HEAD_BYTES || count != SPARE_BYTES || inside >= sizeof spares)
+    if (at < HEAD_BYTES || at >= ENTRIES_AT || count != SPARE_BYTES || inside >= sizeof spares)
         return;
     CHECK(pread(fd, spares, sizeof spares - inside, at) == (ssize_t)(sizeof spares - inside));
     for (size_t i = 0; i < sizeof spares - inside; i++)
@@ -120,6 +132,13 @@ int __wrap_fsync(int fd)
     return __wrap_fdatasync(fd);
 }
 
+static void put_check(uint8_t *part, size_t count)
+{
+    uint32_t check = mintlintel_crc32c(0, part, count);
+    for (int i = 0; i < 4; i++)
+        part[count + (size_t)i] = (uint8_t)(check >> 8 * i);
+}
+
 /* What the disk has after the cut, and another run of the machine. */
 static void lose_power(void)
 {
@@ -140,9 +159,7 @@ static void lose_power(void)
     forget_writes();
     if (disk[4096] != 0) {
         memset(disk + 4104, '0', 36);
-        uint32_t check = mintlintel_crc32c(0, disk + 4096, 44);
-        for (int i = 0; i < 4; i++)
-            disk[4140 + i] = (uint8_t)(check >> 8 * i);
+        put_check(disk + 4096, 44);
     }
     int fd = open(path, O_RDWR);
     CHECK(fd >= 0 && __real_pwrite64(fd, disk, LENGTH, 0) == LENGTH);
@@ -186,8 +203,9 @@ static void open_image(struct mintlintel_image *image, enum mintlintel_image_mod
     uint32_t values[SECTORS], code;
     for (;;) {
         is_off = is_write = 0;
-        left = 1 + drawn(&state) % 400;
-        code = mintlintel_image_open(image, path, mode, LUNS, BLOCKS, PAGES, PAGE_BYTES, SECTORS);
+        left = 1 + drawn(&state) % (changes_mode && drawn(&state) % 2 ? 6 : 400);
+        used = !changes_mode ? mode : drawn(&state) % 2 ? MINTLINTEL_FLUSH : MINTLINTEL_ALWAYS;
+        code = mintlintel_image_open(image, path, used, LUNS, BLOCKS, PAGES, PAGE_BYTES, SECTORS);
         if (code == MINTLINTEL_DONE)
             break;
         CHECK(code == MINTLINTEL_FILE_FAILED && is_off);
@@ -238,7 +256,7 @@ static uint32_t one_update(struct mintlintel_image *image, uint32_t value)
     return value ? mintlintel_durable_write(&image->device, sector, page, sizeof page) : mintlintel_durable_trim(&image->device, sector, 1);
 }
 
-static uint32_t one_call(struct mintlintel_image *image, enum mintlintel_image_mode mode)
+static uint32_t one_call(struct mintlintel_image *image)
 {
     uint32_t kind = drawn(&state) % 64, code;
     calls++;
@@ -250,7 +268,7 @@ static uint32_t one_call(struct mintlintel_image *image, enum mintlintel_image_m
     code = kind < 12 ? many_writes(image) : one_update(image, kind < 52 ? 1 + drawn(&state) : 0);
     if (code <= MINTLINTEL_WRITTEN)
         answered = begun;
-    if (code <= MINTLINTEL_WRITTEN && mode == MINTLINTEL_ALWAYS)
+    if (code <= MINTLINTEL_WRITTEN && used == MINTLINTEL_ALWAYS)
         safe = begun;
     return code;
 }
@@ -299,7 +317,20 @@ static void close_and_open(struct mintlintel_image *image, enum mintlintel_image
     open_image(image, mode);
 }
 
-static void run(enum mintlintel_image_mode mode)
+/* A new image is one of format 1: with another head it is shorter. */
+static void make_old(void)
+{
+    struct mintlintel_image image = {0};
+    CHECK(mintlintel_image_open(&image, path, MINTLINTEL_ALWAYS, LUNS, BLOCKS, PAGES, PAGE_BYTES, SECTORS) == MINTLINTEL_DONE);
+    CHECK(mintlintel_image_close(&image) == MINTLINTEL_DONE && disk[AT_VERSION] == 2);
+    disk[AT_VERSION] = 1;
+    put_check(disk, PART_BYTES - 4);
+    int fd = open(path, O_RDWR);
+    CHECK(fd >= 0 && __real_pwrite64(fd, disk, PART_BYTES, 0) == PART_BYTES && ftruncate(fd, LENGTH_OF_ONE_SIDE) == 0);
+    close(fd);
+}
+
+static void run(enum mintlintel_image_mode mode, int is_old)
 {
     struct mintlintel_image image = {0};
     unlink(path);
@@ -307,10 +338,13 @@ static void run(enum mintlintel_image_mode mode)
     begun = safe = 0;
     left = 1000;
     is_off = is_write = 0;
+    if (is_old)
+        make_old();
+    used = mode;
     CHECK(mintlintel_image_open(&image, path, mode, LUNS, BLOCKS, PAGES, PAGE_BYTES, SECTORS) == MINTLINTEL_DONE);
-    CHECK(disk[AT_SESSION] == IN_USE);
+    CHECK(disk[AT_SESSION] == IN_USE && disk[AT_VERSION] == 2 - is_old);
     for (int i = 0; i < CALLS; i++) {
-        uint32_t code = one_call(&image, mode);
+        uint32_t code = one_call(&image);
         CHECK(code <= MINTLINTEL_WRITTEN || (code == MINTLINTEL_FILE_FAILED && is_off));
         if (is_off && drawn(&state) % 2)
             kill_and_open(&image, mode);
@@ -328,6 +362,8 @@ static void run(enum mintlintel_image_mode mode)
 static void never(void)
 {
     struct mintlintel_image image = {0};
+    is_nameless = 0;
+    used = MINTLINTEL_NEVER;
     left = 1000;
     for (int turn = 0; turn < 2; turn++) {
         long earlier = syncs;
@@ -335,7 +371,7 @@ static void never(void)
         CHECK(disk[AT_SESSION] == IN_USE && disk[AT_MODE] == MINTLINTEL_NEVER);
         CHECK(syncs - earlier == !turn);
         for (int i = 0; i < 20; i++)
-            one_call(&image, MINTLINTEL_NEVER);
+            one_call(&image);
         CHECK(mintlintel_image_close(&image) == MINTLINTEL_DONE && writes > 0);
     }
     CHECK(mintlintel_image_open(&image, path, MINTLINTEL_FLUSH, LUNS, BLOCKS, PAGES, PAGE_BYTES, SECTORS) == MINTLINTEL_DONE);
@@ -347,8 +383,11 @@ int main(int argc, char **argv)
 {
     int rounds = argc > 2 ? atoi(argv[2]) : 20;
     snprintf(path, sizeof path, "%s/power.image", argc > 1 ? argv[1] : "out");
-    for (int round = 0; round < rounds; round++)
-        run(round % 2 ? MINTLINTEL_FLUSH : MINTLINTEL_ALWAYS);
+    for (int round = 0; round < rounds; round++) {
+        is_nameless = round / 4 % 2;
+        changes_mode = round / 8 % 2;
+        run(round % 2 ? MINTLINTEL_FLUSH : MINTLINTEL_ALWAYS, round % 4 / 2);
+    }
     never();
     unlink(path);
     printf("power: %ld calls with %ld power cuts of the machine and %ld kills keep the promises of `always` and `flush`\n", calls, cuts, kills);

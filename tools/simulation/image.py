@@ -12,7 +12,7 @@ from .faults import BROKEN, Fault
 MAGIC = b"\x89MNTL\r\n\x1a"
 HEAD = struct.Struct("<8s6I")
 NAMES = ("luns", "blocks", "pages", "page_bytes", "sectors")
-FORMAT, WORD_BYTES = 1, 8
+FORMATS, WORD_BYTES = (1, 2), 8
 # Where it is installed, the player of images is a program of its own; the launcher finds it by itself.
 INSTALLED = device.TOP / "flashplay-image"
 PROGRAM = str(INSTALLED) if INSTALLED.exists() and "FLASHPLAY" not in os.environ else device.LAUNCHER
@@ -23,8 +23,8 @@ def numbers_of(path, endurance: int) -> dict:
     with open(path, "rb") as source:
         head = source.read(HEAD.size)
     magic, version, *numbers = HEAD.unpack(head) if len(head) == HEAD.size else (b"", 0)
-    if magic != MAGIC or version != FORMAT:
-        raise Fault(f"{path} isn't an image of format {FORMAT}", BROKEN)
+    if magic != MAGIC or version not in FORMATS:
+        raise Fault(f"{path} isn't an image of format 1 or 2", BROKEN)
     named = dict(zip(NAMES, numbers))
     if named["page_bytes"] % WORD_BYTES:
         raise Fault(f"{path} has pages of {named['page_bytes']:,} bytes, and the tools know pages of whole words of {WORD_BYTES} bytes")

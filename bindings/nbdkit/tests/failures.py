@@ -3,10 +3,10 @@
 import re
 
 import faults
-from images import has_ended, history, new_image
+from images import cut_behind, has_ended, history, new_image
 from running import Server, kill, want
 
-HEAD, SPARE = 8192, 32
+HEAD, SPARE, ENTRY, BLOCKS = 8192, 32, 16, 100
 # 1024 sectors on 100 blocks of 16 pages, 4 of which are bad: the sectors need 66.
 SMALL = ["sectors=1024", "blocks=100", "pages=16", "bad=0,17-18,99"]
 FAULTS = ["fail-programs=0.05%", "fail-erases=0.01", "seed=5"]
@@ -24,13 +24,14 @@ def new_failing(shop):
 
 def stamps(image, blocks, pages=16, page_bytes=4096):
     """The spare bytes of these blocks, by docs/FORMATS.md."""
-    spare = -(-pages * SPARE // 4096) * 4096
+    size = -(-pages * SPARE // 4096) * 4096 + pages * page_bytes
     with open(image, "rb") as file:
-        found = {}
-        for block in blocks:
-            file.seek(HEAD + block * (spare + pages * page_bytes))
-            found[block] = file.read(pages * SPARE)
-    return found
+        def read(count, at):
+            file.seek(at)
+            return file.read(count)
+
+        sides = {block: read(1, HEAD + 2 * BLOCKS * size + block * ENTRY)[0] % 2 for block in blocks}
+        return {block: read(pages * SPARE, HEAD + (side * BLOCKS + block) * size) for block, side in sides.items()}
 
 
 def grown(shop):
@@ -110,6 +111,9 @@ def unreadable(shop, image):
 
 
 def failing_image(shop):
+    # What was flushed is there after a power cut, though blocks that have failed since aren't read.
+    cut_behind(shop, "h.pwrite(page * 1024, 0)\nh.flush()\nfor i in range(3000): h.pwrite(page, 4096 * (389 * i % 1024))",
+               "size=4M", "spare=100", "pages=16", "fail-erases=5%", make=new_failing)
     told = [goes_on(shop), *(worn(shop, word, error) for word, error in (("enospc", "ENOSPC"), ("eio", "EIO"), ("readonly", "EPERM")))]
     by_seed(shop)
     unreadable(shop, None)

@@ -1,9 +1,10 @@
-"""history.py URI STATE SEED MOST [SINCE]: a client that knows what a disk may hold after a power cut, or after the end of its server.
+"""history.py URI STATE SEED MOST [SINCE [LAYERS]]: a client that knows what a disk may hold after a power cut, or after the end of its server.
 
 It first compares the disk with STATE, where an earlier run has noted what it did. The disk has to hold the sectors as they were after some
-number of its steps, of which there are at least those up to its last flush or write with FUA, or with `answered` as SINCE all those that were answered. Then it
-writes, trims and flushes at random, one request after the other, until the server is gone or MOST requests were answered, and notes what it did.
-It prints how many steps were answered since the last flush, and how many of these the disk has.
+number of its steps, of which there are at least those up to its last flush or write with FUA, or with `answered` as SINCE all those that were
+answered. Each of several layers is a disk of its own here, with steps of its own. Then it writes, trims and flushes at random, one request
+after the other, until the server is gone or MOST requests were answered, and notes what it did. It prints how many steps were answered since
+the last flush, and how many of these the disk has.
 """
 
 import json
@@ -13,7 +14,7 @@ import sys
 
 import nbd
 
-PAGE = 4096
+PAGE, STRIPE = 4096, 32
 
 
 def pages_of(disk, sectors):
@@ -35,7 +36,7 @@ def steps_that_fit(found, flushed, steps):
     fit, changes = (1 << len(steps) + 1) - 1, {}
     for count, (sector, number) in enumerate(steps, 1):
         changes.setdefault(sector, []).append((count, number))
-    for sector, number in enumerate(found):
+    for sector, number in found:
         times, at, value = 0, 0, flushed[sector]
         for count, later in [*changes.get(sector, ()), (len(steps) + 1, None)]:
             if value == number:
@@ -47,15 +48,21 @@ def steps_that_fit(found, flushed, steps):
     return fit
 
 
-def compare(disk, state, sectors, since):
-    """What the disk holds, if it may hold that."""
-    found = pages_of(disk, sectors)
-    fit = steps_that_fit(found, state["flushed"], state["steps"])
-    answered = state["answered"]
-    least = answered if since == "answered" else state["least"]
+def compare_layer(found, state, since, is_of_layer):
+    """How many of the answered steps of a layer it has, if it may hold what was found."""
+    steps = [(is_of_layer(sector), sector, number) for sector, number in state["steps"]]
+    answered = sum(its for its, _, _ in steps[:state["answered"]])
+    least = answered if since == "answered" else sum(its for its, _, _ in steps[:state["least"]])
+    fit = steps_that_fit([it for it in enumerate(found) if is_of_layer(it[0])], state["flushed"], [step[1:] for step in steps if step[0]])
     if not fit >> least:
         sys.exit(f"lost: {least} steps had to be there, and the disk has {fit.bit_length() - 1}" if fit else "no number of steps gives what the disk has")
-    print(answered, min(answered, fit.bit_length() - 1))
+    return min(answered, fit.bit_length() - 1)
+
+
+def compare(disk, state, sectors, since, layers):
+    """What the disk holds, if it may hold that."""
+    found = pages_of(disk, sectors)
+    print(state["answered"], sum(compare_layer(found, state, since, lambda sector: sector // STRIPE % layers == layer) for layer in range(layers)))
     return found
 
 
@@ -89,7 +96,7 @@ def has_ended(error):
         sys.exit(f"a request failed: {error}")
 
 
-def main(uri, path, seed, most, since=""):
+def main(uri, path, seed, most, since="", layers=1):
     path, draw = pathlib.Path(path), random.Random(int(seed))
     disk = nbd.NBD()
     try:
@@ -100,7 +107,7 @@ def main(uri, path, seed, most, since=""):
     try:
         sectors = disk.get_size() // PAGE
         state = json.loads(path.read_text()) if path.exists() else {"number": 0, "flushed": [0] * sectors, "steps": [], "answered": 0, "least": 0}
-        state["flushed"] = compare(disk, state, sectors, since)
+        state["flushed"] = compare(disk, state, sectors, since, int(layers))
     except nbd.Error as error:  # the server has ended before that: all stays as it is noted
         has_ended(error)
         print(0, 0)

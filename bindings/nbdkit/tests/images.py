@@ -9,14 +9,14 @@ import time
 import faults
 from running import HERE, Failure, Server, fio, kill, want
 
-SMALL = ["size=4M", "spare=10", "pages=16"]  # it collects all the time, so that erases sync it
-ROOMY = ["size=4M", "spare=100", "pages=512"]  # few erases, so that flushes alone do
+SMALL = ["size=4M", "spare=10", "pages=16"]  # it collects all the time
+ROOMY = ["size=4M", "spare=100", "pages=512"]  # few blocks move between two flushes
 STATUS_OF_A_CUT = 3
 
 
-def history(shop, server, seed, most, since=""):
+def history(shop, server, seed, most, since="", layers=1):
     """A run of the client that knows what the disk may hold: what it found, or None if it still runs."""
-    call = ["/usr/bin/python3", HERE / "tests/history.py", server.uri, shop.folder / "state", seed, most, since]
+    call = ["/usr/bin/python3", HERE / "tests/history.py", server.uri, shop.folder / "state", seed, most, since, layers]
     return shop.start(call, shop.folder / "history")
 
 
@@ -101,7 +101,7 @@ def power_cuts(shop):
     cut_behind(shop, "h.pwrite(page * 1024, 0)\nh.flush()\nfor i in range(400): h.pwrite(page, 4096 * (389 * i % 1024))")
     for sync in ("flush", "always"):
         for numbers in (SMALL, ROOMY):
-            told.append(cut_over_and_over(shop, sync, numbers))
+            told.append(cut_over_and_over(shop, sync, numbers, new_image(shop)))
     lost = sum(lost for _, lost in told)
     want(lost > 0, "no cut has lost what wasn't flushed, so a missing flush isn't seen")
     return f"{sum(rounds for rounds, _ in told)} cuts, by which {lost} steps were lost that weren't flushed"
@@ -119,11 +119,11 @@ def cut_by_seed(shop):
     want(left[0] == left[1] and left[0] != left[2], f"by seeds 5, 5 and 6 the images are {'equal' if left[0] == left[2] else 'all different'}")
 
 
-def cut_behind(shop, requests):
+def cut_behind(shop, requests, *words, make=new_image):
     """Behind these requests of `h`, which write the same to each page, and write all of them with FUA or flush them, each page has that."""
     for seed in (1, 2):
-        image = new_image(shop)
-        server = Server(shop, *SMALL, "cut=0", f"seed={seed}", image=image)
+        image = make(shop)
+        server = Server(shop, *(words or SMALL), "cut=0", f"seed={seed}", image=image)
         shop.run(["/usr/bin/python3", "-c", f"import nbd\nh = nbd.NBD()\nh.connect_uri({server.uri!r})\npage = b'\\x11' * 4096\n{requests}"])
         server.process.send_signal(signal.SIGUSR2)
         gone(shop, server, STATUS_OF_A_CUT)
@@ -132,15 +132,15 @@ def cut_behind(shop, requests):
         server.stop()
 
 
-def cut_over_and_over(shop, sync, numbers):
+def cut_over_and_over(shop, sync, numbers, image, layers=1):
     """How many cuts, and how many answered steps were lost by them."""
-    image, draw, since, lost = new_image(shop), random.Random(sync), "answered" if sync == "always" else "", 0
+    draw, since, lost = random.Random(sync), "answered" if sync == "always" else "", 0
     rounds = shop.scaled(6, 50)
     for turn in range(rounds):
         by_signal = turn % 5 == 4
         at = 0 if by_signal else draw.randrange(1, 20 if turn % 5 == 3 else 2500)
         server = Server(shop, *numbers, f"sync={sync}", f"cut={at}", f"seed={turn}", image=image)
-        client = history(shop, server, turn, 1_000_000, since)
+        client = history(shop, server, turn, 1_000_000, since, layers)
         if by_signal:
             time.sleep(draw.uniform(0.1, 0.6))
             server.process.send_signal(signal.SIGUSR2)
@@ -149,14 +149,14 @@ def cut_over_and_over(shop, sync, numbers):
         want("the power is cut at write" in server.log.read_text(), f"a server that doesn't tell of its cut: {server.log.read_text()}")
         lost += answered - found
     server = Server(shop, image=image)
-    answered, found = has_ended(shop, history(shop, server, rounds, 300, since))
+    answered, found = has_ended(shop, history(shop, server, rounds, 300, since, layers))
     server.stop()
     return rounds, lost + answered - found
 
 
-def refused(shop, words, text):
+def refused(shop, words, *texts):
     status, told = faults.start(shop, words)
-    want(status == 1 and text in told, f"{' '.join(words)}: status {status}: {told}")
+    want(status == 1 and all(text in told for text in texts), f"{' '.join(words)}: status {status}: {told}")
 
 
 def image_file(shop):

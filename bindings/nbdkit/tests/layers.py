@@ -3,7 +3,7 @@
 import shutil
 import time
 
-from images import SMALL, has_ended, history, new_image, refused
+from images import SMALL, cut_over_and_over, has_ended, history, new_image, refused
 from running import HERE, Server, fio, kill, want
 
 PAGE, STRIPE = 4096, 32
@@ -11,7 +11,7 @@ PAGE, STRIPE = 4096, 32
 LAYERS, SECTORS = 3, 1003
 NUMBERS = [f"sectors={SECTORS}", "spare=30", "pages=16"]
 NAMES = [f"layer-{layer}-of-{LAYERS}" for layer in range(LAYERS)]
-FLAWS = ["cut=5", "bad=1", "unreadable=1"]
+FLAWS = ["bad=1", "unreadable=1"]
 
 
 def new_directory(shop):
@@ -59,7 +59,7 @@ def in_layers(shop):
         want(len(found) == len(share(data, layer)), f"{name} has {len(found)} bytes, and not {len(share(data, layer))}")
         want(found == share(data, layer), f"{name} has other bytes than its stripes")
         server.stop()
-    return f"{flushes} flushes, {holes} bytes in holes; {killed(shop)}; {refusals(shop)}"
+    return f"{flushes} flushes, {holes} bytes in holes; {killed(shop)}; {cuts(shop)}; {refusals(shop)}"
 
 
 def killed(shop):
@@ -80,6 +80,14 @@ def killed(shop):
     return f"{rounds} kills"
 
 
+def cuts(shop):
+    """Power cuts, after which each layer has a beginning of its requests with all that were flushed, or by sync=always answered."""
+    told = [cut_over_and_over(shop, sync, [*SMALL, f"layers={LAYERS}"], new_directory(shop), LAYERS) for sync in ("flush", "always")]
+    lost = sum(lost for _, lost in told)
+    want(lost > 0, "no cut has lost what wasn't flushed, so a missing flush isn't seen")
+    return f"{sum(rounds for rounds, _ in told)} cuts, by which {lost} steps were lost that weren't flushed"
+
+
 def made(shop, *words):
     """A new directory with a disk of these words, whose server has ended."""
     directory = new_directory(shop)
@@ -92,7 +100,7 @@ def refusals(shop):
     flaws = FLAWS + [f"part={HERE.parents[1] / 'examples/parts/dftl_large_block.toml'}"]
     for flaw in flaws:
         refused(shop, [f"image={directory}", flaw], f"{flaw.split('=')[0]}= needs a disk of one layer, and this one has 3")
-    refused(shop, [f"image={directory}-new", "layers=2", flaws[0]], "cut= needs a disk of one layer, and this one has 2")
+    refused(shop, [f"image={directory}-new", "layers=2", flaws[0]], "bad= needs a disk of one layer, and this one has 2")
     refused(shop, [f"image={directory}", "layers=2"], "has 3 layers, and not 2: give layers=3, or none")
     refused(shop, [f"image={directory}", "layers=1"], "has 3 layers, and not 1")
     refused(shop, [f"image={directory}", "size=8M"], "give the disk's numbers, or none of them")
@@ -137,7 +145,7 @@ def unfinished(shop, words):
     Server(shop, *words[1:], "sectors=200", image=directory).stop()
     for name in (NAMES[0], NAMES[2]):
         (directory / name).unlink()
-    refused(shop, [f"image={directory}", *words], "layer-1-of-3 has 64 sectors and")
+    refused(shop, [f"image={directory}", *words], "layer-1-of-3 has 64 sectors and", "the disk was never finished")
     want((directory / NAMES[2]).exists() and not (directory / NAMES[0]).exists(), "the first layer is made before another one is there")
 
 

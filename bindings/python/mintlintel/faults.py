@@ -104,7 +104,8 @@ class CutShort(MintlintelError):
 
 
 class FileFailed(MintlintelError, OSError):
-    """The file failed: `errno` says why. After a call on an open image close it, and open it again; nothing that was acknowledged is lost."""
+    """The file failed: `errno` says why. After a call on an open image close it, and open it again; nothing that was acknowledged is lost, unless a
+    sync failed."""
 
 
 class BadNumbers(MintlintelError, ValueError):

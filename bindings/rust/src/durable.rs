@@ -97,7 +97,8 @@ pub enum DurableFault {
     OtherVersion,
     OtherNumbers,
     CutShort,
-    /// The file can't be opened or made, or it failed. After a call on an open image drop it, and open it again; nothing that was acknowledged is lost.
+    /// The file can't be opened or made, or it failed. After a call on an open image drop it, and open it again; nothing that was acknowledged is lost,
+    /// unless a sync failed.
     File(io::Error),
     /// A code that the call does not have: the library is of another version.
     Unknown(u32),
