@@ -1,9 +1,10 @@
-//! Compares the commands and mounts of the proved core with the model's rule, over the runs that `crates/durable_runs` prints.
+//! Compares the commands and mounts of the proved core with the model's rule, over the runs that `crates/durable_runs` prints, and over those with
+//! failures, a reserve and lost pages of `bindings/tests/core_runs.c`.
 
 use crate::flash::{Block, Cell, Device, Page, Place, Size, Version, BLOCKS};
-use crate::layer::{Command, Freed, Rule, Wrong};
+use crate::layer::{Array, Command, Freed, Rule, Wrong};
 
-/// Wrong rules that runs without failures and flushes tell apart.
+/// Wrong rules that short runs without failures and flushes tell apart.
 pub const TOLD_APART: [Wrong; 18] = [
     Wrong::FirstFound,
     Wrong::LastFound,
@@ -25,6 +26,27 @@ pub const TOLD_APART: [Wrong; 18] = [
     Wrong::WriteEndsTombstone,
 ];
 
+/// Those that longer runs with failures and lost pages tell apart, too.
+pub const TOLD_APART_BY_FAILURES: [Wrong; 17] = [
+    Wrong::NumberAboveKept,
+    Wrong::TwinBySector,
+    Wrong::CopyNumberedZero,
+    Wrong::CopyNarrowed,
+    Wrong::CopySplit,
+    Wrong::BadBlocksUnread,
+    Wrong::BadBlocksDropped,
+    Wrong::BadBlocksUsed,
+    Wrong::BadBlocksUncounted,
+    Wrong::TornBlocksUncounted,
+    Wrong::StopsAtErased,
+    Wrong::StopsAtUnreadable,
+    Wrong::ReserveUsed,
+    Wrong::ReserveForgotten,
+    Wrong::FailureIgnored,
+    Wrong::LossTakenForTorn,
+    Wrong::TornTakenForLoss,
+];
+
 /// How much was compared.
 #[derive(Default)]
 pub struct Compared {
@@ -32,12 +54,16 @@ pub struct Compared {
     pub calls: u64,
     pub commands: u64,
     pub cuts: u64,
+    pub failures: u64,
+    pub lost: u64,
 }
 
 /// A device of the model that follows the lines.
 struct Follower {
     rule: Rule,
     device: Device,
+    /// The page that has become unreadable since the last mount, and the array before that.
+    lost: Option<(Place, Array)>,
     compared: Compared,
 }
 
@@ -59,7 +85,7 @@ impl Follower {
     fn new(size: Size, wrong: Option<Wrong>) -> Follower {
         let rule = Rule { size, failures: 0, has_reserve: false, freed: Freed::One, drops_tombstones: true, reads_to_gap: false, wrong };
         let device = Device { blocks: [Block::BLANK; BLOCKS], call: None, next_number: 1, failures_left: 0, allowed: 0 };
-        Follower { rule, device, compared: Compared::default() }
+        Follower { rule, device, lost: None, compared: Compared::default() }
     }
 
     fn line(&mut self, words: &[&str]) -> Result<(), String> {
@@ -67,27 +93,41 @@ impl Follower {
             ["device", sizes @ ..] => self.start(&numbers(sizes)?),
             ["call", call @ ..] => self.begin(&numbers(call)?),
             ["nothing"] => self.done(Command::Nothing),
-            ["mount", entries @ ..] => self.mount(entries),
+            ["mount", entries @ .., "losses", losses] => self.mount(entries, Some(losses)),
+            ["mount", entries @ ..] => self.mount(entries, None),
+            ["order", order @ ..] => self.fail(&numbers(order)?),
+            ["lose", place @ ..] => self.lose(&numbers(place)?),
             [name, numbers_of @ .., "done"] => {
                 let command = self.command(name, &numbers(numbers_of)?)?;
                 self.done(command)
             }
-            [name, numbers_of @ .., "cut", part] => {
+            [name, numbers_of @ .., how @ ("cut" | "failed"), part] => {
                 let command = self.command(name, &numbers(numbers_of)?)?;
-                self.cut(command, numbers(&[part])?[0])
+                let has_failed = *how == "failed";
+                self.compared.cuts += u64::from(!has_failed);
+                if has_failed && self.rule.is(Wrong::FailureIgnored) {
+                    return self.done(command);
+                }
+                self.stop(command, numbers(&[part])?[0])
             }
             _ => Err("it is no line of a run".to_string()),
         }
     }
 
+    /// A device's blocks, pages and sectors; and how many of its blocks are in reserve, and whether it drops trims.
     fn start(&mut self, sizes: &[usize]) -> Result<(), String> {
-        let [blocks, pages, sectors] = sizes else {
-            return Err("a device has three numbers".to_string());
+        let (size, reserve, drops_trims) = match *sizes {
+            [blocks, pages, sectors] => (Size { blocks, pages, sectors }, 0, true),
+            [blocks, pages, sectors, reserve, drops_trims] => (Size { blocks, pages, sectors }, reserve, drops_trims == 1),
+            _ => return Err("a device has three numbers, or five".to_string()),
         };
         let devices = self.compared.devices + 1;
         let compared = std::mem::take(&mut self.compared);
-        *self = Follower::new(Size { blocks: *blocks, pages: *pages, sectors: *sectors }, self.rule.wrong);
+        *self = Follower::new(size, self.rule.wrong);
         self.compared = Compared { devices, ..compared };
+        self.rule.has_reserve = reserve > 0;
+        self.rule.drops_tombstones = drops_trims;
+        self.device.blocks[size.blocks - reserve..size.blocks].iter_mut().for_each(|block| block.is_reserve = true);
         Ok(())
     }
 
@@ -163,8 +203,8 @@ impl Follower {
         *self.device.cell_mut(place) = Cell { now: page, sure: page, kept };
     }
 
-    /// A cut leaves a part of the command: see `Flash::cut` of the program.
-    fn cut(&mut self, command: Command, part: usize) -> Result<(), String> {
+    /// A cut or a failure leaves a part of the command: see `Flash::cut` of the program.
+    fn stop(&mut self, command: Command, part: usize) -> Result<(), String> {
         let call = self.device.call.ok_or("there is no call")?;
         let mut digits = part;
         for (place, page) in self.rule.puts(&self.device, call, command) {
@@ -176,13 +216,51 @@ impl Follower {
             digits /= 3;
         }
         self.compared.commands += 1;
-        self.compared.cuts += 1;
         Ok(())
     }
 
-    /// The map has to be one that a mount may make, with the array from before the call or from after it.
-    fn mount(&mut self, entries: &[&str]) -> Result<(), String> {
-        let before = self.rule.array(&self.device);
+    /// The block of the command has failed. It is bad and gets the last number, and the first one in reserve comes in use: so the core's driver numbers
+    /// them.
+    fn fail(&mut self, order: &[usize]) -> Result<(), String> {
+        let blocks = &mut self.device.blocks[..self.rule.size.blocks];
+        let failed = *order.last().ok_or("there is no block")?;
+        let expected = (0..blocks.len()).filter(|block| *block != failed).chain([failed]);
+        if !expected.eq(order.iter().copied()) {
+            return Err("it is no order with one block at its end".to_string());
+        }
+        if !self.rule.is(Wrong::FailureIgnored) {
+            blocks[failed].bad = true;
+            if !self.rule.is(Wrong::ReserveForgotten) {
+                blocks.iter_mut().filter(|block| block.is_reserve).take(1).for_each(|block| block.is_reserve = false);
+            }
+        }
+        blocks[failed..].rotate_left(1);
+        self.compared.failures += 1;
+        Ok(())
+    }
+
+    /// A page becomes unreadable.
+    fn lose(&mut self, place: &[usize]) -> Result<(), String> {
+        let [block, page] = *place else {
+            return Err("a page has a block and a number".to_string());
+        };
+        self.lost = Some(((block, page), self.rule.array(&self.device)));
+        self.put((block, page), Page::Unreadable);
+        self.compared.lost += 1;
+        Ok(())
+    }
+
+    /// The map has to be one that a mount may make, with the array from before the call or from after it, unless a page was lost and the flash shows
+    /// no trace of it or a loss is told. The losses have to be the rule's.
+    fn mount(&mut self, entries: &[&str], losses: Option<&str>) -> Result<(), String> {
+        let told = self.rule.losses(&self.device);
+        if losses.map_or(false, |losses| losses != told.to_string()) {
+            return Err(format!("the rule has {told} losses"));
+        }
+        let (before, may_differ) = match self.lost.take() {
+            Some((place, before)) => (before, told > 0 || !self.rule.is_missed(&self.device, place)),
+            None => (self.rule.array(&self.device), false),
+        };
         let call = self.device.call;
         let map: Vec<Option<(Place, u8)>> = entries.iter().map(|entry| place(entry)).collect::<Result<_, _>>()?;
         let mounted = self.rule.mount(&self.device);
@@ -195,7 +273,7 @@ impl Follower {
         if !values.eq(array[..self.rule.size.sectors].iter().copied()) {
             return Err("the values are not the model's".to_string());
         }
-        if array != before && call.map(|call| self.rule.after(before, call)) != Some(array) {
+        if array != before && call.map(|call| self.rule.after(before, call)) != Some(array) && !may_differ {
             return Err("the array is neither the one before the call nor the one after it".to_string());
         }
         self.device = *device;

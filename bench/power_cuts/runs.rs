@@ -47,12 +47,11 @@ impl Run {
         self.named(&format!("failures {failures}"))
     }
 
-    /// The rule of the proved core, and blocks for as many failures that aren't in use before.
+    /// The rule of the proved core, and blocks for as many failures that aren't in use before. Tombstones are dropped, as of an image.
     fn reserve(mut self, failures: u8) -> Run {
         self.model.rule.failures = failures;
         self.model.rule.has_reserve = true;
         self.model.rule.freed = Freed::One;
-        self.model.rule.drops_tombstones = false;
         self.named(&format!("reserve {failures}"))
     }
 
@@ -61,6 +60,7 @@ impl Run {
         self.named(&format!("freed {freed:?}"))
     }
 
+    /// As over a chip whose half-erased pages may not read the same each time.
     fn keeps_tombstones(mut self) -> Run {
         self.model.rule.drops_tombstones = false;
         self.named("tombstones kept")
@@ -96,7 +96,6 @@ impl Run {
     /// The rule of the proved core.
     fn core(mut self) -> Run {
         self.model.rule.freed = Freed::One;
-        self.model.rule.drops_tombstones = false;
         self.named("core")
     }
 
@@ -172,8 +171,11 @@ pub fn all() -> Vec<Run> {
         run(4, 1, 1).reserve(1),
         run(5, 1, 2).reserve(1).one_value(),
         run(5, 1, 1).reserve(2).one_value(),
+        run(4, 1, 1).reserve(1).keeps_tombstones(),
+        run(5, 1, 2).reserve(1).keeps_tombstones().one_value(),
         run(4, 1, 2),
         run(3, 2, 1).core().decays(),
+        run(3, 2, 1).core().keeps_tombstones().decays(),
         run(3, 2, 2).one_value().core().decays(),
         run(4, 1, 1).reserve(1).decays(),
         run(3, 2, 3).one_value().core().decays().long(),
@@ -181,6 +183,7 @@ pub fn all() -> Vec<Run> {
         run(3, 2, 2).ranges(2).long(),
         run(3, 2, 2).ranges(2).keeps_tombstones().long(),
         run(3, 2, 2).ranges(2).one_value().core(),
+        run(3, 2, 2).ranges(2).one_value().core().keeps_tombstones().long(),
         run(3, 2, 3).ranges(3).one_value().core().long(),
         run(4, 2, 5).ranges(3).one_value().starts(Start::Tombstone).core().up_to(2_000_000).long(),
         run(4, 2, 1).failures(1).long(),
@@ -190,8 +193,10 @@ pub fn all() -> Vec<Run> {
         run(3, 3, 1).long(),
         run(4, 2, 3).failures(1).one_value().long(),
         run(4, 2, 1).reserve(1).one_value().long(),
+        run(4, 2, 1).reserve(1).one_value().keeps_tombstones().long(),
         run(4, 2, 1).reserve(1).long(),
         run(4, 2, 3).reserve(1).one_value().long(),
+        run(4, 2, 3).reserve(1).one_value().keeps_tombstones().long(),
         run(5, 2, 3).reserve(2).one_value().up_to(2_000_000).long(),
         run(4, 2, 3).failures(1).freed(Freed::FewestFirst).one_value().long(),
         weak(run(3, 2, 1)).up_to(2_000_000).long(),

@@ -117,7 +117,7 @@ static uint32_t next_destination(struct broom *broom) {
         broom->spare = NO_BLOCK;
         broom->filled = 0;
     }
-    broom->filled++;
+    atomic_store(&broom->room, broom->all->pages - ++broom->filled);
     return broom->destination;
 }
 
@@ -362,8 +362,23 @@ static int erase_drained(struct broom *broom, int are_all) {
     return was_there;
 }
 
+// Whether a broom leaves the drains to another one with more room in the block that it copies to. A block is won back for hosts once a broom has room for
+// all that it moves. So where pages die one by one, a single broom needs no more of them than a block has.
+static int leaves_drains(struct broom *broom) {
+    struct brooms *all = broom->all;
+    uint32_t room = atomic_load(&broom->room);
+    for (uint32_t i = 0; i < all->count; i++) {
+        uint32_t its = atomic_load(&all->brooms[i].room);
+        if ((its > room || (its == room && i < broom->number)) && stock_leaves_to(all->stock, i))
+            return 1;
+    }
+    return 0;
+}
+
 // Drains a block. 0 if there is nothing to gain, or the broom's next spare still waits to be erased.
 static int drain(struct broom *broom) {
+    if (leaves_drains(broom))
+        return 0;
     uint32_t block = 0, moved = 0, code = drain_one(broom, &block, &moved), copies = new_copies(broom);
     broom->was_poor = copies > broom->all->pages - broom->all->pages / POOR_PART;
     switch (code) {

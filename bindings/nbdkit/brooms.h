@@ -33,6 +33,7 @@ struct broom {
     uint32_t choices;         // how often it has chosen between the first two
     int was_poor; // its last drain moved nearly a whole block
     uint32_t destination, filled; // the block that it copies to, and how many of its pages are copies; or NO_BLOCK
+    _Atomic uint32_t room;        // its pages that are left
     uint32_t spare;               // the block after that, or NO_BLOCK
     uint64_t random;              // for the sectors whose blocks are compared
     tally copies;                 // its programs, by the library's tally of its seat

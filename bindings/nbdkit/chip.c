@@ -76,6 +76,7 @@ static int chip_copyback(void *at, uint32_t from_block, uint32_t from_page, uint
     static const uint8_t nothing[MAX_PAGE_BYTES];
     struct chip *chip = at;
     chip->is_untimed = 0;
+    chip->has_collected = 1;
     chip->end = luns_copy(&chip->luns, from_block, block, chip->end);
     return fails(chip, block, chip->options->fail_programs) ? fail_program(chip, block, page, nothing)
                                                             : chip->nand.copyback(chip->nand.chip, from_block, from_page, block, page);
@@ -84,6 +85,7 @@ static int chip_copyback(void *at, uint32_t from_block, uint32_t from_page, uint
 static int chip_erase(void *at, uint32_t block) {
     struct chip *chip = at;
     chip->is_untimed = 0;
+    chip->has_collected = 1;
     chip->end = luns_erase(&chip->luns, block, chip->end);
     if (!fails(chip, block, chip->options->fail_erases))
         return chip->nand.erase(chip->nand.chip, block);
@@ -173,6 +175,7 @@ static int take_bad_blocks(struct chip *chip) {
         return -1;
     }
     for (uint32_t block = 0; block < chip->numbers.blocks; block++) {
+        chip->counts.factory_bad_blocks += (uint32_t) numbers_have(bad, block);
         if (chip->blocks[block] == BAD || !numbers_have(bad, block))
             continue;
         if (!is_erased(chip, block)) {
@@ -184,10 +187,14 @@ static int take_bad_blocks(struct chip *chip) {
     return 0;
 }
 
+uint32_t chip_spare(const struct chip *chip, uint32_t bad_blocks) {
+    uint32_t good = chip->numbers.blocks - bad_blocks, needed = chip->numbers.sectors / chip->numbers.pages + 2;
+    return good > needed ? good - needed : 0;
+}
+
 // Hides half of the blocks that the sectors don't need, of those that are erased.
 static void keep_reserve(struct chip *chip) {
-    uint32_t good = chip->numbers.blocks - chip->counts.bad_blocks, needed = chip->numbers.sectors / chip->numbers.pages + 2;
-    uint32_t wanted = may_fail(chip) && good > needed ? (good - needed) / 2 : 0;
+    uint32_t wanted = may_fail(chip) ? chip_spare(chip, chip->counts.bad_blocks) / 2 : 0;
     for (uint32_t block = chip->numbers.blocks; block-- > 0 && chip->counts.reserve_blocks < wanted;) {
         if (chip->blocks[block] != GOOD || !is_erased(chip, block))
             continue;
@@ -307,6 +314,7 @@ void chip_start(struct chip *chip) {
 void chip_ask(struct chip *chip, uint64_t from) {
     chip->end = from;
     chip->is_untimed = 0;
+    chip->has_collected = 0;
 }
 
 void chip_look(struct chip *chip) {
@@ -315,4 +323,8 @@ void chip_look(struct chip *chip) {
 
 uint64_t chip_done(const struct chip *chip) {
     return chip->end;
+}
+
+int chip_has_collected(const struct chip *chip) {
+    return chip->has_collected;
 }

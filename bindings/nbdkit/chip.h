@@ -21,7 +21,7 @@
 struct chip_counts {
     struct mintlintel_totals before; // what the layer did before its last mount here
     uint64_t failed_programs, failed_erases;
-    uint32_t bad_blocks, reserve_blocks;
+    uint32_t bad_blocks, factory_bad_blocks, reserve_blocks;
 };
 
 struct chip {
@@ -35,6 +35,7 @@ struct chip {
     uint64_t random;
     uint64_t end; // of the last command
     int is_untimed; // reads take no time
+    int has_collected; // since the last request, or page of one, has begun
     int is_worn;
     char *file; // with the numbers of the blocks that have become bad
     struct chip_counts counts;
@@ -51,11 +52,17 @@ void chip_start(struct chip *chip);
 void chip_ask(struct chip *chip, uint64_t from);
 uint64_t chip_done(const struct chip *chip);
 
+// Whether the layer has copied a page or erased a block for it.
+int chip_has_collected(const struct chip *chip);
+
 // What comes next takes no time, up to the next request.
 void chip_look(struct chip *chip);
 
 // Mounts with a hidden block more, if there is one, after the layer has had no block left: 1 if the call can be made once more.
 int chip_mount_again(struct chip *chip, struct mintlintel_durable *device);
+
+// The blocks that the sectors don't need, without so many bad ones.
+uint32_t chip_spare(const struct chip *chip, uint32_t bad_blocks);
 
 // Too few blocks are good: the disk can be read, and not be changed any more. This is so after the next start too.
 void chip_wear_out(struct chip *chip);

@@ -53,7 +53,7 @@ static struct stock_counts counts_of_stock(struct stock *stock) {
         .free = stock->free_count > 0 ? (uint64_t) stock->free_count : 0,
         .open = stock->open_count,
         .waits = stock->waits,
-        .waited_ns = stock->waited_ns,
+        .waited_ns = stock->waited.nanoseconds,
         .gave_up = stock->gave_up,
         .miscounts = stock->miscounts,
         .lost_wake_ups = stock->lost_wake_ups,

@@ -157,9 +157,34 @@ static int changed(struct image_disk *disk, const char *call, uint32_t code) {
     return code == MINTLINTEL_EXHAUSTED || chip_is_worn(&disk->chip) ? fail_worn(disk) : fail(disk, call, code);
 }
 
-// A request, or a page of one, begins with its first command; its commands are done by `until`, so far.
-static void note_time(const struct image_disk *disk, uint64_t *until) {
-    *until = *until > chip_done(&disk->chip) ? *until : chip_done(&disk->chip);
+// A request: when it began, when its commands are done, so far, and whether pages had to be copied for it, or a block erased.
+struct request {
+    uint64_t began, until;
+    int collects;
+};
+
+static struct request begin_request(void) {
+    uint64_t now = luns_now();
+    return (struct request){.began = now, .until = now};
+}
+
+// Notes what a request, or a page of one, has done since chip_ask.
+static void note(struct image_disk *disk, struct request *request) {
+    uint64_t end = chip_done(&disk->chip);
+    request->until = request->until > end ? request->until : end;
+    disk->collecting += !request->collects && chip_has_collected(&disk->chip);
+    request->collects |= chip_has_collected(&disk->chip);
+}
+
+// Waits, without the lock, until a request's commands are done.
+static void end_request(struct image_disk *disk, const struct request *request) {
+    luns_sleep(request->until);
+    if (!request->collects)
+        return;
+    pthread_mutex_lock(&disk->mutex);
+    disk->collecting--;
+    waits_add(&disk->waited, luns_now() - request->began);
+    pthread_mutex_unlock(&disk->mutex);
 }
 
 // A sector's page, with zeros if it is empty. `is_empty` is set too.
@@ -285,16 +310,16 @@ static int read_ahead(struct image_disk *disk, uint8_t *to, struct range *range)
 }
 
 // The next pages of a read.
-static int read_turn(struct image_disk *disk, uint8_t *to, struct range *range, uint64_t began, uint64_t *until) {
+static int read_turn(struct image_disk *disk, uint8_t *to, struct range *range, struct request *request) {
     struct piece piece;
     int result = 0;
     if (read_ahead(disk, to, range))
         return 0;
     pthread_mutex_lock(&disk->mutex);
     for (uint32_t done = 0; result == 0 && done < PAGES_OF_A_TURN && next_piece(range, &piece); done++) {
-        chip_ask(&disk->chip, began);
+        chip_ask(&disk->chip, request->began);
         result = load_piece(disk, &piece, to);
-        note_time(disk, until);
+        note(disk, request);
         to += piece.count;
     }
     pthread_mutex_unlock(&disk->mutex);
@@ -303,22 +328,22 @@ static int read_turn(struct image_disk *disk, uint8_t *to, struct range *range, 
 
 int image_disk_read(struct image_disk *disk, uint8_t *to, uint32_t count, uint64_t offset) {
     struct range range = {.offset = offset, .count = count, .page = disk->options->page};
-    uint64_t began = luns_now(), until = began;
+    struct request request = begin_request();
     int result = 0;
     while (result == 0 && range.count > 0)
-        result = read_turn(disk, to + (count - range.count), &range, began, &until);
-    luns_sleep(until);
+        result = read_turn(disk, to + (count - range.count), &range, &request);
+    end_request(disk, &request);
     return result;
 }
 
 // ---- Writes: the lock is held while the layer says what to do, and not while that is done.
 
 // A part of a page.
-static int write_part(struct image_disk *disk, const struct piece *piece, const uint8_t *from, uint64_t began, uint64_t *until) {
+static int write_part(struct image_disk *disk, const struct piece *piece, const uint8_t *from, struct request *request) {
     pthread_mutex_lock(&disk->mutex);
-    chip_ask(&disk->chip, began);
+    chip_ask(&disk->chip, request->began);
     int result = store_part(disk, piece, from);
-    note_time(disk, until);
+    note(disk, request);
     pthread_mutex_unlock(&disk->mutex);
     return result;
 }
@@ -334,7 +359,7 @@ static void lock_for_write(struct image_disk *disk) {
 }
 
 // Whole pages, at most those of a turn.
-static int write_pages(struct image_disk *disk, const uint8_t *from, uint32_t sector, uint32_t count, uint64_t began, uint64_t *until) {
+static int write_pages(struct image_disk *disk, const uint8_t *from, uint32_t sector, uint32_t count, struct request *request) {
     size_t page = disk->options->page;
     uint32_t checks[PAGES_OF_A_TURN];
     int result = 0;
@@ -343,9 +368,9 @@ static int write_pages(struct image_disk *disk, const uint8_t *from, uint32_t se
     lock_for_write(disk);
     mtl_image_keep(&disk->image, from, checks, count);
     for (uint32_t i = 0; result == 0 && i < count; i++) {
-        chip_ask(&disk->chip, began);
+        chip_ask(&disk->chip, request->began);
         result = store(disk, sector + i, from + i * page);
-        note_time(disk, until);
+        note(disk, request);
     }
     uint64_t ticket = mtl_image_let_go(&disk->image);
     pthread_mutex_unlock(&disk->mutex);
@@ -355,43 +380,43 @@ static int write_pages(struct image_disk *disk, const uint8_t *from, uint32_t se
 }
 
 // What comes next of a write: whole pages, or a part of one.
-static int write_turn(struct image_disk *disk, const uint8_t *from, struct range *range, uint64_t began, uint64_t *until) {
+static int write_turn(struct image_disk *disk, const uint8_t *from, struct range *range, struct request *request) {
     uint32_t page = range->page, whole = range->count / page, count = whole < PAGES_OF_A_TURN ? whole : PAGES_OF_A_TURN;
     uint32_t sector = (uint32_t) (range->offset / page);
     struct piece piece;
     if (range->offset % page != 0 || count == 0) {
         next_piece(range, &piece);
-        return write_part(disk, &piece, from, began, until);
+        return write_part(disk, &piece, from, request);
     }
     range->offset += (uint64_t) count * page;
     range->count -= count * page;
-    return write_pages(disk, from, sector, count, began, until);
+    return write_pages(disk, from, sector, count, request);
 }
 
 int image_disk_write(struct image_disk *disk, const uint8_t *from, uint32_t count, uint64_t offset) {
     struct range range = {.offset = offset, .count = count, .page = disk->options->page};
-    uint64_t began = luns_now(), until = began;
+    struct request request = begin_request();
     int result = 0;
     while (result == 0 && range.count > 0)
-        result = write_turn(disk, from + (count - range.count), &range, began, &until);
-    luns_sleep(until);
+        result = write_turn(disk, from + (count - range.count), &range, &request);
+    end_request(disk, &request);
     return result;
 }
 
 int image_disk_trim(struct image_disk *disk, uint32_t count, uint64_t offset) {
     struct sectors sectors = whole_sectors(count, offset, disk->options->page);
-    uint64_t began = luns_now(), until = began;
+    struct request request = begin_request();
     int result = 0;
     pthread_mutex_lock(&disk->mutex);
     for (uint64_t sector = sectors.first; result == 0 && sector < sectors.end; sector += SECTORS_OF_A_TURN) {
         uint64_t left = sectors.end - sector;
-        chip_ask(&disk->chip, began);
+        chip_ask(&disk->chip, request.began);
         result = trim_sectors(disk, (uint32_t) sector, left < SECTORS_OF_A_TURN ? (uint32_t) left : SECTORS_OF_A_TURN);
-        note_time(disk, &until);
+        note(disk, &request);
         end_turn(disk);
     }
     pthread_mutex_unlock(&disk->mutex);
-    luns_sleep(until);
+    end_request(disk, &request);
     return result;
 }
 
@@ -412,19 +437,19 @@ int image_disk_zero(struct image_disk *disk, uint32_t count, uint64_t offset, in
     struct piece piece;
     if (may_trim && image_disk_trim(disk, count, offset) == -1)
         return -1;
-    uint64_t began = luns_now(), until = began;
+    struct request request = begin_request();
     int result = 0;
     pthread_mutex_lock(&disk->mutex);
     for (uint32_t done = 1; result == 0 && next_piece(&range, &piece); done++) {
-        chip_ask(&disk->chip, began);
+        chip_ask(&disk->chip, request.began);
         if (!piece.is_whole || !may_trim)
             result = zero_piece(disk, &piece, may_trim);
-        note_time(disk, &until);
+        note(disk, &request);
         if (done % PAGES_OF_A_TURN == 0)
             end_turn(disk);
     }
     pthread_mutex_unlock(&disk->mutex);
-    luns_sleep(until);
+    end_request(disk, &request);
     return result;
 }
 

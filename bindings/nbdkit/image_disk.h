@@ -11,6 +11,7 @@
 
 #include "chip.h"
 #include "options.h"
+#include "waits.h"
 
 // Who has the lock lets others have it after so many pages of a request.
 enum { PAGES_OF_A_TURN = 32 };
@@ -21,6 +22,8 @@ struct image_disk {
     struct mintlintel_image image;
     struct chip chip;
     uint64_t reads, writes, trims, flushes; // what clients asked for, in pages, and flushes
+    struct waits waited; // of requests for which pages had to be copied, or a block erased
+    uint32_t collecting; // such requests that aren't answered yet
     struct unreadable unreadable;
     int has_failed; // a failure was told
     int is_worn;    // too few blocks are good, which was told: nothing changes any more

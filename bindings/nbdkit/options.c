@@ -16,6 +16,7 @@
 enum {
     MAX_SECTORS_OF_AN_IMAGE = 268435456,
     BLOCKS_OF_AN_IMAGE = 4, // that are kept to collect with
+    FEW_SPARE = 20,         // with fewer spare blocks none is kept free ahead of writes
     FEWEST_PAGES = 64,      // of a block, by default
     MOST_PAGES = 1024,
     BLOCKS_BEFORE_PAGES = 512, // so many blocks an image has before these are made larger
@@ -187,7 +188,7 @@ static int set_file(char **file, const char *value) {
 // Notes of which device a parameter is.
 static void note_kind(struct options *options, const char *key) {
     static const char *const numbers[] = {"size", "spare", "page", "pages", "sectors", "blocks", "luns"};
-    static const char *const of_memory[] = {"hosts", "brooms", "low", "high", "wait", "warn", "endurance", "age", "stats"};
+    static const char *const of_memory[] = {"hosts", "brooms", "low", "high", "wait", "warn", "age", "stats"};
     static const char *const of_image[] = {"layers", "sync", "cut", "fail-programs", "fail-erases", "bad"};
     for (size_t i = 0; i < sizeof numbers / sizeof *numbers; i++)
         options->has_numbers |= strcmp(key, numbers[i]) == 0;
@@ -342,10 +343,11 @@ static int choose_marks(struct options *options) {
     uint32_t spare = options->blocks > used ? (uint32_t) (options->blocks - used) : 0;
     options->spare_blocks = spare;
     uint32_t most = 8 + 2 * options->brooms;
+    uint32_t ahead = spare < FEW_SPARE ? 0 : spare / 4;
     if (options->low == 0)
-        options->low = within(spare / 4, 1, options->high ? within(options->high, 1, most) : most);
+        options->low = within(ahead, 1, options->high ? within(options->high, 1, most) : most);
     if (options->high == 0 && options->low <= options->blocks)
-        options->high = within(options->low + (uint64_t) within(spare / 4, 1, 8), 1, options->blocks);
+        options->high = within(options->low + (uint64_t) within(ahead, 0, 8), 1, options->blocks);
     if (options->low > options->blocks || options->high > options->blocks) {
         nbdkit_error("low=%" PRIu32 " or high=%" PRIu32 ": the device has %" PRIu32 " blocks, and no more can be free",
                      options->low, options->high, options->blocks);

@@ -7,6 +7,8 @@
 #include <stdio.h>
 #include <stdlib.h>
 
+#include <flash.h>
+
 enum { REPORT_BLOCK = 4096 };
 
 // What was done, in pages and blocks.
@@ -16,8 +18,8 @@ struct work {
 
 // What the stock knows, at one moment.
 struct supply {
-    uint64_t free, open, refused, waited_ns, waiting;
-    uint64_t waits_by_time[WAIT_STEPS];
+    uint64_t free, open, refused, waiting;
+    struct waits waited;
 };
 
 static struct work work_of(struct device *device) {
@@ -42,11 +44,9 @@ static struct supply supply_of(struct stock *stock) {
         .free = stock->free_count > 0 ? (uint64_t) stock->free_count : 0,
         .open = stock->open_count,
         .refused = stock->gave_up,
-        .waited_ns = stock->waited_ns,
+        .waited = stock->waited,
         .waiting = stock->starving,
     };
-    for (int i = 0; i < WAIT_STEPS; i++)
-        supply.waits_by_time[i] = stock->waits_by_time[i];
     pthread_mutex_unlock(&stock->mutex);
     return supply;
 }
@@ -57,16 +57,16 @@ static void tell_blocks(FILE *file, const uint32_t *erases, uint32_t blocks) {
     fprintf(file, "]\n}\n");
 }
 
-static void tell_waits(FILE *file, const struct supply *supply) {
+static void tell_waits(FILE *file, const struct waits *waited, uint64_t waiting) {
     uint64_t writes = 0;
     for (int i = 0; i < WAIT_STEPS; i++)
-        writes += supply->waits_by_time[i];
+        writes += waited->by_time[i];
     fprintf(file, "  \"waits\": {\"writes\": %" PRIu64 ", \"microseconds\": %" PRIu64 ", \"now\": %" PRIu64 ", \"by_time\": [\n", writes,
-            supply->waited_ns / 1000, supply->waiting);
+            waited->nanoseconds / 1000, waiting);
     for (int i = 0; i + 1 < WAIT_STEPS; i++)
         fprintf(file, "    {\"up_to_microseconds\": %" PRIu64 ", \"writes\": %" PRIu64 "},\n", (uint64_t) FIRST_WAIT_STEP_US << i,
-                supply->waits_by_time[i]);
-    fprintf(file, "    {\"up_to_microseconds\": null, \"writes\": %" PRIu64 "}]},\n", supply->waits_by_time[WAIT_STEPS - 1]);
+                waited->by_time[i]);
+    fprintf(file, "    {\"up_to_microseconds\": null, \"writes\": %" PRIu64 "}]},\n", waited->by_time[WAIT_STEPS - 1]);
 }
 
 // A line with part / whole in three decimals, or null if there is no whole.
@@ -121,7 +121,7 @@ static int tell(FILE *file, struct device *device) {
     tell_ratio(file, "write_amplification", work.programs + work.copies, work.programs);
     fprintf(file, "  \"is_readonly\": %s,\n", atomic_load(&device->is_readonly) ? "true" : "false");
     tell_work(file, options, &work, &supply);
-    tell_waits(file, &supply);
+    tell_waits(file, &supply.waited, supply.waiting);
     tell_blocks(file, erases, options->blocks);
     free(erases);
     return 0;
@@ -130,6 +130,9 @@ static int tell(FILE *file, struct device *device) {
 // What the layers of an image's disk have done together since the server's start.
 struct image_work {
     uint64_t reads, writes, trims, flushes, failed_programs, failed_erases, bad_blocks, reserve_blocks;
+    uint64_t all_erases, spare, spare_left; // in the disk's life; blocks that the sectors don't need, and those of them that are good
+    uint64_t waiting;
+    struct waits waited;
     struct mintlintel_totals totals;
     int is_readonly;
 };
@@ -138,6 +141,21 @@ static void add_totals(struct mintlintel_totals *sum, const struct mintlintel_to
     sum->programs += totals->programs;
     sum->copies += totals->copies;
     sum->erases += totals->erases;
+}
+
+static void add_waits(struct image_work *work, const struct image_disk *disk) {
+    work->waiting += disk->collecting;
+    work->waited.nanoseconds += disk->waited.nanoseconds;
+    for (int i = 0; i < WAIT_STEPS; i++)
+        work->waited.by_time[i] += disk->waited.by_time[i];
+}
+
+static void add_blocks(struct image_work *work, const struct image_disk *disk) {
+    const uint32_t *erases = mtl_durable_erases(&disk->image.device);
+    for (uint32_t block = 0; block < disk->options->blocks; block++)
+        work->all_erases += erases[block];
+    work->spare += chip_spare(&disk->chip, disk->chip.counts.factory_bad_blocks);
+    work->spare_left += chip_spare(&disk->chip, disk->chip.counts.bad_blocks);
 }
 
 static void add_work(struct image_work *work, struct image_disk *disk) {
@@ -156,6 +174,8 @@ static void add_work(struct image_work *work, struct image_disk *disk) {
     work->bad_blocks += counts->bad_blocks;
     work->reserve_blocks += counts->reserve_blocks;
     work->is_readonly |= disk->is_worn;
+    add_waits(work, disk);
+    add_blocks(work, disk);
     pthread_mutex_unlock(&disk->mutex);
 }
 
@@ -172,8 +192,11 @@ static void tell_image(FILE *file, struct layers *layers) {
     };
     tell_numbers(file, layers->options);
     tell_lines(file, &several, layers->count > 1);
+    tell_ratio(file, "percentage_used", 100 * work.all_erases, layers->options->blocks * (uint64_t) (layers->options->endurance - 1));
+    tell_ratio(file, "available_spare", 100 * work.spare_left, work.spare);
     tell_ratio(file, "write_amplification", work.totals.programs + work.totals.copies, work.writes);
     tell_lines(file, lines, sizeof lines / sizeof *lines);
+    tell_waits(file, &work.waited, work.waiting);
     fprintf(file, "  \"is_readonly\": %s,\n", work.is_readonly ? "true" : "false");
     fprintf(file, "  \"sync\": \"%s\"\n}\n", modes[layers->options->sync]);
 }

@@ -63,7 +63,8 @@ int stock_begin(struct stock *stock, const struct options *options, struct mintl
     stock->hosts = aligned_alloc(_Alignof(struct host), hosts * sizeof *stock->hosts);
     stock->fruitless_at = calloc(options->brooms + 1, sizeof *stock->fruitless_at);
     stock->poor_at = calloc(options->brooms + 1, sizeof *stock->poor_at);
-    if (!stock->hosts || !stock->fruitless_at || !stock->poor_at) {
+    stock->works = calloc(options->brooms + 1, sizeof *stock->works);
+    if (!stock->hosts || !stock->fruitless_at || !stock->poor_at || !stock->works) {
         nbdkit_error("there is no memory for the handles");
         stock_end(stock);
         return -1;
@@ -79,6 +80,7 @@ void stock_end(struct stock *stock) {
     free(stock->hosts);
     free(stock->fruitless_at);
     free(stock->poor_at);
+    free(stock->works);
     pthread_cond_destroy(&stock->for_any);
     pthread_cond_destroy(&stock->for_write);
     pthread_cond_destroy(&stock->for_broom);
@@ -300,14 +302,8 @@ static void wait_to_write(struct stock *stock, struct attempt *attempt) {
 }
 
 static void end_attempt(struct stock *stock, const struct attempt *attempt) {
-    if (attempt->began == 0)
-        return;
-    uint64_t waited = now() - attempt->began;
-    uint32_t step = 0;
-    while (step + 1 < WAIT_STEPS && waited > (uint64_t) FIRST_WAIT_STEP_US * 1000 << step)
-        step++;
-    stock->waits_by_time[step]++;
-    stock->waited_ns += waited;
+    if (attempt->began != 0)
+        waits_add(&stock->waited, now() - attempt->began);
 }
 
 // Whether a broom that has gained little rests: no write waits, and no block was opened since.
@@ -452,6 +448,7 @@ void stock_give_refused(struct stock *stock, struct host *host, struct attempt *
     if (attempt->is_last) {
         end_attempt(stock, attempt);
         stock->gave_up++;
+        stock->refused_at = stock->opened + 1;
     } else {
         stock->waiting_to_write++;
         atomic_fetch_add(&stock->waiting, 1);
@@ -501,6 +498,7 @@ int stock_begin_round(struct stock *stock, uint32_t broom, uint64_t *known) {
     *known = atomic_load(&stock->changes);
     int goes_on = !stock->is_stopping;
     stock->working += (uint32_t) goes_on;
+    stock->works[broom] = (uint8_t) goes_on;
     pthread_mutex_unlock(&stock->mutex);
     return goes_on;
 }
@@ -508,12 +506,20 @@ int stock_begin_round(struct stock *stock, uint32_t broom, uint64_t *known) {
 void stock_end_round(struct stock *stock, uint32_t broom, uint64_t known, int was_fruitless, int was_poor) {
     pthread_mutex_lock(&stock->mutex);
     stock->working--;
+    stock->works[broom] = 0;
     stock->poor_at[broom] = was_poor ? stock->opened + 1 : 0;
     stock->fruitless_at[broom] = was_fruitless ? known : 0;
     stock->gained_at = was_fruitless ? stock->gained_at : now();
     if (was_fruitless && (stock->is_gathering || is_hopeless(stock)))
         stop_gathering(stock);
     pthread_mutex_unlock(&stock->mutex);
+}
+
+int stock_leaves_to(struct stock *stock, uint32_t broom) {
+    pthread_mutex_lock(&stock->mutex);
+    int looks = stock->refused_at == stock->opened + 1 && (stock->works[broom] || is_wanted(stock, broom));
+    pthread_mutex_unlock(&stock->mutex);
+    return looks;
 }
 
 void stock_add_free(struct stock *stock) {

@@ -19,6 +19,7 @@
 
 #include "library.h"
 #include "options.h"
+#include "waits.h"
 
 // A count that one thread at a time adds to, and any thread may load.
 typedef _Atomic uint64_t tally;
@@ -38,9 +39,6 @@ struct host {
     tally reads, writes, trims, refusals;
     tally filled, emptied; // writes of a sector that was empty, and trims of one that was written
 };
-
-// Waits for a block by their time: up to 16 microseconds, up to twice as many, and so on; the last are longer than all before it.
-enum { WAIT_STEPS = 22, FIRST_WAIT_STEP_US = 16 };
 
 // Idle handles: the bit of each is set.
 enum { HOSTS_OF_A_WORD = 64, IDLE_WORDS = (MINTLINTEL_MAX_HOSTS + HOSTS_OF_A_WORD - 1) / HOSTS_OF_A_WORD };
@@ -75,9 +73,11 @@ struct stock {
     int is_collecting, is_stopping;
     int is_held;             // brooms work only for a write that waits
     uint32_t working;        // brooms in a round
+    uint8_t *works;          // which of them are
+    uint32_t refused_at;     // one more than the blocks that were opened as a write was last refused, or 0
     int is_gathering; // writes wait until some blocks are free, since one at a time wakes a thread for each page
-    uint64_t waits, waited_ns, gave_up, miscounts;
-    uint64_t waits_by_time[WAIT_STEPS]; // of writes that have ended
+    uint64_t waits, gave_up, miscounts;
+    struct waits waited; // of writes that have ended
     uint64_t wake_ups;      // how often waiting writes were woken, one or all
     uint64_t lost_wake_ups; // waits that ended by time, with room there and nobody woken meanwhile
 };
@@ -120,6 +120,9 @@ struct host *stock_keep_changed(struct stock *stock, struct host *host);
 // A broom waits for work: 0 if the brooms have to stop. `known` is what it passes on at the end of its round.
 int stock_begin_round(struct stock *stock, uint32_t broom, uint64_t *known);
 void stock_end_round(struct stock *stock, uint32_t broom, uint64_t known, int was_fruitless, int was_poor);
+
+// Whether no block was opened since a write was refused, and this broom is in a round, or begins one.
+int stock_leaves_to(struct stock *stock, uint32_t broom);
 
 // A block was erased and is free.
 void stock_add_free(struct stock *stock);

@@ -768,14 +768,14 @@ uint32_t mintlintel_durable_losses(struct mintlintel_durable *device, uint64_t *
     return MINTLINTEL_DONE;
 }
 
+const uint32_t *mtl_durable_erases(const struct mintlintel_durable *device) { return device->flash->erases; }
+
 uint32_t mintlintel_durable_block(struct mintlintel_durable *device, uint32_t block, struct mintlintel_block *report)
 {
     struct mintlintel_flash *flash = device->flash;
     struct mintlintel_place at;
-    if (!flash)
-        return MINTLINTEL_CLOSED;
-    if (block >= flash->numbers.blocks)
-        return MINTLINTEL_NO_SUCH_BLOCK;
+    if (!flash || block >= flash->numbers.blocks)
+        return flash ? MINTLINTEL_NO_SUCH_BLOCK : MINTLINTEL_CLOSED;
     uint8_t is_live[MTL_MOST_PAGES / 8] = {0}; /* a bit for each page: several sectors may have it */
     uint32_t live = 0;
     for (uint32_t sector = 0; sector < flash->numbers.sectors; sector++) {

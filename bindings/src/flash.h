@@ -16,6 +16,9 @@ uint32_t mtl_durable_fault(const struct mintlintel_durable_numbers *numbers);
 /* The page of the chip that has the sector's newest version, a value or a trim: 1 with its place; 0 if none has; the code that each call returns. */
 uint32_t mtl_durable_find(struct mintlintel_durable *device, uint32_t sector, struct mintlintel_place *place);
 
+/* How often each block of the chip of an open device was erased, as mintlintel_durable_block tells it. */
+const uint32_t *mtl_durable_erases(const struct mintlintel_durable *device);
+
 /* Tells the CRC-32C of these pages, one behind another, up to another call, by which there may be none: then writes of them don't compute it. */
 void mtl_durable_know(struct mintlintel_durable *device, const uint8_t *pages, const uint32_t *checks, size_t count);
 

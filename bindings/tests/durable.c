@@ -13,7 +13,7 @@ static struct shadow shadows[MOST_SECTORS];
 static uint32_t sectors, last_value;
 static long reserve; /* how many failures the device survives at least */
 static uint64_t state = 88172645463325252u;
-static long calls, opens, ends;
+static long calls, reads, opens, ends;
 
 static void fill(uint8_t *page, uint32_t value)
 {
@@ -29,7 +29,7 @@ static void check_sector(uint32_t sector)
     memset(untouched, 0x5a, sizeof untouched);
     memcpy(out, untouched, sizeof out);
     uint32_t code = mintlintel_durable_read(&device, sector, out, sizeof out);
-    calls++;
+    reads++;
     if (code == MINTLINTEL_POWER_GONE)
         return;
     CHECK(code <= MINTLINTEL_WRITTEN);
@@ -448,6 +448,46 @@ static void note_kinds(void)
     CHECK(mintlintel_core_note(&core, 3, 0, 1, 5) == MINTLINTEL_CLOSED);
 }
 
+/* Sets each page with a value of one of the sectors before this one to other contents, in blocks that need no page, and says how many there were. */
+static long set_values(uint32_t end, enum contents from, enum contents to)
+{
+    struct mintlintel_block block;
+    long count = 0;
+    for (uint32_t b = 0; b < CHIP_BLOCKS; b++) {
+        CHECK(mintlintel_durable_block(&device, b, &block) == MINTLINTEL_DONE);
+        for (struct chip_page *page = chip.pages[b]; block.live == 0 && page < chip.pages[b + 1]; page++)
+            if (page->contents == from && page->stamp[0] == 1 && page->stamp[8] < end) {
+                page->contents = to;
+                count++;
+            }
+    }
+    return count;
+}
+
+/* Pages of a block that an erase was cut in can't be read at one mount, and read as they were at the next. The trim that hides them is kept in between,
+ * though its own block may be erased. */
+static void keep_trims(void)
+{
+    enum { TRIMMED = 2 };
+    long found = 0;
+    for (int round = 0; round < 1000; round++) {
+        begin_sound();
+        sectors = 2 * CHIP_PAGES;
+        CHECK(open_device());
+        for (uint32_t sector = 0; sector < sectors; sector++)
+            CHECK(write_one(sector, 0) == MINTLINTEL_EMPTY);
+        CHECK(trim_some(0, TRIMMED) == MINTLINTEL_WRITTEN);
+        for (int mounts = 0; mounts < 2; mounts++) {
+            for (uint32_t i = drawn(&state) % 20; i > 0; i--)
+                CHECK(write_one(TRIMMED + drawn(&state) % (sectors - TRIMMED), 0) == MINTLINTEL_WRITTEN);
+            found += set_values(TRIMMED, mounts ? TORN : VERSION, mounts ? VERSION : TORN) * mounts;
+            CHECK(open_device());
+        }
+        mintlintel_durable_close(&device);
+    }
+    CHECK(found > 100);
+}
+
 /* A core over a flash without versions, and how often each of its blocks was erased. */
 enum { CORE_BLOCKS = 256 };
 static struct mintlintel_core core;
@@ -531,6 +571,44 @@ static void wear_evenly_over_opens(void)
     CHECK(least > 0 && most - least <= 10);
 }
 
+/* A number of so many bytes in a stamp. */
+static uint64_t number_in(const uint8_t *bytes, int count)
+{
+    uint64_t number = 0;
+    while (count-- > 0)
+        number = number << 8 | bytes[count];
+    return number;
+}
+
+/* An open tells the erases that the newest version of a block has, and none of a block without one: after a cut between its erase and its first program
+ * its count is lost. */
+static void lose_counts(void)
+{
+    long lost = 0;
+    begin_sound();
+    chip.hides_torn = 0;
+    for (int round = 0; round < 2000; round++) {
+        struct mintlintel_block block;
+        CHECK(open_device());
+        for (uint32_t b = 0; b < CHIP_BLOCKS; b++) {
+            uint64_t told = 0, newest = 0;
+            for (const struct chip_page *page = chip.pages[b]; page < chip.pages[b + 1]; page++)
+                if (page->contents == VERSION && number_in(page->stamp + 1, 7) >= newest) {
+                    newest = number_in(page->stamp + 1, 7);
+                    told = number_in(page->stamp + 15, 3);
+                }
+            CHECK(mintlintel_durable_block(&device, b, &block) == MINTLINTEL_DONE && block.erases == told);
+            lost += told == 0 && chip.erases[b] > 0;
+        }
+        chip.one_cut_in = 6;
+        while (!chip.is_off)
+            write_one(drawn(&state) % sectors, 0);
+        chip.one_cut_in = 0;
+    }
+    CHECK(lost > 100);
+    mintlintel_durable_close(&device);
+}
+
 int main(int argc, char **argv)
 {
     long rounds = argc > 1 && atol(argv[1]) > 0 ? atol(argv[1]) : 300, cuts = 0, fails;
@@ -544,13 +622,16 @@ int main(int argc, char **argv)
     note_kinds();
     wear_evenly();
     wear_evenly_over_opens();
+    lose_counts();
     take_the_least_erased();
-    for (long round = 0; round < rounds; round++) {
+    keep_trims();
+    opens = reads = 0;
+    while (calls < 1000 * rounds) {
         run(1000);
         cuts += chip.cuts;
         fails += chip.fails;
     }
     printf("durable: %ld calls with %ld power cuts and %ld failed commands agree with what was acknowledged", calls, cuts, fails);
-    printf(", over %ld opens; %ld times bad blocks left no room\n", opens, ends);
+    printf(", as do %ld reads, over %ld opens; %ld times bad blocks left no room\n", reads, opens, ends);
     return 0;
 }

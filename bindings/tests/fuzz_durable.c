@@ -12,7 +12,7 @@ enum { CODES = 128 };
 #define DURABLE(name, ...) counted(CALL_##name, mintlintel_durable_##name(__VA_ARGS__))
 #define CORE(name, ...) counted(CALL_core_##name, mintlintel_core_##name(__VA_ARGS__))
 
-static uint64_t returned[CALLS][CODES];
+static uint64_t returned[CALLS][CODES], power_cuts;
 /* libFuzzer doesn't see into what is proved. It keeps an input by which a call returns another code. */
 static uint8_t is_returned[CALLS][CODES] __attribute__((section("__libfuzzer_extra_counters")));
 
@@ -471,6 +471,7 @@ static int core_step(uint32_t first, uint32_t count, uint32_t byte)
     *(&other.kind + byte % 6) += 1 + byte / 64;
     CHECK(CORE(done, &core, first, count, &other) == MINTLINTEL_OUT_OF_ORDER);
     if (is_true && byte >= 224) {
+        power_cuts++;
         perform(&command, count, 1, byte);
         mintlintel_core_close(&core);
         phase = CLOSED;
@@ -568,5 +569,6 @@ int LLVMFuzzerTestOneInput(const uint8_t *bytes, size_t size)
     close_device();
     mintlintel_core_close(&core);
     phase = CLOSED;
+    power_cuts += (uint64_t)chip.cuts;
     return 0;
 }

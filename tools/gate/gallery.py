@@ -1,11 +1,10 @@
-"""gallery [--write]: the tables of docs/GALLERY.md, made from the wrong bodies in crates/*/must-fail and their twins. Without a word it
+"""gallery [--write]: the tables of docs/GALLERY.md, made from crates/*/wrong-bodies.edits. Without a word it
 changes nothing, and fails if the page differs. What refuses an edit stays as `wrong-bodies` has put it there."""
 
 import re
 from pathlib import Path
 
 from gate import tree
-
 
 PAGE = "docs/GALLERY.md"
 
@@ -39,10 +38,10 @@ def code(text):
 
 
 def row(edit, twin, goals):
-    """A wrong body, with its twin or None, as a row of its crate's table."""
+    """A wrong body with its twin as a row of its crate's table."""
     words, place, file = in_words(edit.name), next(places_of(edit)), next(edit.changes())[0]
     changes = "; ".join(f"{code(old)} becomes {code(new)}" for _, old, new in edit.changes())
-    harmless = "; ".join(code(new) for _, _, new in twin.changes()) if twin else "none"
+    harmless = "; ".join(code(new) for _, _, new in twin.changes())
     return f"| {words} | `{place.called if place else Path(file).stem}` | {changes} | {goals.get((edit.crate, words), '')} | {harmless} |\n"
 
 
@@ -51,8 +50,7 @@ def page(goals):
     for name in tree.crates():
         if edits := tree.edits(name):
             text += f"## `{name}`\n\n| Misdeed | In | Change | Refused by the goals | Twin that is proved |\n|---|---|---|---|---|\n"
-            twins = {it.name: it for it in tree.edits(name, "twins")}
-            text += "".join(row(it, twins.get(it.name), goals) for it in edits) + "\n"
+            text += "".join(row(*both, goals) for both in zip(edits, tree.edits(name, "twins"))) + "\n"
     return text.rstrip("\n") + "\n"
 
 
@@ -64,6 +62,5 @@ def put(refused):
 
 def main(words):
     made = page(goals_on_page())
-    rows = re.findall(r"^\| (?!Misdeed).*", made, re.M)
-    twins = sum(not line.endswith(" | none |") for line in rows)
-    return tree.verdict(tree.differing(words, "gallery", GALLERY=made), f"{PAGE} has the {len(rows)} wrong bodies, {twins} of them with a twin")
+    count = len(re.findall(r"^\| (?!Misdeed)", made, re.M))
+    return tree.verdict(tree.differing(words, "gallery", GALLERY=made), f"{PAGE} has the {count} wrong bodies with their twins")

@@ -1,11 +1,12 @@
 """promises: checks that what the pages name exists in the sources: calls with their clauses, the steps of the rule, words of code, items, files,
-links, versions of the toolchain, and files shown whole. A page names its reader in the first line, links the glossary where it first uses a word
-of it, and has no two headings with the same text. No two files of specs/ define the same name, but those that the glossary lists."""
+links, versions of the toolchain, and files shown whole. A table of calls has each public one of its type or crate. A page names its reader in the
+first line, links the glossary where it first uses a word of it, and has no two headings with the same text. No two files of specs/ define the same
+name, but those that the glossary lists."""
 
 import re
 from functools import cache
 
-from gate import record, tree
+from gate import calls, laws, record, tree
 
 MOST_WORDS = {"README.md": 800}
 PAGES = ["README.md", "docs/PROVED.md", "docs/RULE.md", "docs/LIBRARY.md", "docs/LINKING.md", "docs/GLOSSARY.md", "docs/EXTENDING.md"]
@@ -20,15 +21,14 @@ def text_of(place):
     return "".join(path.read_text() for path in tree.TOP.glob(place))
 
 
-def clauses():
-    """The labels of the clauses of each function, by its name and by that of its type before it."""
+def public_calls():
+    """The public calls of each type, and the public functions of each crate: by their names, what each promises, as the labels of its clauses."""
     found = {}
-    for text in (path.read_text() for path in tree.TOP.glob("crates/*/src/**/*.rt")):
-        for it in tree.functions(text):
+    for crate in (name for name in tree.crates() if name not in (*laws.LAWS, *laws.CALLERS)):
+        for it, _, text in calls.public(crate):
             labels = {clause.label or "unnamed" for clause in tree.head_clauses(text, it) if clause.kind == "ensures"}
-            for name in (it.name, it.called):
-                found.setdefault(name, set()).update(labels)
-    return found
+            found.setdefault((crate, it.type), {})[it.called] = labels
+    return list(found.values())
 
 
 def rows(lines, *wanted):
@@ -44,19 +44,32 @@ def rows(lines, *wanted):
             yield number, [CODE.findall(cells[column]) for column in columns]
 
 
-def wrong_rows(page, lines, known):
-    """What is wrong with the tables of promises of a page. A row without calls is of those of the row above."""
-    calls = []
-    for number, (named, labels) in rows(lines, "Call", "Clause"):
-        calls, has, owner = named or calls, set(), ""
-        for call in calls:
-            owner = call.rpartition("::")[0] or owner
-            full = call if "::" in call or f"{owner}::{call}" not in known else f"{owner}::{call}"
-            if full in known:
-                has |= known[full]
-            elif not call[0].isupper() or "::" in call:
-                yield f"{page}:{number}: no function {call}"
-        yield from (f"{page}:{number}: no clause {label} at {', '.join(calls)}" for label in labels if label not in has)
+def in_full(names):
+    """The calls that a row names, with their type: `Room::open` and `close` are two of Room."""
+    owner = ""
+    for name in (re.match(r"[\w:]*", name)[0] for name in names):
+        owner = name.rpartition("::")[0] or owner
+        yield name if "::" in name or not owner else f"{owner}::{name}"
+
+
+def wrong_rows(page, lines, groups):
+    """What is wrong with the tables of calls of a page. A row without calls is of those of the row above. One of a clause and its definition has each
+    call of the type that keeps the clause. A table without clauses has each public call of its types, or public function of its crates."""
+    there, named = set(re.findall(r"\w+", text_of("bindings/include/*.h"))).union(*groups), []
+    for number, (names, labels) in rows(lines, "Call", "Clause"):
+        named = list(in_full(names)) or named
+        yield from (f"{page}:{number}: no public call {it}" for it in named if it not in there)
+        has = set().union(*(group.get(it, ()) for group in groups for it in named))
+        yield from (f"{page}:{number}: no clause {label} at {', '.join(named)}" for label in labels if label not in has)
+    for number, (names, labels, _) in rows(lines, "Call", "Clause", "Definition"):
+        named = set(in_full(names))
+        keeping = {it for group in groups for it in group if named & group.keys() and "::" in it and set(labels) & group[it]}
+        yield from (f"{page}:{number}: {it} has the clause too" for it in sorted(keeping - named))
+    for columns in (("Call", "Cost"), ("Call", "For"), ("Call", "Codes")):
+        numbers = {it: number for number, (names, _) in rows(lines, *columns) for it in in_full(names)}
+        yield from (f"{page}:{number}: no public call {it}" for it, number in numbers.items() if it not in there)
+        wanted = set().union(*(group for group in groups if group.keys() & numbers.keys()))
+        yield from (f"{page}: no row for {it}" for it in sorted(wanted - numbers.keys()))
 
 
 def wrong_steps(page, lines):
@@ -160,7 +173,7 @@ def wrong_code(page, code, known):
 
 def main(_):
     recorded = set(VERSION.findall(str(record.Record("refused", "must-fail").versions().values())))
-    known, known_words, wrong = clauses(), words_of_sources(), [*twice_defined()]
+    groups, known_words, wrong = public_calls(), words_of_sources(), [*twice_defined()]
     for path in (path for place in ("*.md", "docs/*.md", "bench/*.md") for path in tree.TOP.glob(place)):
         page, text = tree.relative(path), path.read_text()
         prose = re.sub(r"```.*?```", lambda block: "\n" * block[0].count("\n"), text, flags=re.S).splitlines()
@@ -171,7 +184,7 @@ def main(_):
             wrong += [f"{page}:{number}: {it}" for code in CODE.findall(line) for it in wrong_code(page, code, known_words)]
             wrong += [f"{page}:{number}: nothing at {link}" for link in re.findall(r"\]\(([^):]+)\)", line) if not leads(path, link)]
         if page in PAGES:
-            wrong += [*wrong_rows(page, prose, known), *wrong_steps(page, prose)]
+            wrong += [*wrong_rows(page, prose, groups), *wrong_steps(page, prose)]
         for it in sorted(recorded ^ set(VERSION.findall(text))) if page in ("README.md", "docs/PROVED.md") else ():
             wrong += [f"{page}: {it} is {'in the record, and not on the page' if it in recorded else 'on the page, and not in the record'}"]
     return tree.verdict(wrong, "each link leads somewhere, and each call, clause, step and word of code on the pages exists in the sources")

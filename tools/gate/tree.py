@@ -33,8 +33,14 @@ DEFINITION = re.compile(
 TYPE = re.compile(r"(?P<comment>(?:^///.*\n)*)(?:^#\[.*\n)*^pub (?:struct|enum|trait) (?P<name>\w+)", re.M)
 # A clause with the comment above it, or a proof in the code.
 CLAUSE = re.compile(r"(?P<comment>(?:^ *//(?!/).*\n)*)^\s*(?:pub )?(?P<kind>requires|ensures|ghost)\b(?! use )(?P<label>[^{;]*)\{|\bby \{", re.M)
-# An edit in a file of several: its name, and its lines.
-EDIT = re.compile(r"edit: (\w+)\n((?:(?:file|old|new|law|definition|twin):.*\n)+)\n*")
+# An edit with its twin: its name, and its lines.
+EDIT = re.compile(r"edit: (\w+)\n((?:(?:(?:file|law|definition): .*\n)*old: .*\nnew:.*\ntwin:.*\n)+)\n*")
+# Each kind of edits, with the file of a crate that has them, and a change of its lines that leaves those of the kind.
+KINDS = {
+    "must-fail": ("wrong-bodies", r"^twin:.*\n", ""),
+    "twins": ("wrong-bodies", r"^new:.*\ntwin:", "new:"),
+    "wrong-definitions": ("wrong-definitions", "", ""),
+}  # fmt: skip
 # A function of a file: the type that it is a method of, or "", its name after that of the type, and the places of its head, its body and its end.
 Function = namedtuple("Function", "name type called of_trait public start body end")
 # A clause of a file, or a proof in its code, which has no kind: its places, its label, the comment above it, and its text.
@@ -47,7 +53,7 @@ class Edit(namedtuple("Edit", "crate kind name text")):
 
     @property
     def place(self):
-        return f"crates/{self.crate}/" + (f"must-fail/{self.name}.edit" if self.kind == "must-fail" else f"{self.kind}.edits: {self.name}")
+        return f"crates/{self.crate}/{KINDS[self.kind][0]}.edits: {'the twin of ' if self.kind == 'twins' else ''}{self.name}"
 
     def changes(self):
         """Each change: the file, the old text and the new one."""
@@ -193,16 +199,15 @@ def reached(found, names):
 
 
 def edits(name, kind="must-fail"):
-    """The edits of a crate by their names: the wrong bodies, which `rt` reads as a file each, or those of a file crates/NAME/KIND.edits."""
-    files, file = folder(name) / kind, folder(name) / f"{kind}.edits"
-    its, text, end = [(it.stem, it.read_text()) for it in files.glob("*.edit")], file.read_text() if file.exists() else "", 0
-    if kind != "must-fail" and its:
-        raise SystemExit(f"{relative(files)}: its edits belong into {relative(file)}, each below a line `edit: NAME`")
-    while (found := EDIT.match(text, end)) and found[1] not in dict(its):
-        its, end = [*its, found.groups()], found.end()
+    """The edits of a crate by their names: its wrong bodies, their twins, or its wrong definitions."""
+    stem, *change = KINDS[kind]
+    file, its, end = folder(name) / f"{stem}.edits", {}, 0
+    text = file.read_text() if file.exists() else ""
+    while (found := EDIT.match(text, end)) and found[1] not in its:
+        its[found[1]], end = re.sub(*change, found[2], flags=re.M), found.end()
     if end < len(text):
-        raise SystemExit(f"{relative(file)}:{text.count(chr(10), 0, end) + 1}: not an edit, or one whose name an earlier one has")
-    return [Edit(name, kind, *it) for it in sorted(its)]
+        raise SystemExit(f"{relative(file)}:{text.count(chr(10), 0, end) + 1}: not an edit with its twin, or one whose name an earlier one has")
+    return [Edit(name, kind, *it) for it in sorted(its.items())]
 
 
 def edited(texts, edit):
@@ -241,13 +246,13 @@ def differing(words, command, **pages):
 
 @contextmanager
 def copied(names):
-    """A folder with a copy of these crates and those below them, with the edits of these crates alone, and with what earlier checks have proved."""
+    """A folder with a copy of these crates and those below them, and with what earlier checks have proved."""
     with TemporaryDirectory(prefix="gate-") as room:
         needed = reached(names, crates())
         shutil.copy(TOP / "HANDLES", room)
         Path(room, "crates.txt").write_text("".join(f"{line}\n" for name, line in crate_lines().items() if name in needed))
         for name in needed:
-            shutil.copytree(folder(name), Path(room, "crates", name), ignore=None if name in names else shutil.ignore_patterns("must-fail"))
+            shutil.copytree(folder(name), Path(room, "crates", name), ignore=shutil.ignore_patterns("must-fail"))
         yield Path(room)
 
 

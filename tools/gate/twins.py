@@ -1,6 +1,6 @@
 """twins CRATE.. | --all | --missing: shows that this machine's toolchain proves the twins of the wrong bodies of these crates, of all, or of those
 without an entry in .ci/proved-twins: those of different places of a crate in one copy of it, and those of the same place in further copies. `twins
---check` fails if a wrong body has no twin or a twin has no wrong body, and names the crates without an entry."""
+--check` fails if a wrong body or a twin doesn't fit its file, and names the crates without an entry."""
 
 import re
 
@@ -10,13 +10,18 @@ from gate import record, tree
 UNPROVED = re.compile(r": error|\berror\[|it is not proved|^logic=not")
 
 
+def misfits(edits):
+    """What is wrong with these edits."""
+    return [f"{it.place} changes a text that isn't there exactly once" for it in edits if tree.edited({}, it) is None]
+
+
 def together(edits):
     """As many of these edits as fit together, as texts of the crate's files, and the edits left over."""
     texts, left = {}, []
     for it in edits:
         more = tree.edited(texts, it)
-        if more is None and tree.edited({}, it) is None:
-            raise SystemExit(f"{it.place} changes a text that doesn't stand there exactly once")
+        if more is None and (wrong := misfits([it])):
+            raise SystemExit(wrong[0])
         texts, left = (texts, [*left, it]) if more is None else (more, left)
     return texts, left
 
@@ -40,15 +45,9 @@ def are_proved(room, name):
     return True
 
 
-def unpaired(name):
-    """The wrong bodies of a crate without a twin, and its twins of none."""
-    bodies, twins = ({it.name: it.place for it in tree.edits(name, kind)} for kind in ("must-fail", "twins"))
-    for it in sorted(bodies.keys() ^ twins.keys()):
-        yield f"{bodies[it]} has no twin" if it in bodies else f"{twins[it]} is the twin of no edit"
-
-
 def main(words):
     book = record.Record("proved-twins", "twins")
     if words == ["--check"]:
-        return book.verdict([it for name in book.used for it in unpaired(name)], "wrong bodies have a twin that was proved", "prove: the twins of")
+        edits = [it for name in book.having() for kind in ("must-fail", "twins") for it in tree.edits(name, kind)]
+        return book.verdict(misfits(edits), "wrong bodies have a twin that was proved", "prove: the twins of")
     return book.main(words, lambda names: record.in_copies(names, are_proved), "twins of {} were not proved")

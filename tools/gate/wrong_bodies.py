@@ -1,6 +1,7 @@
 """wrong-bodies CRATE.. | --all: tries the wrong bodies of these crates, or of all, with this machine's toolchain: `rt ci` in a copy that has these
 crates and those below them. Each crate whose wrong bodies are all refused gets an entry in .ci/refused, and docs/GALLERY.md gets the goals that the
-refusals name. With --all it then proves all twins. `wrong-bodies --back` puts back what a killed run of the gate has moved out of must-fail/."""
+refusals name. With --all it then proves all twins. `wrong-bodies --write CRATE..` only writes them as files of crates/CRATE/must-fail/, which git
+ignores, and removes those of other crates: `rt must-fail CRATE` tries them."""
 
 import re
 import shutil
@@ -11,8 +12,6 @@ from gate import gallery, record, tree, twins
 ALWAYS = ("uses",)
 # An edit that is refused, and the goal that is left open: at an answer, or at code without an answer.
 REFUSED = re.compile(r"rt: must-fail (\w+)/(\w+)\.edit: refused, as it must be(?!.*says little of the contract)(?:.*?(?:\d: error: `|\(`)([\w-]+)`)?")
-# The folder in which the gate keeps what it doesn't try, until its end.
-ASIDE = ".git/wrong-bodies"
 
 
 def refused():
@@ -30,46 +29,34 @@ def note(names, said, again=True):
     return book.note([its for its in tried if its[0] not in known or not its[2]], "wrong bodies of {} were not refused")
 
 
-def put_back():
-    """Puts back what was moved aside, and returns the crates of which it was."""
-    aside = tree.TOP / ASIDE
-    names = sorted(it.name for it in aside.iterdir()) if aside.is_dir() else []
-    for name in names:
-        folder = tree.folder(name) / "must-fail"
-        folder.mkdir(parents=True, exist_ok=True)
-        for edit in (it for it in (aside / name).iterdir() if not (folder / it.name).exists()):
-            shutil.move(edit, folder)
-    shutil.rmtree(aside, ignore_errors=True)
-    return names
+def write(names, top=None):
+    """Writes the wrong bodies of these crates for `rt`, each as a file of must-fail/, and removes those of the others."""
+    for name in tree.crates():
+        edits, folder = {f"{it.name}.edit": it.text for it in tree.edits(name)}, (top or tree.TOP) / "crates" / name / "must-fail"
+        if others := [tree.relative(it) for it in folder.glob("*") if it.name not in edits]:
+            raise SystemExit(f"not in crates/{name}/wrong-bodies.edits: {', '.join(others)}")
+        shutil.rmtree(folder, ignore_errors=True)
+        for file, text in edits.items() if name in names else ():
+            folder.mkdir(exist_ok=True)
+            (folder / file).write_text(text)
 
 
-def put_aside():
-    """Takes the edits of the crates that have an entry for their text out of must-fail/, and prints the versions that refused them."""
-    put_back()
+def untried():
+    """The crates whose wrong bodies a run of the gate tries: those without an entry for their text. Prints the versions that refused the others."""
     book = refused()
-    if misfits := [it.place for name in book.used for it in tree.edits(name) if tree.edited({}, it) is None]:
-        raise SystemExit("\n".join(f"{it} changes a text that isn't there exactly once" for it in misfits))
-    known = {name: its for name, its in book.versions().items() if its and name not in ALWAYS and (tree.TOP / ".git").is_dir()}
+    known = {name: its for name, its in book.versions().items() if its and name not in ALWAYS}
     if known:
-        others = sorted({it for its in known.values() for it in its} - {here := record.version()})
-        by = f" with {' and '.join(others)}; this machine has {here}" if others else f" with {here}"
-        print(f"not tried again: {sum(len(tree.edits(it)) for it in known)} wrong bodies that were refused on the present text{by}")
-        (tree.TOP / ASIDE).mkdir()
-    for name in known:
-        shutil.move(tree.folder(name) / "must-fail", tree.TOP / ASIDE / name)
-
-
-def note_from(said):
-    """Records what a run of the gate tried, by what `rt ci` printed."""
-    untried = put_back()
-    return note([name for name in refused().having() if name not in untried], said, again=False)
+        by = " and ".join(sorted({it for its in known.values() for it in its}))
+        print(f"not tried again: {sum(len(tree.edits(it)) for it in known)} wrong bodies, refused with {by}; this machine has {record.version()}")
+    return [name for name in book.having() if name not in known]
 
 
 def main(words):
-    if words == ["--back"]:
-        put_back()
-        return 0
-    names = refused().asked(words)
+    only_write = words[:1] == ["--write"]
+    names = refused().asked(words[only_write:])
+    if only_write:
+        return write(names)
     with tree.copied(names) as room:
+        write(names, room)
         _, said = tree.said_by(room, "rt", "ci", shown=True)
     return note(names, said) | (twins.main(["--all"]) if words == ["--all"] else 0)

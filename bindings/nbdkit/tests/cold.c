@@ -38,6 +38,7 @@ static void look_at_all(const uint32_t *before, uint32_t moved) {
     }
     want(others == moved, "not so many pages were written anew as are wanted");
     want(brooms_copies(&device.brooms) == moved && device.brooms.loose_count == moved, "not so many pages are counted");
+    want(tally_of(&device.brooms.brooms[0].copies) == 0, "a page written anew is counted as a program of the broom's own");
     want(device.brooms.is_loose[before[COLD]] == moved, "the block isn't loose, or is without a dead page");
 }
 

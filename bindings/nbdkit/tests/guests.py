@@ -8,7 +8,7 @@ import signal
 import sys
 import time
 
-from images import STATUS_OF_A_CUT, gone, new_image
+from images import MODES, STATUS_OF_A_CUT, gone, new_image
 from running import HERE, Server, kill, want
 
 sys.path.append(str(HERE.parents[1] / "examples/mtd"))
@@ -57,14 +57,16 @@ class Machine:
 
     def wait_for(self, line, seconds=100):
         """What the guest says from now on up to such a line."""
-        end, pattern = time.monotonic() + seconds * self.shop.slow, re.compile(f"^{line}\n", re.M)
+        began, pattern = time.monotonic(), re.compile(f"^{line}\n", re.M)
         while True:
             told = self.console.read_text(errors="replace").replace("\r", "") if self.console.exists() else ""
             found = pattern.search(told, self.at)
             if found:
                 text, self.at = told[self.at:found.end()], found.end()
                 return text
-            want(self.process.poll() is None and time.monotonic() < end, f"the guest ended, or didn't say {line!r} within {seconds} s: {told[-3000:]}")
+            is_due = time.monotonic() < began + self.shop.patience(seconds)
+            want(self.process.poll() is None and is_due,
+                 f"the guest ended, or didn't say {line!r} within {seconds} s: {told[-3000:]}")
             time.sleep(0.005)
 
 
@@ -84,9 +86,9 @@ def new_disk(shop, image):
 
 
 def served(shop, turn, image, door):
-    """The server of a turn: one that is killed, or in each third turn one whose power is cut."""
-    is_cut = turn % 3 == 2
-    words = ["sync=flush", "cut=0", f"seed={turn}"] if is_cut else ["sync=never"]
+    """The server of a turn: one that is killed, in each mode, or in each fourth turn one whose power is cut."""
+    is_cut = turn % 4 == 3
+    words = ["sync=flush", "cut=0", f"seed={turn}"] if is_cut else [f"sync={MODES[turn % 4]}"]
     server = Server(shop, *words, image=image)
     server.is_cut = is_cut
     new = shop.folder / "new-door"
@@ -117,7 +119,7 @@ def end_server(shop, server):
 
 def files_and_a_database(shop, seed=1):
     """In each turn the guest commits transactions until its server is gone. Behind the next one all of them are there."""
-    image, door, turns, draw, total = new_image(shop), shop.folder / "door", shop.scaled(6, 50), random.Random(seed), 0
+    image, door, turns, draw, total = new_image(shop), shop.folder / "door", shop.scaled(6, 34), random.Random(seed), 0
     new_disk(shop, image)
     server = served(shop, 0, image, door)
     machine = Machine(shop, door)
@@ -133,4 +135,4 @@ def files_and_a_database(shop, seed=1):
     kill(machine.process)
     shop.started.remove(machine.process)
     server.stop()
-    return f"{turns} ends of its server, of which {turns // 3} were power cuts, and {total} transactions"
+    return f"{turns} ends of its server, of which {turns // 4} were power cuts, and {total} transactions"

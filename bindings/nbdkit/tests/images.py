@@ -12,6 +12,7 @@ from running import HERE, Failure, Server, fio, kill, want
 SMALL = ["size=4M", "spare=10", "pages=16"]  # it collects all the time
 ROOMY = ["size=4M", "spare=100", "pages=512"]  # few blocks move between two flushes
 STATUS_OF_A_CUT = 3
+MODES = ("always", "flush", "never")
 
 
 def history(shop, server, seed, most, since="", layers=1):
@@ -24,7 +25,7 @@ def has_ended(shop, process):
     """The steps that were answered since the flush before, and how many of them the disk had."""
     told = (shop.folder / "history").read_text
     try:
-        status = process.wait(60 * shop.slow)
+        status = process.wait(shop.patience(60))
     except Exception:
         raise Failure(f"the client didn't end: {told()}") from None
     shop.started.remove(process)
@@ -35,7 +36,7 @@ def has_ended(shop, process):
 def gone(shop, server, status):
     """Waits for the end of a server."""
     try:
-        found = server.process.wait(30 * shop.slow)
+        found = server.process.wait(shop.patience(30))
     except Exception:
         raise Failure(f"the server didn't end: {server.log.read_text()[-1000:]}") from None
     shop.started.remove(server.process)
@@ -51,9 +52,9 @@ def new_image(shop):
 def killed(shop):
     """kill -9 of the server, over and over: each answered request is there after it, whatever was flushed."""
     lost = rounds = 0
-    for sync in ("flush", "never"):
+    for sync in MODES:
         image, draw = new_image(shop), random.Random(sync)
-        for _ in range(shop.scaled(3, 50)):
+        for _ in range(shop.scaled(2, 34)):
             server = Server(shop, *SMALL, f"sync={sync}", image=image)
             client = history(shop, server, rounds, 1_000_000, "answered")
             time.sleep(draw.uniform(0.2, 1))
@@ -72,8 +73,8 @@ def killed(shop):
 def by_fio(shop):
     """fio writes in order, with a pattern of each round, until the server is killed; after its start fio finds all that was answered."""
     image, found = new_image(shop), []
-    for turn in range(shop.scaled(2, 100)):
-        server = Server(shop, "size=32M", f"sync={'flush' if turn % 2 else 'never'}", image=image)
+    for turn in range(shop.scaled(3, 100)):
+        server = Server(shop, "size=32M", f"sync={MODES[turn % 3]}", image=image)
         log, pattern = shop.folder / "fio.json", f"0x{0x11111111 * (turn % 15 + 1):08x}"
         job = ["--thread", "--ioengine=nbd", "--bs=4k", "--size=32m", "--verify=pattern", f"--verify_pattern={pattern}"]
         writer = shop.start(["fio", "--name=write", *job, f"--uri={server.uri}", "--rw=write", "--do_verify=0", "--time_based", "--runtime=100",
@@ -81,7 +82,7 @@ def by_fio(shop):
         server.wait_until(lambda: server.report()["host_programs"] > 300, 60, "take 300 writes")
         kill(server.process)
         shop.started.remove(server.process)
-        writer.wait(60 * shop.slow)
+        writer.wait(shop.patience(60))
         shop.started.remove(writer)
         text = log.read_text()
         pages = min(8192, json.loads(text[text.index("{"):])["jobs"][0]["write"]["io_bytes"] // 4096 - 1)

@@ -7,7 +7,7 @@
 #include "../random.h"
 #include "over_device.h"
 
-enum { CLIENTS = 4, PAGE = 8, BLOCKS = 288, PAGES = 64, ENDURANCE = 10, WRITES_OF_A_TURN = 16, PATIENCE_S = 60 };
+enum { CLIENTS = 4, PAGE = 8, BLOCKS = 288, PAGES = 64, ENDURANCE = 10, WRITES_OF_A_TURN = 16, WRITES_OF_A_LOOK = 4096, PATIENCE_S = 60 };
 #define SKEW 1.2
 
 static const struct life {
@@ -20,7 +20,7 @@ static const struct life {
 };
 
 static void open_device(const struct life *life) {
-    uint32_t low = life->spare / 4 < 8 + 2 * life->brooms ? life->spare / 4 : 8 + 2 * life->brooms, more = life->spare / 4 < 8 ? life->spare / 4 : 8;
+    uint32_t ahead = life->spare / 4, most = 8 + 2 * life->brooms, low = ahead < most ? ahead : most, more = ahead < 8 ? ahead : 8;
     device.options = (struct options){.page = PAGE, .luns = 1, .hosts = CLIENTS, .brooms = life->brooms, .blocks = BLOCKS, .pages = PAGES,
                                       .sectors = life->sectors, .endurance = ENDURANCE, .spare_blocks = life->spare, .low = low, .high = low + more,
                                       .wait = 1000 * PATIENCE_S};
@@ -64,19 +64,43 @@ static uint32_t draw_by_zipf(uint64_t *random, const double *share, uint32_t sec
     return low;
 }
 
+// At rest no more blocks are counted as free than the library has: none that a broom keeps. A handle may be about to take one.
+static void look_at_free_blocks(void) {
+    uint32_t free = 0;
+    for (uint32_t block = 0; block < BLOCKS; block++) {
+        struct mintlintel_state state;
+        mintlintel_broom_block(&device.broom_seats[0], block, &state);
+        free += state.phase == MINTLINTEL_PHASE_FREE;
+    }
+    if (device.stock.free_count > (int32_t) free)
+        fail("%d blocks are counted as free, and %u are", device.stock.free_count, free);
+}
+
+// The erased blocks that brooms have kept.
+static uint64_t all_kept(void) {
+    uint64_t kept = 0;
+    for (uint32_t i = 0; i < device.options.brooms; i++)
+        kept += tally_of(&device.brooms.brooms[i].kept);
+    return kept;
+}
+
 // The clients' percent of all programs, up to the first refusal. Each client writes all its sectors first.
 static double live(const struct life *life) {
     static const uint8_t page[PAGE];
     uint32_t own = life->sectors / CLIENTS, written[CLIENTS] = {0}, writes = 0;
     double *share = shares(own);
-    uint64_t random = 1;
+    uint64_t random = 1, kept = 0;
     open_device(life);
-    for (int is_refused = 0; !is_refused; writes += (uint32_t) !is_refused) {
+    for (int is_refused = 0; !is_refused && failures == 0; writes += (uint32_t) !is_refused) {
         uint32_t client = draw_client(&random, life->rates), number = written[client]++;
         uint32_t at = life->is_zipf && number >= own ? draw_by_zipf(&random, share, own) : number % own;
         is_refused = device_write(&device, client, page, PAGE, (at * CLIENTS + client) * (uint64_t) PAGE) == -1;
         if (writes % WRITES_OF_A_TURN == 0 && !is_refused)
             stock_turn_of_brooms(&device.stock);
+        if (writes % WRITES_OF_A_TURN == 0 && !is_refused && (kept != all_kept() || writes % WRITES_OF_A_LOOK == 0)) {
+            look_at_free_blocks();
+            kept = all_kept();
+        }
     }
     stock_hold_brooms(&device.stock, 0);
     device_stop(&device);
@@ -88,11 +112,11 @@ static double live(const struct life *life) {
 int main(void) {
     enum { COUNT = sizeof lives / sizeof *lives };
     double percents[COUNT];
-    alarm(PATIENCE_S);
-    for (int at = 0; at < COUNT; at++) {
+    alarm(5 * PATIENCE_S);
+    for (int at = 0; at < COUNT && failures == 0; at++) {
         const struct life *life = &lives[at];
         percents[at] = live(life);
-        if (percents[at] < life->least)
+        if (failures == 0 && percents[at] < life->least)
             fail("%s with %.0f %% in use: clients had %.1f %% of all programs (%u brooms)", life->is_zipf ? "by zipf" : "in order",
                  100.0 * life->sectors / (BLOCKS * PAGES), percents[at], life->brooms);
     }

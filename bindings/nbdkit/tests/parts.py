@@ -252,17 +252,21 @@ def broken_clients(shop, brooms=1):
 def broken_off(shop, server, seed):
     age(shop, server)
     half = kibibytes(shop, server) // 2
-    own = shop.start(["fio", "--name=own", "--thread", "--ioengine=nbd", f"--uri={server.uri}", "--rw=randwrite", "--bs=4k",
-                      "--numjobs=4", f"--size={half // 4}k",
-                      f"--offset_increment={half // 4}k", "--iodepth=16", "--io_size=60m", "--norandommap", "--random_distribution=zipf:0.9",
-                      "--serialize_overlap=1", "--verify=crc32c", "--verify_fatal=1"], shop.folder / "own")
     rounds = beside = 0
     with copying(server, "broken clients"):
-        while rounds < 2 or own.poll() is None:
-            told = shop.run([shop.client("breaks_off"), server.uri, half * 1024, half * 1024, seed + rounds], 120)
-            rounds += 1
-            beside += own.poll() is None
-        want(own.wait(60) == 0, (shop.folder / "own").read_text()[-2000:])
+        # On a busy machine the client beside may be done before the first program is: then it has four times as much to write.
+        for mebibytes in (60, 240, 960):
+            own = shop.start(["fio", "--name=own", "--thread", "--ioengine=nbd", f"--uri={server.uri}", "--rw=randwrite", "--bs=4k",
+                              "--numjobs=4", f"--size={half // 4}k", f"--offset_increment={half // 4}k", "--iodepth=16",
+                              f"--io_size={mebibytes}m", "--norandommap", "--random_distribution=zipf:0.9", "--serialize_overlap=1",
+                              "--verify=crc32c", "--verify_fatal=1"], shop.folder / "own")
+            while rounds < 2 or own.poll() is None:
+                told = shop.run([shop.client("breaks_off"), server.uri, half * 1024, half * 1024, seed + rounds], 120)
+                rounds += 1
+                beside += own.poll() is None
+            want(own.wait(60) == 0, (shop.folder / "own").read_text()[-2000:])
+            if beside > 0:
+                break
         want(beside > 0, "the client beside was done before any was broken off")
         server.settle()
     fio(shop, server, "whole", rw="randwrite", bs="4k", size="48m", io_size="10m", iodepth=16, verify="crc32c")
@@ -292,15 +296,11 @@ def by_library(shop, server, lines):
 def trims_inwards(shop):
     """A trim drops the pages that it covers as a whole, and leaves the others. It programs no page; zeros are exact."""
     server = Server(shop, "size=8M", "hosts=2")
-    want(shop.run(["nbdinfo", "--can", "cache", server.uri]) == "", "the plugin doesn't offer to cache")
-    info = shop.run(["nbdinfo", server.uri])
-    for line in ("block_size_minimum: 1", "block_size_preferred: 4096", "block_size_maximum: 67108864"):
-        want(line in info, info)
     by_library(shop, server, "h.pwrite(b'\\x11' * 65536, 0)")
     before = server.counts()
     # One byte more or less than whole pages at each end, parts of a page, and a whole one.
     ranges = [(4095, 4098), (12287, 4098), (20481, 8191), (32769, 1000), (40960, 4096), (49153, 4095)]
-    by_library(shop, server, "\n".join(f"h.trim({count}, {offset}); h.cache({count}, {offset})" for offset, count in ranges))
+    by_library(shop, server, "\n".join(f"h.trim({count}, {offset})" for offset, count in ranges))
     dropped = {page for offset, count in ranges for page in range(-(-offset // 4096), (offset + count) // 4096)}
     found = by_library(shop, server, "print([sorted({h.pread(1, i)[0] for i in (4096 * page, 4096 * page + 4095)}) for page in range(16)])")
     wanted = [[0] if page in dropped else [0x11] for page in range(16)]
@@ -313,8 +313,26 @@ def trims_inwards(shop):
     return f"{len(dropped)} pages dropped"
 
 
+def told_by_the_protocol(shop):
+    """The sizes of requests; and to cache, which is offered: pages in memory are there already, and those of an image are read."""
+    for image, wanted in ((None, 0), (images.new_image(shop), 14)):
+        server = Server(shop, "size=8M", image=image)
+        info = shop.run(["nbdinfo", server.uri])
+        for line in ("block_size_minimum: 1", "block_size_preferred: 4096", "block_size_maximum: 67108864"):
+            want(f"{line}\n" in info, f"{line} is wanted: {info}")
+        want("can_cache: true" in info, f"the plugin doesn't offer to cache: {info}")
+        by_library(shop, server, "h.pwrite(b'\\x11' * 65536, 0)")
+        before = server.report()["host_reads"]
+        by_library(shop, server, "h.cache(14 * 4096, 4096)")
+        reads = server.report()["host_reads"] - before
+        want(reads == wanted, f"to cache 14 pages {'of an image' if image else 'in memory'} {reads} are read")
+        by_library(shop, server, "assert h.pread(65536, 0) == b'\\x11' * 65536")
+        server.stop()
+    return ""
+
+
 def worn_choices(shop):
-    """What a write gets that finds no block, by worn=; a trim of parts of pages still works; and a warning when nine in ten of all erases are done."""
+    """What a write gets that finds no block, by worn=; a trim of parts of pages still works; and the warning before."""
     for word, error in (("enospc", "No space left on device"), ("eio", "Input/output error"), ("readonly", "Operation not permitted")):
         server = Server(shop, "sectors=200", "blocks=10", "hosts=2", "brooms=0", f"worn={word}")
         fill = ["qemu-io", "-f", "raw", *(4 * ["-c", "write -P 1 0 800k"]), server.uri]
@@ -325,12 +343,18 @@ def worn_choices(shop):
         told = server.log.read_text()
         want(told.count("no block is free, and the brooms can reclaim none") == 1, told)
         server.stop()
-    server = Server(shop, "sectors=2400", "blocks=60", "hosts=4", "endurance=10", "warn=50")
-    shop.run([shop.client("wear_out"), server.uri, "uniform"])
-    told = server.log.read_text()
-    want(told.count("warning: 270 erases are done, and all 60 blocks together have 540") == 1, told)
-    server.stop()
+    warned(shop)
     return told_again(shop)
+
+
+def warned(shop):
+    """A worn device warns once, at a share of all erases, or never."""
+    for words, wanted in ((["warn=50"], ["270"]), ([], ["486"]), (["warn=0"], [])):
+        server = Server(shop, "sectors=2400", "blocks=60", "hosts=4", "endurance=10", *words)
+        shop.run([shop.client("wear_out"), server.uri, "uniform"])
+        told = re.findall(r"warning: (\d+) erases are done, and all 60 blocks together have 540", server.log.read_text())
+        want(told == wanted, f"{words}: warnings at {told} erases, and not at {wanted}")
+        server.stop()
 
 
 def told_again(shop):
@@ -439,10 +463,10 @@ def sanitized(shop, kind):
 
 # The parts that have to refuse wrong plugins.
 REFUSING = {part.__name__: part for part in (
-    overlaps, handles, resting_brooms, worn_out, by_qemu_io, a_map_of_holes, mixed_sizes, there_and_back, stock_by_itself, refusals_at_the_end, cold_data,
-    lives, trims_inwards, worn_choices, marks_out_of_reach, faults.refused_resources, reports.statistics, reports.aged_at_start, images.image_file,
-    images.killed, images.reads_beside_writes, images.power_cuts, layers.in_layers, guests.files_and_a_database, failures.failing_image, times.of_commands,
-    times.under_collection)}
+    overlaps, handles, resting_brooms, worn_out, by_qemu_io, a_map_of_holes, mixed_sizes, there_and_back, stock_by_itself, refusals_at_the_end,
+    cold_data, lives, trims_inwards, told_by_the_protocol, worn_choices, marks_out_of_reach, faults.refused_resources, reports.statistics,
+    reports.aged_at_start, images.image_file, images.killed, images.reads_beside_writes, images.power_cuts, layers.in_layers,
+    guests.files_and_a_database, failures.failing_image, times.of_commands, times.under_collection)}
 REFUSING |= {f"{kind}_sanitizer": functools.partial(sanitized, kind=kind) for kind in ("address", "thread")}
 REFUSING["image_thread_sanitizer"] = functools.partial(images.image_sanitized, kind="thread")
 
@@ -498,6 +522,7 @@ def chosen(options):
         "1, 4, 16 and 64 handles": handles,
         "pages of other sizes": other_pages,
         "trims round inwards": trims_inwards,
+        "what the protocol tells": told_by_the_protocol,
         "brooms that rest": resting_brooms,
         "marks out of reach": marks_out_of_reach,
         "what a worn device says": worn_choices,

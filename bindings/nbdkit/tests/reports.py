@@ -1,14 +1,16 @@
 """What the disk tells of itself by its second export, and use before the first client: by clients from other projects, and jq."""
 
 import json
+import time
 
+from failures import new_failing
 from running import Server, fio, want
 
-# What holds of each report, in jq's words.
-LAWS = """(.erases_by_block | length) == .blocks and (.erases_by_block | add) == .erases
-and (.waits.by_time | map(.writes) | add) == .waits.writes
+# What holds of each report, in jq's words, and what of one of a device in memory.
+LAWS = """(.waits.by_time | map(.writes) | add) == .waits.writes
 and ([.waits.by_time[] | .writes * (.up_to_microseconds // 1e12)] | add) >= .waits.microseconds
-and ([.waits.by_time[] | .writes * ((.up_to_microseconds // 33554432) / 2 - 8)] | add) <= .waits.microseconds
+and ([.waits.by_time[] | .writes * ((.up_to_microseconds // 33554432) / 2 - 8)] | add) <= .waits.microseconds"""
+LAWS_OF_MEMORY = """(.erases_by_block | length) == .blocks and (.erases_by_block | add) == .erases
 and (.percentage_used * 1000 | round) == (100000 * .erases / (.blocks * (.endurance - 1)) | floor)
 and (.host_programs == 0 or (.write_amplification * 1000 | round) == (1000 * (.host_programs + .copies) / .host_programs | floor))"""
 
@@ -21,7 +23,8 @@ def report(shop, server):
     """The report of now, of which the laws hold."""
     path = shop.folder / "report.json"
     shop.run(["nbdcopy", uri_of(server, "stats"), path])
-    held = shop.run(["jq", LAWS, path]).strip()
+    laws = LAWS if server.image else f"{LAWS} and {LAWS_OF_MEMORY}"
+    held = shop.run(["jq", laws, path]).strip()
     want(held == "true", f"a law fails of the report {path.read_text().rstrip()}")
     return json.loads(path.read_text())
 
@@ -100,6 +103,7 @@ def statistics(shop):
     want(used["waits"]["writes"] > 0 and used["percentage_used"] > 0, f"no write has waited: {used}")
     server.stop()
     worn = worn_disk(shop)
+    of_image(shop)
     return (f"{used['waits']['writes']} waits told; worn: {worn['percentage_used']} % used, {worn['available_spare']} % of the spare left, "
             f"{worn['refused_writes']} writes refused")
 
@@ -113,6 +117,48 @@ def worn_disk(shop):
     want(worn["refused_writes"] == counts.no_space > 0 and worn["available_spare"] < 100, f"a worn disk: {worn}")
     server.stop()
     return worn
+
+
+ERASE = 20_000  # microseconds of an erase, on a part that does nothing else slowly
+OF_IMAGE = ["sectors=1024", "blocks=100", "pages=16", "endurance=50", "bad=0,17", "sync=never"]  # the sectors need 66
+
+
+def write_image(shop, server, count):
+    """One client writes all sectors, and then so many at random."""
+    by_library(shop, server, f"""
+import random
+draw = random.Random(1)
+for i in range(1024 + {count}):
+    h.pwrite(bytes(4096), 4096 * (i if i < 1024 else draw.randrange(1024)))
+""")
+
+
+def of_image(shop):
+    """An image's share of its life is kept over a start; its spare goes with its bad blocks, beside those of the
+    factory; and each erase is a part of what the one client has waited."""
+    part, image = shop.folder / "erases.toml", new_failing(shop)
+    part.write_text(f"read = 1\nprogram = 1\nerase = {ERASE}\ntransfer = 0\n")
+    server = Server(shop, *OF_IMAGE, f"part={part}", image=image)
+    new, began = report(shop, server), time.monotonic()
+    want(new["percentage_used"] == 0 and new["available_spare"] == 100 and new["waits"]["writes"] == 0,
+         f"a new image: {new}")
+    write_image(shop, server, 500)
+    took, used = time.monotonic() - began, report(shop, server)
+    erases, waits = used["erases"], used["waits"]
+    wanted = 100_000 * erases // (100 * 49) / 1000
+    want(erases > 50 and used["percentage_used"] == wanted, f"{wanted} % are used: {used}")
+    want(0 < waits["writes"] <= erases and erases * ERASE <= waits["microseconds"] <= 1e6 * took,
+         f"waits for {erases} erases of {ERASE} µs within {took} s: {used}")
+    server.stop()
+    server = Server(shop, *OF_IMAGE, "fail-erases=0.02", image=image)
+    again = report(shop, server)
+    want(again["erases"] == 0 and again["percentage_used"] > 0.8 * wanted, f"{wanted} % were used, and then: {again}")
+    write_image(shop, server, 3000)
+    worn = report(shop, server)
+    want(worn["bad_blocks"] > 4, f"too few bad blocks: {worn}")
+    left = 100_000 * (100 - 66 - worn["bad_blocks"]) // (100 - 66 - 2) / 1000
+    want(worn["available_spare"] == left, f"{left} % of the spare are left: {worn}")
+    server.stop()
 
 
 def aged_at_start(shop):

@@ -59,7 +59,7 @@ class Shop:
         self.aged = self.wrong = None
         self.copies = 0
         self.is_over = False
-        self.slow = slowness()
+        self.slow = 1
 
     def scaled(self, short, long):
         return long if self.options.long else short
@@ -75,10 +75,15 @@ class Shop:
     def client(self, name):
         return HERE / "out" / "clients" / name
 
+    def patience(self, seconds):
+        """What takes this many seconds may take more on a machine that is busy, or was since the part began."""
+        self.slow = max(self.slow, slowness())
+        return seconds * self.slow
+
     def limit(self, seconds):
         """From now on this many seconds are left, and more on a busy machine."""
-        self.slow = slowness()
-        signal.alarm(round(seconds * self.slow))
+        self.slow, self.end = 1, lambda began=time.monotonic(): began + self.patience(seconds)
+        signal.alarm(seconds)
 
     def start(self, words, log, **more):
         """Starts a program in a session of its own, with its output in a log."""
@@ -92,16 +97,20 @@ class Shop:
     def run(self, words, seconds=60, given=None, status=0):
         """Runs a program to its end, and gives what it printed. On a busy machine it has more time."""
         want(not self.is_over, "the check was ended")
-        seconds *= self.slow
         words = [str(word) for word in words]
         process = subprocess.Popen(words, stdin=subprocess.PIPE, stdout=subprocess.PIPE, stderr=subprocess.STDOUT,
                                    start_new_session=True, cwd=self.folder)
         self.started.append(process)
-        try:
-            printed = process.communicate((given or "").encode(), timeout=seconds)[0].decode(errors="replace")
-        except subprocess.TimeoutExpired:
-            kill(process)
-            raise Failure(f"{' '.join(words)[:300]}\ndidn't end within {seconds} s") from None
+        printed, began = None, time.monotonic()
+        while printed is None:
+            try:
+                left = max(0.1, began + self.patience(seconds) - time.monotonic())
+                printed = process.communicate((given or "").encode(), timeout=left)[0].decode(errors="replace")
+            except subprocess.TimeoutExpired:
+                if time.monotonic() < began + self.patience(seconds):
+                    continue
+                kill(process)
+                raise Failure(f"{' '.join(words)[:300]}\ndidn't end within {seconds} s") from None
         self.started.remove(process)
         want(process.returncode == status, f"{' '.join(words)[:300]}\nended with status {process.returncode}:\n{failing(printed[:-3000])}{printed[-3000:]}")
         return printed
@@ -171,22 +180,23 @@ def end_fio(shop, process, log):
     want(process.poll() is None, log.read_text()[-2000:])
     process.send_signal(signal.SIGINT)
     try:
-        process.wait(60 * shop.slow)
+        process.wait(shop.patience(60))
     except subprocess.TimeoutExpired:
         raise Failure("fio didn't end by a signal within 60 s") from None
     shop.started.remove(process)
 
 
-def out_of_time(number, frame):
+def ended(*_):
     raise SystemExit("nbdkit: the check was ended: out of time, or by a signal")
 
 
 @contextlib.contextmanager
 def workshop(seconds, options):
-    for number in (signal.SIGALRM, signal.SIGTERM, signal.SIGHUP):
-        signal.signal(number, out_of_time)
+    for number in (signal.SIGTERM, signal.SIGHUP):
+        signal.signal(number, ended)
     folder = pathlib.Path(tempfile.mkdtemp(prefix="nbdkit-"))
     shop = Shop(folder, options)
+    signal.signal(signal.SIGALRM, lambda *_: signal.alarm(5) if time.monotonic() < shop.end() else ended())
     shop.limit(seconds)
     try:
         yield shop
@@ -248,16 +258,16 @@ class Server:
         if kind == "thread":
             call = ["setarch", "-R", *call]  # ThreadSanitizer wants the usual places of memory
         self.process = shop.start(call, self.log, env=environment)
-        self.wait_until(lambda: self.process.poll() is not None or (pid.exists() and pid.stat().st_size), 20, "start")
+        self.wait_until(lambda: self.process.poll() is not None or (pid.exists() and pid.stat().st_size), 60, "start")
         want(self.process.poll() is None, f"the server ended:\n{self.log.read_text()}")
         shop.run(["nbdinfo", "--size", self.uri], 20)
 
     def wait_until(self, is_so, seconds, what):
-        end = time.monotonic() + seconds * self.shop.slow
+        began = time.monotonic()
         while not is_so():
             told = self.log.read_text(errors="replace")[-3000:]
             want(self.process.poll() is None, f"the server ended with status {self.process.returncode} and didn't {what}:\n{told}")
-            want(time.monotonic() < end, f"the server didn't {what} within {seconds} s:\n{told}")
+            want(time.monotonic() < began + self.shop.patience(seconds), f"the server didn't {what} within {seconds} s:\n{told}")
             time.sleep(0.005)
 
     def settle(self):

@@ -4,6 +4,13 @@
 
 enum { PATIENCE_S = 10 };
 
+// Each broom has a block before hosts take any.
+static void blocks_of_brooms(void) {
+    begin(2, 2, 6, 1);
+    want(stock.free_count == 4, "a block that a broom keeps is counted as free");
+    stock_end(&stock);
+}
+
 // A last try takes a block that the library has freed, and that is counted only later: it may not be counted twice.
 static void a_block_that_is_counted_late(void) {
     begin(2, 1, 4, 1);
@@ -12,13 +19,12 @@ static void a_block_that_is_counted_late(void) {
     stock_add_free(&stock);
     want(stock.free_count == 0, "a block that was taken before it was counted is free for good");
     fill();
-    stock.wait_ns = 2 * PATIENCE_S * (uint64_t) 1000000000;
     struct attempt attempt = {0};
-    double began = seconds();
+    uint64_t waits = stock.waits;
     struct host *host = stock_take_to_write(&stock, &attempt);
     stock_give_refused(&stock, host, &attempt);
     want(attempt.is_last, "a full device: a write tries again though nothing is free");
-    want(seconds() - began < PATIENCE_S, "a full device: a write isn't refused at once");
+    want(stock.waits == waits, "a full device: a write waits though nothing is to gain");
     stock_end(&stock);
 }
 
@@ -44,6 +50,25 @@ static void a_block_that_comes_late(void) {
     want(gained_at > 0, "a broom has gained something, and the time isn't noted");
     stock_end_round(&stock, 0, atomic_load(&stock.changes), 1, 0);
     want(stock.gained_at == gained_at, "a broom that found nothing has gained something");
+    stock_end(&stock);
+}
+
+// From a refusal up to the next block that is opened, a broom leaves drains to one that looks anyway.
+static void a_broom_that_leaves_drains(void) {
+    begin(2, 2, 6, 1);
+    want(!stock_leaves_to(&stock, 1), "a broom leaves drains to one that rests");
+    while (stock.free_count > 0 || stock.open_count > 0)
+        write_page();
+    find_nothing(0);
+    find_nothing(1);
+    struct attempt attempt = {0};
+    stock_give_refused(&stock, stock_take_to_write(&stock, &attempt), &attempt);
+    want(!stock_leaves_to(&stock, 1), "a broom leaves drains to one that has found nothing");
+    stock_give_changed(&stock, stock_take(&stock));
+    want(stock_leaves_to(&stock, 1), "after a refusal and a trim each broom drains by itself");
+    stock_add_free(&stock);
+    write_page();
+    want(!stock_leaves_to(&stock, 1), "a broom leaves drains to others on a device that is usable");
     stock_end(&stock);
 }
 
@@ -161,14 +186,12 @@ static void many_requests(void) {
 }
 
 int main(void) {
+    static void (*const tests[])(void) = {
+        blocks_of_brooms, a_block_that_is_counted_late, a_search_that_comes_too_late, a_block_that_comes_late, marks_of_a_device_that_wears_out,
+        a_broom_that_gains_little, a_long_request, a_handle_that_is_kept, a_broom_that_leaves_drains, many_requests,
+    };
     alarm(10 * PATIENCE_S);
-    a_block_that_is_counted_late();
-    a_search_that_comes_too_late();
-    a_block_that_comes_late();
-    marks_of_a_device_that_wears_out();
-    a_broom_that_gains_little();
-    a_long_request();
-    a_handle_that_is_kept();
-    many_requests();
+    for (size_t i = 0; i < sizeof tests / sizeof *tests && failures == 0; i++)
+        tests[i]();
     return failures;
 }

@@ -8,6 +8,7 @@ processor."""
 import random
 import statistics
 import sys
+import time
 
 import faults
 from images import new_image
@@ -270,5 +271,20 @@ def busy_in_memory(shop):
     return told
 
 
+def erases_take_time(shop):
+    """In memory, where nothing but an erase takes long, one LUN does no two erases at once; of the last one the count comes before its time."""
+    path, erase, draw = shop.folder / "erases.toml", 300_000, random.Random(4)
+    path.write_text(f"read = 1\nprogram = 1\nerase = {erase}\ntransfer = 0\n")
+    server = Server(shop, "sectors=704", f"blocks={BLOCKS}", f"pages={PAGES}", "hosts=4", "age=3", "wait=60000", f"part={path}")
+    began, before = time.monotonic(), server.counts().erases
+    played(shop, server, [(0, 0, "write", draw.randrange(704), 1) for _ in range(150)])
+    erases = server.counts().erases - before
+    took = round(1e6 * (time.monotonic() - began))
+    want(erases > 5, f"only {erases} erases")
+    want(took >= (erases - 1) * erase, f"{erases} erases of one LUN were done within {took} µs, and each takes {erase}")
+    server.stop()
+    return f"{erases} erases in {took / 1e6:.1f} s"
+
+
 def under_collection(shop):
-    return "; ".join([busy_in_memory(shop), *(reads_under_collection(shop, luns) for luns in (1, 4))])
+    return "; ".join([erases_take_time(shop), busy_in_memory(shop), *(reads_under_collection(shop, luns) for luns in (1, 4))])

@@ -2,8 +2,8 @@
 // refusal may not be early: when a write is refused, no block is free, and no broom could win one back. Who reads the blocks and the map afterwards
 // sees it: no block is free, none is drained, and none that has an erase left is closed with a dead page. And the programs and erases that are
 // counted are those of the blocks; with long pages, some copies are of sectors that are written meanwhile. Then, while a tenth of the blocks or more
-// can be erased, sectors of these are trimmed one by one: before each broom has room for a block's pages but one, and one page more is dead, a write
-// has to be done again. No time decides: a write that waits for what can't come ends the test.
+// can be erased, sectors of these are trimmed one by one: before these are more than a block has pages, a write has to be done again. No
+// time decides: a write that waits for what can't come ends the test.
 #include <unistd.h>
 
 #include "over_device.h"
@@ -112,7 +112,7 @@ static uint32_t find_to_trim(void) {
 static void look_for_writes_after_trims(void) {
     const struct options *o = &device.options;
     static const uint8_t zeros[LONG_PAGE];
-    uint32_t sector, trimmed = 0, enough = o->brooms * (o->pages - 1) + 1;
+    uint32_t sector, trimmed = 0, enough = o->pages;
     if (o->brooms == 0)
         return;
     while (trimmed < enough && can_a_tenth_be_erased() && (sector = find_to_trim()) < o->sectors) {

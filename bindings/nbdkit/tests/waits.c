@@ -5,7 +5,7 @@
 
 #include <sched.h>
 
-enum { PATIENCE_S = 15, RACES_MS = 1500 };
+enum { PATIENCE_S = 15, RACES_MS = 1500, FEWEST_ROUNDS = 100 };
 
 static struct host *in_use;
 static struct attempt its_attempt;
@@ -237,7 +237,7 @@ static void *give_over_and_over(void *unused) {
     for (uint32_t round = 1; !atomic_load(&is_over); round++) {
         struct attempt attempt = {0};
         struct host *host = round % 2 ? stock_take(&stock) : stock_take_to_write(&stock, &attempt);
-        atomic_store(&is_over, seconds() > end);
+        atomic_store(&is_over, seconds() > end && round > FEWEST_ROUNDS);
         atomic_store(&had, round);
         spin(round * 7919 % 601);
         if (round % 2 == 0)
@@ -273,7 +273,6 @@ static void races(void) {
     start(&second, ask_over_and_over);
     has_to_end(second, "a request begins to wait while the handle is given back");
     has_to_end(first, "the other one");
-    want(atomic_load(&done) > 100, "too few rounds");
     stock_end(&stock);
 }
 

@@ -20,7 +20,7 @@ pub const PIECE_BYTES: usize = 65_536;
 
 /// Puts an answer line. `page` is the value that a read found.
 #[inline(always)]
-pub fn put_line(
+pub(crate) fn put_line(
     numbering: &mut Numbering,
     buffer: &mut [u8],
     at: usize,
@@ -60,7 +60,7 @@ fn put_reply(buffer: &mut [u8], at: usize, reply: Reply, page: &[u8]) -> usize
 }
 
 /// Puts the last line.
-pub fn put_end(buffer: &mut [u8], at: usize) -> usize
+pub(crate) fn put_end(buffer: &mut [u8], at: usize) -> usize
     requires { at + LINE_BYTES ≤ length buffer.old }
     ensures { PutsText buffer.old buffer.new at end_text result }
 {
@@ -68,7 +68,13 @@ pub fn put_end(buffer: &mut [u8], at: usize) -> usize
 }
 
 /// Puts the last line, with the totals of a run.
-pub fn put_totals(buffer: &mut [u8], at: usize, programs: u64, copies: u64, erases: u64) -> usize
+pub(crate) fn put_totals(
+    buffer: &mut [u8],
+    at: usize,
+    programs: u64,
+    copies: u64,
+    erases: u64,
+) -> usize
     requires { at + LINE_BYTES ≤ length buffer.old }
     ensures { PutsText buffer.old buffer.new at (totals_text programs copies erases) result }
 {
@@ -79,7 +85,7 @@ pub fn put_totals(buffer: &mut [u8], at: usize, programs: u64, copies: u64, eras
 }
 
 /// Puts a block's line of the wear.
-pub fn put_wear(
+pub(crate) fn put_wear(
     buffer: &mut [u8],
     at: usize,
     block: u32,
@@ -97,7 +103,7 @@ pub fn put_wear(
 }
 
 /// Puts the line of a collection.
-pub fn put_collection(
+pub(crate) fn put_collection(
     buffer: &mut [u8],
     at: usize,
     line: u64,
@@ -120,7 +126,7 @@ pub fn put_collection(
 }
 
 /// Puts the line of a broom.
-pub fn put_broom(buffer: &mut [u8], at: usize, it: BroomLine) -> usize
+pub(crate) fn put_broom(buffer: &mut [u8], at: usize, it: BroomLine) -> usize
     requires { at + LINE_BYTES ≤ length buffer.old }
     ensures { PutsText buffer.old buffer.new at (broom_line it) result }
 {

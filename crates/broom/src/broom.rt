@@ -8,8 +8,8 @@ use flash_table::BroomSeat;
 use geometry::{Geometry, Phase, PinWord};
 use std::alloc::{AllocError, Global};
 
-/// A broom's seat, with the room for its survey: for each block its state as loaded, the number of its live pages, and whether it is closed. The
-/// broom puts the blocks that it has drained into the queue, and sets one aside if the queue has no room for it.
+/// The right to collect: each drain and erase takes one. It has the room for a survey: for each block its state as loaded, the number of its live
+/// pages, and whether it is closed. The blocks that it has drained go into the queue, and it sets one aside if the queue has no room for it.
 pub struct Broom {
     pub(crate) seat: BroomSeat,
     pub(crate) states: Vec<PinWord>,

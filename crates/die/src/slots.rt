@@ -2,7 +2,7 @@ ghost use Rattle.std.specs.Prelude.{◌≡◌, ◌≢◌, ◌+◌, ◌*◌, ◌�
 ghost use Rattle.die.specs.Slots.{slot, PutsSlot};
 
 /// Copies the page at an index out of the bytes of all pages.
-pub fn get_page(bytes: &[u8], place: usize, out: &mut [u8])
+pub(crate) fn get_page(bytes: &[u8], place: usize, out: &mut [u8])
     requires { (place + 1) * length out.old ≤ length bytes.now }
     ensures { out.new ≡ slot (length out.old) bytes.now place }
 {
@@ -11,7 +11,7 @@ pub fn get_page(bytes: &[u8], place: usize, out: &mut [u8])
 }
 
 /// The page at an index, among the bytes of all pages.
-pub fn lend_page(bytes: &[u8], page_bytes: usize, place: usize) -> &[u8]
+pub(crate) fn lend_page(bytes: &[u8], page_bytes: usize, place: usize) -> &[u8]
     requires { (place + 1) * page_bytes ≤ length bytes.now }
     ensures value { result.now ≡ slot page_bytes bytes.now place }
     ensures size { length result.now ≡ page_bytes }
@@ -21,7 +21,7 @@ pub fn lend_page(bytes: &[u8], page_bytes: usize, place: usize) -> &[u8]
 }
 
 /// Copies a page to an index, among the bytes of all pages.
-pub fn put_page(bytes: &mut [u8], place: usize, page: &[u8])
+pub(crate) fn put_page(bytes: &mut [u8], place: usize, page: &[u8])
     requires { (place + 1) * length page.now ≤ length bytes.old }
     ensures { PutsSlot (length page.now) bytes.old bytes.new place page.now }
 {
@@ -30,7 +30,7 @@ pub fn put_page(bytes: &mut [u8], place: usize, page: &[u8])
 }
 
 /// Copies a page from one index to another, among the bytes of all pages.
-pub fn move_page(bytes: &mut [u8], page_bytes: usize, from: usize, to: usize)
+pub(crate) fn move_page(bytes: &mut [u8], page_bytes: usize, from: usize, to: usize)
     requires from_within { (from + 1) * page_bytes ≤ length bytes.old }
     requires to_within { (to + 1) * page_bytes ≤ length bytes.old }
     requires apart { from ≢ to }

@@ -20,6 +20,7 @@ pub(crate) fn chip(alloc: Global, blocks: u32, pages: u32) -> Result<Chip, Fail>
             blocks,
             pages,
             page_bytes: 1,
+            spare_blocks: blocks / 50 + 1,
         },
     )?)
 }

@@ -225,6 +225,7 @@ fn a_large_chip_is_opened(rt: HostRuntime) -> Result<(), Fail> {
             blocks: 1024,
             pages: 256,
             page_bytes: 1,
+            spare_blocks: 20,
         },
     )?;
     let Some(mut layer) = open(&rt, chip, 200_000) else {

@@ -141,6 +141,7 @@ fn a_list_of_calls_goes_on_after_a_failure(rt: HostRuntime) -> Result<(), Fail> 
             blocks: 3,
             pages: 2,
             page_bytes: 1,
+            spare_blocks: 1,
         },
     )?;
     nand.fail_at(1);
@@ -273,5 +274,30 @@ fn a_block_that_was_erased_often_rests(rt: HostRuntime) -> Result<(), Fail> {
         let rests = erases == 0 && block == 3;
         expect(&rt, rests || erases >= 7 && block != 3, &(block, erases));
     }
+    Ok(())
+}
+
+// Block 0 has lost its first page, whose sector has a newer one, so the open tells a loss. The erase of block 2 fails then: the call goes on,
+// since its mount finds no loss more.
+#[test]
+fn a_loss_that_was_told_stops_no_call(rt: HostRuntime) -> Result<(), Fail> {
+    let Some(mut layer) = open(&rt, chip(rt.alloc(), 6, 2)?, 3) else {
+        return Ok(());
+    };
+    assert!(rt; layer.reserve() == 1 && layer.losses() == 0);
+    for (sector, byte) in [(0, 1), (1, 2), (2, 3), (0, 4)] {
+        assert!(rt; make(&rt, &mut layer, Call::Write(sector, byte), None).is_ok());
+    }
+    let mut nand = layer.into_nand();
+    nand.lose_page(PageAddr { block: 0, page: 0 });
+    nand.fail_at(nand.commands());
+    let Some(mut layer) = open(&rt, nand, 3) else {
+        return Ok(());
+    };
+    assert!(rt; layer.losses() == 1);
+    assert!(rt; make(&rt, &mut layer, Call::Write(1, 5), None).is_ok());
+    assert!(rt; layer.losses() == 1 && layer.reserve() == 0);
+    assert!(rt; read(&rt, &mut layer, 0) == Ok(Some(4)));
+    assert!(rt; read(&rt, &mut layer, 1) == Ok(Some(5)));
     Ok(())
 }

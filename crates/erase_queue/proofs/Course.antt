@@ -8,7 +8,7 @@ use Rattle.geometry.{specs.History.Begins, proofs.Histories.Begins-refl, proofs.
 use Rattle.erase_queue.specs.declared.sight.{Role.Role, Sight.Sight}
 use Rattle.erase_queue.specs.declared.sight.Role.TheVariants.{Counter, Dealer, Gone, User}
 use Rattle.erase_queue.{specs.Moves.DidPut, specs.Moves.DidTake, specs.Moves.Stand, proofs.Places.owned_snoc, proofs.Places.owned_grow}
-use Rattle.erase_queue.specs.Rule.{Course, LawfulSight, Lawful, Ruled, counter, counted, dealer, user_of, gone}
+use Rattle.erase_queue.specs.Rule.{AreOwn, Course, LawfulSight, Lawful, Ruled, counter, counted, dealer, user_of, gone}
 use Rattle.erase_queue.proofs.Places.{none_some, get_last, get_behind, length_last, replaced, replaced_else, no_shorter, own_stay, own_grow, owned_set}
 
 -- One course goes on to another: numbers were put or taken, and each place is whose it was
@@ -64,6 +64,20 @@ each_snoc : (F : ℕ → Sight → Type 0) (views : List Sight) (w : Sight) → 
 each_snoc F views w last others j u e =
     ⊎_elim (λ (x : get_elem? views j ≡ some u). others j u x) (λ (x : w ≡ u). subst (F j) x (last j)) (at_snoc views w u j e)
 
+-- a lawful pass stays so with other places that it has seen and owns, if these are lawful
+with_places : (g : Course) (pass : ℕ) (v : Sight) (puts own_puts own_takes : List ℕ) (takes : ℕ) → LawfulSight g pass v → Begins puts g.puts
+    → takes ≤ g.taken → AreOwn (length g.puts) g.putter pass own_puts → AreOwn g.taken g.taker pass own_takes
+    → LawfulSight g pass (record v { puts = puts; takes = takes; own_puts = own_puts; own_takes = own_takes })
+with_places g pass v puts own_puts own_takes takes kept begins below mine_put mine_taken = record {
+  counts = kept.counts;
+  deals = kept.deals;
+  uses = kept.uses;
+  puts = begins;
+  takes = below;
+  own_puts = mine_put;
+  own_takes = mine_taken;
+}
+
 -- A PUT
 module _ (g : Course) (items : List ℕ) (views : List Sight) (l : Lawful g items views) (pass : ℕ) (v : Sight) (at : get_elem? views pass ≡ some v) (x : ℕ) where
   abbrev put_course : Course
@@ -86,15 +100,8 @@ module _ (g : Course) (items : List ℕ) (views : List Sight) (l : Lawful g item
   put_mine =
       let old = l.each pass v at in
       let kept = sight_stays g put_course pass v put_goes_on old in
-      record {
-        counts = kept.counts;
-        deals = kept.deals;
-        uses = kept.uses;
-        puts = Begins-refl (g.puts ++ x ∷ []);
-        takes = kept.takes;
-        own_puts = own_grow (length g.puts) (length (g.puts ++ x ∷ [])) g.putter pass v.own_puts (length_last g.puts x) old.own_puts;
-        own_takes = kept.own_takes;
-      }
+      with_places put_course pass v _ _ _ _ kept (Begins-refl (g.puts ++ x ∷ [])) kept.takes
+      (own_grow (length g.puts) (length (g.puts ++ x ∷ [])) g.putter pass v.own_puts (length_last g.puts x) old.own_puts) kept.own_takes
 
   put_lawful : x < g.limit → Lawful put_course (items ++ x ∷ []) (set views pass put_sight)
   put_lawful low = record {
@@ -130,15 +137,8 @@ module _ (g : Course) (items : List ℕ) (views : List Sight) (x : ℕ) (l : Law
   take_mine =
       let old = l.each pass v at in
       let kept = sight_stays g take_course pass v take_goes_on old in
-      record {
-        counts = kept.counts;
-        deals = kept.deals;
-        uses = kept.uses;
-        puts = Begins-refl g.puts;
-        takes = omega arith;
-        own_puts = kept.own_puts;
-        own_takes = own_grow g.taken (g.taken + 1) g.taker pass v.own_takes refl old.own_takes;
-      }
+      with_places take_course pass v _ _ _ _ kept (Begins-refl g.puts) (omega arith) kept.own_puts
+      (own_grow g.taken (g.taken + 1) g.taker pass v.own_takes refl old.own_takes)
 
   take_lawful : Lawful take_course items (set views pass take_sight)
   take_lawful = record {

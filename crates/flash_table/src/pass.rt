@@ -9,7 +9,7 @@ pub struct OpenBlock {
     pub written: u32,
 }
 
-/// A host's seat at the table, with the block that it writes into. It can be moved to another thread.
+/// A host's right to use a device: each read, write and trim takes one. It has the block that the host writes into, and can be moved to another thread.
 pub struct Pass {
     pub(crate) seat: Seat<(), View>,
     pub(crate) opened: Option<OpenBlock>,

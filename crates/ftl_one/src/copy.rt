@@ -7,7 +7,7 @@ use die::Die;
 use geometry::PageAddr;
 
 /// Copies a sector's page: by copyback on its own LUN, and otherwise by a read and a program through `page`.
-pub fn copy_page(
+pub(crate) fn copy_page(
     die: &mut Die,
     page: &mut [u8],
     sector: u32,

@@ -5,7 +5,7 @@ ghost use Rattle.ftl_one.specs.Fewest.{IsFewest, IsLeast, IsFirst};
 const LANES: usize = 16;
 
 /// The block with the smallest count except the one that is left out, and the lowest of several.
-pub fn fewest_beside(counts: &[u16], left_out: usize) -> usize
+pub(crate) fn fewest_beside(counts: &[u16], left_out: usize) -> usize
     requires left_out { left_out < length counts.now }
     requires others { 2 ≤ length counts.now }
     ensures { IsFewest counts.now left_out result }

@@ -4,7 +4,7 @@ ghost use Rattle.ftl_one.specs.Entries.{Recounts};
 use geometry::PageAddr;
 
 /// Counts one page as dead and one as live, if there are such.
-pub fn recount(counts: &mut [u16], dead: Option<PageAddr>, live: Option<PageAddr>)
+pub(crate) fn recount(counts: &mut [u16], dead: Option<PageAddr>, live: Option<PageAddr>)
     requires dead_within { IfSome dead (λ at. at.block < length counts.old) }
     requires counted { IfSome dead (λ at. 0 < slice_index counts.old at.block) }
     requires live_within { IfSome live (λ at. at.block < length counts.old) }

@@ -6,7 +6,7 @@ ghost use Rattle.ftl_one.specs.declared.role.Role.TheVariants.{Open, Spare, Reti
 use crate::role::Role;
 
 /// Makes the spare the open block and the victim the spare, or retires the victim if its erase has failed.
-pub fn hand_over(roles: &mut [Role], spare: u32, victim: u32, failed: bool)
+pub(crate) fn hand_over(roles: &mut [Role], spare: u32, victim: u32, failed: bool)
     requires spare { spare < length roles.old }
     requires victim { victim < length roles.old }
     ensures { roles.new
@@ -17,7 +17,7 @@ pub fn hand_over(roles: &mut [Role], spare: u32, victim: u32, failed: bool)
 }
 
 /// The spare after a collection: the victim, unless its erase has failed.
-pub fn next_spare(victim: u32, failed: bool) -> Option<u32>
+pub(crate) fn next_spare(victim: u32, failed: bool) -> Option<u32>
     ensures { result ≡ (if failed then None else Some victim) }
 {
     if failed { None } else { Some(victim) }
@@ -31,7 +31,7 @@ fn first_free(roles: &[Role]) -> Option<usize>
 }
 
 /// The lowest free block, if none below the given one is free.
-pub fn lowest_free(roles: &[Role], from: usize) -> Option<usize>
+pub(crate) fn lowest_free(roles: &[Role], from: usize) -> Option<usize>
     requires within { from ≤ length roles.now }
     requires none_below { (b : ℕ) → b < from → is_free (role_in roles.now b) ≡ false }
     ensures { result ≡ position is_free roles.now }

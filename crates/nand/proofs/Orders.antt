@@ -3,7 +3,7 @@ use Rattle.std.proofs.Common.{◌≡◌, ◌≢◌, ◌∙◌, ⊎_elim, ◌+◌
 use Rattle.std.proofs.Common.{Some, min, max, ◌-◌, ◌*◌, ◌/◌, if◌then◌else◌, refl, sym, ap, subst, arith}
 use Rattle.std.proofs.lemmas.Bool.{cases_eq, cases_lt, false≢true}
 use Rattle.std.proofs.lemmas.Bool.Decides.{nat_tests}
-use Rattle.std.proofs.Math.Nat.{lt-div-mul-add, mul-le-mul_right}
+use Rattle.std.proofs.Math.Nat.{div-mul-le_self, lt-div-mul-add, mul-le-mul_right}
 use Rattle.std.specs.List.{swap}
 use Rattle.geometry.specs.Sectors.{Sector}
 use Rattle.durable.specs.Flash.{Flash, HoldsNewest, IsErased}
@@ -18,7 +18,7 @@ use Rattle.durable.proofs.Promises.{erased_recoverable, version_before, readable
 use Rattle.durable.proofs.Reserves.{swapped_first, swapped_other, swapped_second, swapped_twice}
 use Rattle.nand.specs.declared.flash.Shape.{Shape}
 use Rattle.nand.specs.Numbers.{IsOrder, chip_block, good_before, is_marked, most_in_use, numbered}
-use Rattle.nand.specs.Opened.{IsOpenable, IsReserveBlank, device_on, most_used}
+use Rattle.nand.specs.Opened.{CanSpare, IsOpenable, IsReserveBlank, device_on, most_used, used_blocks}
 
 -- the order as it is made
 pub first_order : (numbers : List ℕ) (bad : List Bool) → ((c : ℕ) → chip_block numbers c ≡ c) → IsOrder numbers bad 0
@@ -83,20 +83,37 @@ has_pages sectors blocks zero lt = absurd (omega (arith, lt))
 has_pages sectors blocks (suc pages) lt = omega arith
 
 -- the sectors fit in the blocks in use if they fit in all good ones
-pub capacity_of_used : (sectors good blocks pages : ℕ) → HasCapacity sectors good pages
-    → HasCapacity sectors (min good (most_in_use blocks pages sectors)) pages
-capacity_of_used sectors good blocks pages capacity =
-    let most = most_in_use blocks pages sectors in
+pub capacity_of_used : (sectors good blocks spare pages : ℕ) → HasCapacity sectors good pages
+    → HasCapacity sectors (min good (most_in_use blocks spare pages sectors)) pages
+capacity_of_used sectors good blocks spare pages capacity =
+    let most = most_in_use blocks spare pages sectors in
     ⊎_elim
     (λ more. let all = lt-div-mul-add {a = sectors} {b = pages} (has_pages sectors (good - 1) pages capacity) in
     let needed : sectors / pages + 1 ≤ min good most - 1 =
-    omega (arith, least_second good most more, at_least (blocks - (blocks / 50 + 1)) (sectors / pages + 2)) in
+    omega (arith, least_second good most more, at_least (blocks - spare) (sectors / pages + 2)) in
     let fits = mul-le-mul_right pages needed in
     let one : (sectors / pages + 1) * pages ≡ sectors / pages * pages + pages = grind arith in
     omega (arith, all, fits, one))
     (λ le. let is = least_first good most le in
     subst (λ (n : ℕ). HasCapacity sectors n pages) (sym is) capacity)
     (cases_lt most good)
+
+no_more : (a b c : ℕ) → a ≤ c → b ≤ c → max a b ≤ c
+no_more a b c first second = grind (arith, nat_tests)
+
+-- as many blocks are in reserve as may go bad yet
+pub spares_reserved : (shape : Shape) (bad : List Bool) (sectors n reserve : ℕ) → CanSpare shape bad sectors n
+    → reserve + used_blocks shape bad sectors ≡ good_before bad shape.blocks → n ≤ reserve
+spares_reserved shape bad sectors n reserve can is =
+    let good = good_before bad shape.blocks in
+    let rows = sectors / shape.pages in
+    let fits : rows + 2 + n ≤ good = ⊎_elim
+    (λ lt. omega (arith, lt))
+    (λ le. absurd (omega (arith, can.1, mul-le-mul_right shape.pages le, div-mul-le_self sectors shape.pages)))
+    (cases_lt rows (good - n - 1)) in
+    let most : most_used shape sectors ≤ good - n =
+    no_more (shape.blocks - shape.spare_blocks) (rows + 2) (good - n) (omega (arith, can.0, fits)) (omega (arith, fits)) in
+    omega (arith, is, most, fits, (no_greater good (most_used shape sectors)).1)
 
 -- at least two blocks are in use, if they are good
 pub at_least_two : (shape : Shape) (sectors : ℕ) → 2 ≤ most_used shape sectors

@@ -1,6 +1,6 @@
 -- The versions that the commands of a call leave.
-use Rattle.std.proofs.Common.{◌≡◌, ◌⊎◌, ◌∙◌, inl, inr, ⊎_elim, ◌≤◌, ◌+◌, ◌-◌, ◌%◌, ◌^◌, ℕ, Bool, true, false}
-use Rattle.std.proofs.Common.{List, Result, Ok, Err, OnOk, refl, sym, ap, subst, arith}
+use Rattle.std.proofs.Common.{◌≡◌, ◌⊎◌, ◌∙◌, inl, inr, ⊎_elim, ◌<◌, ◌≤◌, ◌+◌, ◌-◌, ◌*◌, ◌%◌, ◌^◌, ℕ, Bool, true, false}
+use Rattle.std.proofs.Common.{List, Option, None, Some, Result, Ok, Err, OnOk, refl, sym, ap, subst, arith}
 use Rattle.std.proofs.lemmas.Bool.{cases_eq, false≢true}
 use Rattle.geometry.specs.Sectors.{Sector}
 use Rattle.geometry.specs.declared.answer.Was.{Was}
@@ -9,7 +9,9 @@ use Rattle.durable.specs.declared.command.Command.{Command}
 use Rattle.durable.specs.declared.command.Command.TheVariants.{Program, Copy, Erase, Refused}
 use Rattle.durable.specs.declared.extent.Extent.{Extent}
 use Rattle.durable.specs.declared.memory.Core.{Core}
-use Rattle.durable.specs.Choice.{IsNextCommand, Spends}
+use Rattle.durable.specs.Choice.{IsNextCommand, Spends, left_at}
+use Rattle.durable.specs.Collecting.{IsPageOn}
+use Rattle.geometry.specs.declared.page_addr.PageAddr.{PageAddr}
 use Rattle.durable.specs.Commands.{Completes, is_program}
 use Rattle.durable.specs.Flash.{Flash, PageContents, Version, SetsPage}
 use Rattle.durable.specs.Updates.{Update}
@@ -17,7 +19,7 @@ use Rattle.durable.proofs.Cells.{erased_holds_none}
 use Rattle.nand.specs.declared.failure.Failure.{Failure}
 use Rattle.nand.specs.Nand.{tally_after}
 use Rattle.nand.specs.Numbers.{IsOrder, chip_block, numbered}
-use Rattle.nand.specs.Programs.{AddsVersion, HasSomewhere, TalliesOnce}
+use Rattle.nand.specs.Programs.{AddsVersion, HasSomewhere, TalliesMoves, TalliesOnce}
 use Rattle.nand.specs.declared.flash.Tally.{Tally}
 
 -- the flash has no version that it did not have before
@@ -75,9 +77,30 @@ pub adds_there : (f g t : Flash) (n k : ℕ) (update : Update) → g ≡ f → k
 adds_there f g t n k update flash number adds = subst (λ (h : Flash). AddsVersion h t n update) flash
     (subst (λ (j : ℕ). AddsVersion g t j update) number adds)
 
--- the same of counts that are those from before
-pub tallies_there : {old mid : Tally} {n m : ℕ} (new : Tally) → mid ≡ old → m ≡ n → TalliesOnce mid new m → TalliesOnce old new n
-tallies_there {old} {mid} {n} {m} new tally pages is = subst (λ (t : Tally). TalliesOnce t new n) tally (subst (TalliesOnce mid new) pages is)
+-- before the first attempt
+pub moves_none : (tally : Tally) (pages : ℕ) → TalliesMoves tally tally 0 pages
+moves_none tally pages = record {
+  copies = 0;
+  erases = 0;
+  copied = omega arith;
+  erased = omega arith;
+  few = omega arith;
+  one = omega arith;
+}
+
+-- after one attempt more
+pub moves_more : {before mid now : Tally} {n pages : ℕ} → TalliesMoves before mid n pages → TalliesMoves mid now 1 pages
+    → TalliesMoves before now (n + 1) pages
+moves_more {before} {mid} {now} {n} {pages} some more =
+    let one : (n + 1) * (pages - 1) ≡ n * (pages - 1) + 1 * (pages - 1) = grind arith in
+    record {
+      copies = some.copies + more.copies;
+      erases = some.erases + more.erases;
+      copied = omega (arith, some.copied, more.copied);
+      erased = omega (arith, some.erased, more.erased);
+      few = omega (arith, some.few, more.few, one);
+      one = omega (arith, some.one, more.one);
+    }
 
 -- what a call has counted that isn't at its end and may still need so many commands
 pub record HasSpent (before now : Tally) (pages left : ℕ) : Type 0 where
@@ -135,6 +158,40 @@ still_spent before mid now Refused pages old new is spent counted spends = recor
   one = spent.one;
   opened = omega (arith, spent.opened, spends);
 }
+
+-- a call needs a command more
+pub some_left : (blocks pages : ℕ) (next : Option PageAddr) → IsPageOn blocks pages next → 0 < left_at pages next
+some_left blocks pages None on = omega arith
+some_left blocks pages (Some to) on = omega (arith, (on to refl).1)
+
+-- what an attempt has counted that has come to no end
+pub moves_so_far : {before now : Tally} {pages left : ℕ} → HasSpent before now pages left → 0 < left → TalliesMoves before now 1 pages
+moves_so_far {before} {now} {pages} {left} spent some = record {
+  copies = spent.copies;
+  erases = spent.erases;
+  copied = spent.copied;
+  erased = spent.erased;
+  few = omega (arith, spent.few, some);
+  one = spent.one;
+}
+
+-- and with its program
+pub tallies_once : (before mid now : Tally) (m : Command) (pages left : ℕ) → is_program m ≡ true → HasSpent before mid pages left → 0 < left
+    → now ≡ tally_after m mid → TalliesOnce before now 1 pages
+tallies_once before mid now (Program at n) pages left is spent some counted = (
+  ap (λ (t : Tally). t.programs) counted ∙ ap (λ (k : ℕ). (k + 1) % 2 ^ 64) spent.programmed,
+  record {
+    copies = spent.copies;
+    erases = spent.erases;
+    copied = ap (λ (t : Tally). t.copies % 2 ^ 64) counted ∙ spent.copied;
+    erased = ap (λ (t : Tally). t.erases % 2 ^ 64) counted ∙ spent.erased;
+    few = omega (arith, spent.few, some);
+    one = spent.one;
+  },
+)
+tallies_once before mid now (Copy k from to) pages left is spent some counted = absurd (false≢true is)
+tallies_once before mid now (Erase b) pages left is spent some counted = absurd (false≢true is)
+tallies_once before mid now Refused pages left is spent some counted = absurd (false≢true is)
 
 -- a call that programs nothing, or once
 pub or_once : (P Q : Type 0) (result : Result (Unit {0}) Failure) → OnOk result Q → OnOk result (P ⊎ Q)

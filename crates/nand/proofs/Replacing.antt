@@ -267,15 +267,17 @@ mounted_open {N} flash shape bad was layer sectors updates mounted same order de
 
 -- what a mount in place tells
 pub no_replacement : {T : Type 0} (cause : Failure) → (◌≡◌ {A = Result T Failure} (Err cause) (Err failure.PowerGone)
-    ⊎ ◌≡◌ {A = Result T Failure} (Err cause) (Err failure.OutOfMemory))
+    ⊎ ◌≡◌ {A = Result T Failure} (Err cause) (Err failure.OutOfMemory)
+    ⊎ ◌≡◌ {A = Result T Failure} (Err cause) (Err failure.PagesLost))
     → (IsRefusal cause → ⊥) × (cause ≢ failure.Lost) × (cause ≢ failure.Failed)
 no_replacement {T} failure.PowerGone told = (λ none. none, λ e. cc e, λ e. cc e)
 no_replacement {T} failure.OutOfMemory told = (λ none. none, λ e. cc e, λ e. cc e)
-no_replacement {T} failure.Failed told = absurd (⊎_elim (λ e. cc e) (λ e. cc e) told)
-no_replacement {T} failure.Closed told = absurd (⊎_elim (λ e. cc e) (λ e. cc e) told)
-no_replacement {T} failure.NoNumber told = absurd (⊎_elim (λ e. cc e) (λ e. cc e) told)
-no_replacement {T} failure.Written told = absurd (⊎_elim (λ e. cc e) (λ e. cc e) told)
-no_replacement {T} failure.Lost told = absurd (⊎_elim (λ e. cc e) (λ e. cc e) told)
+no_replacement {T} failure.PagesLost told = (λ none. none, λ e. cc e, λ e. cc e)
+no_replacement {T} failure.Failed told = absurd (⊎_elim (λ e. cc e) (⊎_elim (λ e. cc e) (λ e. cc e)) told)
+no_replacement {T} failure.Closed told = absurd (⊎_elim (λ e. cc e) (⊎_elim (λ e. cc e) (λ e. cc e)) told)
+no_replacement {T} failure.NoNumber told = absurd (⊎_elim (λ e. cc e) (⊎_elim (λ e. cc e) (λ e. cc e)) told)
+no_replacement {T} failure.Written told = absurd (⊎_elim (λ e. cc e) (⊎_elim (λ e. cc e) (λ e. cc e)) told)
+no_replacement {T} failure.Lost told = absurd (⊎_elim (λ e. cc e) (⊎_elim (λ e. cc e) (λ e. cc e)) told)
 
 -- without a reserve all good blocks are in use
 pub all_used : (good most reserve : ℕ) → reserve ≡ 0 → reserve + min good most ≡ good → good ≤ most

@@ -1,5 +1,5 @@
 -- The commands of one call.
-use Rattle.std.proofs.Common.{◌≡◌, ◌≢◌, ◌⊎◌, ◌∙◌, inl, ⊎_elim, ◌+◌, ◌-◌, ◌%◌, ◌^◌, ℕ, Bool, true, false}
+use Rattle.std.proofs.Common.{◌≡◌, ◌≢◌, ◌⊎◌, ◌∙◌, inl, ⊎_elim, ◌<◌, ◌+◌, ◌-◌, ◌%◌, ◌^◌, ℕ, Bool, true, false}
 use Rattle.std.proofs.Common.{List, Vec, ◌∷◌, None, Some, Result, Ok, Err, OnOk, IfErr, sym, refl}
 use Rattle.std.proofs.Common.{ap, subst, arith}
 use Rattle.std.proofs.lemmas.Bool.{false≢true}
@@ -11,7 +11,7 @@ use Rattle.durable.specs.declared.command.Command.TheVariants.{Program, Copy, Er
 use Rattle.durable.specs.declared.memory.Core.{Core}
 use Rattle.durable.specs.Choice.{number_after}
 use Rattle.durable.specs.Commands.{is_program, updates_with}
-use Rattle.durable.specs.Device.{Device, device_of}
+use Rattle.durable.specs.Device.{Device, device_of, losses_of}
 use Rattle.durable.specs.Flash.{Flash}
 use Rattle.durable.specs.Promise.{IsConsistent, IsRecoverable}
 use Rattle.durable.specs.Memory.{Represents, map_entry}
@@ -32,9 +32,9 @@ use Rattle.nand.specs.Opened.{CanOpen, Fails, HasMarkedFailed, IsOpenLayer, IsSp
 use Rattle.nand.specs.Opened.{layer_sectors, number_of, update_of}
 use Rattle.nand.specs.Stored.{stored_value, value_at}
 use Rattle.nand.specs.Looks.{Looks}
-use Rattle.nand.specs.Programs.{ProgramsOnce}
+use Rattle.nand.specs.Programs.{ProgramsOnce, TalliesOnce}
 use Rattle.nand.proofs.Orders.{openable}
-use Rattle.nand.proofs.Programs.{adds_there, tallies_there}
+use Rattle.nand.proofs.Programs.{adds_there}
 use Rattle.durable.proofs.Subsequences.{all_of, between_same}
 
 -- the program adds its update, and no other command does
@@ -133,6 +133,7 @@ module _ {N : Type 0} {flash : N → Flash} {shape : N → Shape} {bad : N → L
   true_after new failure.NoNumber is = omega (arith, looks.number, is)
   true_after new failure.Written is = tt
   true_after new failure.Lost is = tt
+  true_after new failure.PagesLost is = subst (λ (core : Core). losses_of core < losses_of new.core) looks.core is
 
   -- what was marked
   pub marked_after : (new : Durable N) → HasMarkedFailed shape bad faults mid new → HasMarkedFailed shape bad faults old new
@@ -146,10 +147,15 @@ module _ {N : Type 0} {flash : N → Flash} {shape : N → Shape} {bad : N → L
   -- what the call programs
   pub once_after : (new : Durable N) (update : Update) → ProgramsOnce flash shape bad tally mid new update
       → ProgramsOnce flash shape bad tally old new update
-  once_after new update once none =
-      let there = once (none ∙ sym looks.device.marks) in (
-        adds_there (flash old.nand) (flash mid.nand) (flash new.nand) (number_of old) (number_of mid) update looks.same looks.number there.0,
-        tallies_there (tally new.nand) looks.tallied (ap (λ (s : Shape). s.pages) looks.device.chip) there.1,
+  once_after new update once =
+      let last = tally new.nand in
+      let attempts = λ (m : List Bool) (s : Shape). good_before m s.blocks - good_before (bad new.nand) s.blocks + 1 in (
+        λ none. adds_there (flash old.nand) (flash mid.nand) (flash new.nand) (number_of old) (number_of mid) update looks.same looks.number
+            (once.0 (none ∙ sym looks.device.marks)),
+        subst (λ (t : Tally). TalliesOnce t last (attempts (bad old.nand) (shape old.nand)) (shape old.nand).pages) looks.tallied
+            (subst (λ (s : Shape). TalliesOnce (tally mid.nand) last (attempts (bad old.nand) s) s.pages) looks.device.chip
+            (subst (λ (m : List Bool). TalliesOnce (tally mid.nand) last (attempts m (shape mid.nand)) (shape mid.nand).pages) looks.device.marks
+            once.1)),
       )
 
   -- what the layer has of the sectors

@@ -4,11 +4,13 @@ use Rattle.durable.specs.Flash.{Flash}
 use Rattle.durable.specs.Updates.{Makes, Update}
 use Rattle.nand.specs.declared.flash.Fault.{Fault}
 use Rattle.nand.specs.declared.flash.Shape.{Shape}
+use Rattle.nand.specs.declared.flash.Tally.{Tally}
 use Rattle.nand.specs.declared.layer.Durable.{Durable}
 use Rattle.nand.specs.declared.updating.Stop.{Stop}
 use Rattle.nand.specs.declared.updating.Stop.TheVariants as stop
 use Rattle.nand.specs.Nand.{CountsOne}
 use Rattle.nand.specs.Numbers.{Marks, chip_block, good_before, is_marked}
+use Rattle.nand.specs.Programs.{TalliesMoves, TalliesOnce}
 use Rattle.nand.specs.Opened.{CanOpen, IsUnmounted, IsOpenLayer, IsOpenable, layer_sectors, reserve_of, used_blocks}
 
 -- a command on the block with this number has failed. The chip can be opened with that block in use, and, if there is a reserve, with it marked bad
@@ -28,6 +30,11 @@ abbrev pub Leaves : {N : Type 0} → (N → Flash) → (N → Shape) → (N → 
 Leaves {N} flash shape bad layer update updates stop.NoNumber = IsOpenLayer flash shape bad layer updates
 Leaves {N} flash shape bad layer update updates (stop.Fault cause number) =
     (after : List Update) × Makes false update updates after × CanReplace flash shape bad layer number after
+
+-- an attempt programs once, or not at all if it comes to no end
+abbrev pub TalliesAttempt : {T : Type 0} → Tally → Tally → ℕ → Result T Stop → Type 0
+TalliesAttempt {T} before now pages (Ok value) = TalliesOnce before now 1 pages
+TalliesAttempt {T} before now pages (Err stop) = (now.programs ≡ before.programs) × TalliesMoves before now 1 pages
 
 -- a fault is counted, and nothing else is
 abbrev pub CountsStop : {T : Type 0} → (Fault → ℕ) → (Fault → ℕ) → Result T Stop → Type 0

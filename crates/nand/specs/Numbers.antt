@@ -25,9 +25,9 @@ abbrev pub good_before : List Bool → ℕ → ℕ
 good_before bad zero = 0
 good_before bad (suc b) = good_before bad b + (if is_marked bad b then 0 else 1)
 
--- how many good blocks are in use at most: all blocks of the chip but one, and one of 50 more, but as many as the sectors need
-abbrev pub most_in_use : ℕ → ℕ → ℕ → ℕ
-most_in_use blocks pages sectors = max (blocks - (blocks / 50 + 1)) (sectors / pages + 2)
+-- how many good blocks are in use at most: all blocks of the chip but the spare ones, but as many as the sectors need
+abbrev pub most_in_use : ℕ → ℕ → ℕ → ℕ → ℕ
+most_in_use blocks spare pages sectors = max (blocks - spare) (sectors / pages + 2)
 
 -- the block is in use: it is good, and has one of the first numbers
 abbrev pub IsInUse : List Bool → ℕ → ℕ → Type 0

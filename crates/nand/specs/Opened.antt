@@ -5,9 +5,10 @@ use Rattle.geometry.specs.declared.answer.Got.{Got}
 use Rattle.geometry.specs.declared.answer.Got.TheVariants as got
 use Rattle.geometry.specs.declared.answer.Was.{Was}
 use Rattle.geometry.specs.declared.answer.Was.TheVariants as was
+use Rattle.durable.specs.Collecting.{HasCapacity}
 use Rattle.durable.specs.Failures.{HoldsNoVersion}
 use Rattle.durable.specs.Flash.{Flash, Version}
-use Rattle.durable.specs.Device.{Device, device_of, next_number_of}
+use Rattle.durable.specs.Device.{Device, device_of, losses_of, next_number_of}
 use Rattle.durable.specs.Promise.{IsConsistent, IsReadable}
 use Rattle.durable.specs.Spare.{IsDuplicated}
 use Rattle.durable.specs.Updates.{Covers, Update}
@@ -26,7 +27,7 @@ device_using used shape sectors = record { blocks = used; read_blocks = shape.bl
 
 -- how many good blocks are in use at most
 abbrev pub most_used : Shape → ℕ → ℕ
-most_used shape sectors = most_in_use shape.blocks shape.pages sectors
+most_used shape sectors = most_in_use shape.blocks shape.spare_blocks shape.pages sectors
 
 -- how many are
 abbrev pub used_blocks : Shape → List Bool → ℕ → ℕ
@@ -47,6 +48,12 @@ number_of {N} layer = next_number_of layer.core
 -- the number of each version is below this one
 abbrev pub NumbersBelow : Flash → ℕ → Type 0
 NumbersBelow f n = (b p : ℕ) (e : Extent) (m : ℕ) (v : Sector) → f b p ≡ Version e m v → m < n
+
+-- so many blocks may go bad yet: the chip has as many spare ones beside those that are bad, and the sectors fit in the other good ones
+abbrev pub CanSpare : Shape → List Bool → ℕ → ℕ → Type 0
+CanSpare shape bad sectors failures =
+    let good = good_before bad shape.blocks in
+    (failures + shape.blocks ≤ shape.spare_blocks + good) × HasCapacity sectors (good - failures) shape.pages
 
 -- an update of an extent's sectors
 abbrev pub update_of : Extent → Sector → Update
@@ -101,12 +108,15 @@ pub record KeepsDevice {N : Type 0} (shape : N → Shape) (bad : N → List Bool
   pub marks : (b : ℕ) → is_marked (bad old.nand) b ≡ true → is_marked (bad new.nand) b ≡ true
   pub same : faults new.nand fault.Failed ≡ faults old.nand fault.Failed → bad new.nand ≡ bad old.nand
 
+-- how many blocks were marked bad
+abbrev pub marked_blocks : {N : Type 0} → (N → Shape) → (N → List Bool) → Durable N → Durable N → ℕ
+marked_blocks {N} shape bad old new =
+    good_before (bad old.nand) (shape old.nand).blocks - good_before (bad new.nand) (shape old.nand).blocks
+
 -- so many blocks were marked as commands have failed, modulo 2^64
 abbrev pub HasMarkedFailed : {N : Type 0} → (N → Shape) → (N → List Bool) → (N → Fault → ℕ) → Durable N → Durable N → Type 0
 HasMarkedFailed {N} shape bad faults old new =
-    let was = good_before (bad old.nand) (shape old.nand).blocks in
-    let now = good_before (bad new.nand) (shape old.nand).blocks in
-    faults new.nand fault.Failed % 2 ^ 64 ≡ (faults old.nand fault.Failed + (was - now)) % 2 ^ 64
+    faults new.nand fault.Failed % 2 ^ 64 ≡ (faults old.nand fault.Failed + marked_blocks shape bad old new) % 2 ^ 64
 
 -- if the layer was open, so many blocks were marked as commands have failed, modulo 2^64
 abbrev pub MarksFailed : {N : Type 0} → (N → Flash) → (N → Shape) → (N → List Bool) → (N → Fault → ℕ) → Durable N → Durable N → Type 0
@@ -122,6 +132,7 @@ IsRefusal failure.Closed = ⊥
 IsRefusal failure.NoNumber = Unit {0}
 IsRefusal failure.Written = Unit {0}
 IsRefusal failure.Lost = ⊥
+IsRefusal failure.PagesLost = ⊥
 
 -- no block is in reserve, or the numbers have run out
 abbrev pub IsSpent : Shape → List Bool → ℕ → ℕ → Type 0
@@ -137,7 +148,8 @@ pub record Fails {N : Type 0} (flash : N → Flash) (shape : N → Shape) (bad :
   pub readable : cause ≢ failure.Lost
   pub spent : cause ≡ failure.Failed → IsSpent (shape new.nand) (bad new.nand) (layer_sectors old) (number_of new)
 
--- the cause that a call tells is the true one: the chip has counted the fault, the layer was closed, or the numbers have run out
+-- the cause that a call tells is the true one: the chip has counted the fault, the layer was closed, the numbers have run out, or a
+-- mount has found more losses than were known
 abbrev pub IsTrueCause : {N : Type 0} → (N → Fault → ℕ) → Durable N → Durable N → Failure → Type 0
 IsTrueCause {N} faults old new failure.PowerGone = faults new.nand fault.PowerGone ≢ faults old.nand fault.PowerGone
 IsTrueCause {N} faults old new failure.Failed = faults new.nand fault.Failed ≢ faults old.nand fault.Failed
@@ -146,6 +158,7 @@ IsTrueCause {N} faults old new failure.Closed = IsUnmounted old
 IsTrueCause {N} faults old new failure.NoNumber = 2 ^ 64 ≤ number_of old + 1
 IsTrueCause {N} faults old new failure.Written = Unit {0}
 IsTrueCause {N} faults old new failure.Lost = Unit {0}
+IsTrueCause {N} faults old new failure.PagesLost = losses_of old.core < losses_of new.core
 
 -- a call of an open layer has failed for a true cause: the power went, a command failed, or the numbers had run out
 pub record HasFailed {N : Type 0} (flash : N → Flash) (shape : N → Shape) (bad : N → List Bool) (faults : N → Fault → ℕ) : Type 0 where

@@ -71,6 +71,7 @@ impl Chip {
 
     /// A chip whose pages are all erased, with power.
     pub fn new(alloc: Global, shape: Shape) -> Result<Chip, AllocError>
+        ensures erased { IfOk result (λ chip. IsErased (chip_flash chip)) }
         ensures shape { IfOk result (λ chip. chip_shape chip ≡ shape) }
         ensures bad { IfOk result
             (λ chip. (b : ℕ) → slice_index_or (chip_bad chip) b false ≡ false) }

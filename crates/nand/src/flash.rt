@@ -29,11 +29,14 @@ pub enum Fault {
 }
 
 /// How many blocks a chip has, how many pages a block, and how many main bytes a page.
+/// So many of the blocks are spare: they stay out of use while the sectors leave room, and one comes in use for each that goes bad. ONFI 4.0 has
+/// the number in the parameter page, as the most blocks that may be bad over the chip's life.
 #[derive(Clone, Copy, Debug, PartialEq, Eq)]
 pub struct Shape {
     pub blocks: u32,
     pub pages: u32,
     pub page_bytes: usize,
+    pub spare_blocks: u32,
 }
 
 /// How many commands of each kind have succeeded, modulo 2^64.

@@ -1,4 +1,5 @@
-ghost use Rattle.std.specs.Prelude.{◌≡◌, ◌≢◌, ◌⊎◌, All, false, List, ◌∷◌, [], length, Ok, Err, OnOk, IfOk, IfErr};
+ghost use Rattle.std.specs.Prelude.{◌≡◌, ◌≢◌, ◌⊎◌, ◌≤◌, All, false, List, ◌∷◌, [], length, Ok, Err, OnOk, IfOk, IfErr};
+ghost use Rattle.durable.specs.Device.{losses_of};
 ghost use Rattle.durable.specs.Updates.{Makes, Update};
 ghost use Rattle.nand.specs.Histories.{IsFor, Leads, update_by};
 ghost use Rattle.nand.specs.Opened.{CanOpen, Fails, HasFailed, IsUnmounted, IsOpenLayer, IsTrueCause, KeepsDevice, MarksFailed, layer_sectors};
@@ -34,6 +35,7 @@ impl<N: Nand> Durable<N> {
         ensures idle { IsUnmounted self.old → N.tally self.new.nand ≡ N.tally self.old.nand }
         ensures device { KeepsDevice N.shape N.bad N.faults self.old self.new }
         ensures marks { OnOk result (MarksFailed N.flash N.shape N.bad N.faults self.old self.new) }
+        ensures losses { OnOk result (losses_of self.new.core ≤ losses_of self.old.core) }
         ensures memory { result ≡ Err failure.OutOfMemory
             → MarksFailed N.flash N.shape N.bad N.faults self.old self.new }
         ensures overwrites { result ≢ Err failure.Written }

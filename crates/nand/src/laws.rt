@@ -1,11 +1,11 @@
 //! Laws of the definitions: each function has no code, and its clauses say on small values where a definition holds and where not.
-ghost use Rattle.std.specs.Prelude.{◌≡◌, ◌≢◌, ◌<◌, ◌-◌, ◌%◌, ◌^◌, ℕ, Bool, List, [], ◌∷◌, Option, None, Some, Ok, Err, Vec, true, false};
+ghost use Rattle.std.specs.Prelude.{◌≡◌, ◌≢◌, ◌<◌, ◌+◌, ◌-◌, ◌%◌, ◌^◌, ℕ, Bool, List, [], ◌∷◌, Option, None, Some, Ok, Err, Vec, true, false};
 ghost use Rattle.std.specs.declared.alloc.Global.{Global as OnHeap};
 ghost use Rattle.geometry.specs.Sectors.{Sector};
 ghost use Rattle.geometry.specs.declared.answer.Got.TheVariants as got;
 ghost use Rattle.geometry.specs.declared.answer.Was.TheVariants as was;
 ghost use Rattle.geometry.specs.declared.page_addr.PageAddr.{PageAddr as Addr};
-ghost use Rattle.durable.specs.Device.{device_of, next_number_of};
+ghost use Rattle.durable.specs.Device.{device_of, losses_of, next_number_of};
 ghost use Rattle.durable.specs.Flash.{Erased, Flash, IsErased, SetsPage, Torn, Version};
 ghost use Rattle.durable.specs.Memory.{map_entry};
 ghost use Rattle.durable.specs.Promise.{KeepsAcknowledged};
@@ -22,9 +22,10 @@ ghost use Rattle.nand.specs.Nand.{noted_of, other_fault, tally_after, value_with
 ghost use Rattle.nand.specs.Numbers.{IsInReserve, IsInUse, IsOrder, Marks, chip_block, chip_page, good_before};
 ghost use Rattle.nand.specs.Numbers.{is_marked, most_in_use, numbered};
 ghost use Rattle.nand.specs.Opened.{CanFreeInUse, CanOpen, Fails, HasFailed, IsUnmounted, IsOpenLayer, IsRefusal, IsSameDevice, IsSpent};
-ghost use Rattle.nand.specs.Opened.{IsTrueCause, KeepsDevice, MarksFailed, ReadsSector, Were};
-ghost use Rattle.nand.specs.Opened.{NumbersBelow, device_on, layer_sectors, most_used, number_of, reserve_of, update_of};
-ghost use Rattle.nand.specs.Programs.{AddsVersion, HasSomewhere, ProgramsOnce, TalliesOnce};
+ghost use Rattle.nand.specs.Opened.{CanSpare, IsTrueCause, KeepsDevice, MarksFailed, ReadsSector, Were};
+ghost use Rattle.nand.specs.Opened.{NumbersBelow, device_on, layer_sectors, marked_blocks, most_used, number_of, reserve_of, update_of};
+ghost use Rattle.nand.specs.Programs.{AddsVersion, HasSomewhere, ProgramsOnce, TalliesMoves, TalliesOnce};
+ghost use Rattle.nand.specs.Attempts.{TalliesAttempt};
 ghost use Rattle.nand.specs.declared.chip.Chip.{Chip as Modelled};
 ghost use Rattle.nand.specs.declared.chip.Cut.TheVariants as cut;
 ghost use Rattle.nand.specs.declared.chip.Fate.TheVariants as fate;
@@ -40,6 +41,7 @@ ghost use Rattle.nand.specs.declared.flash.Tally.{Tally as Counts};
 ghost use Rattle.nand.specs.declared.history.Change.{Change as Call};
 ghost use Rattle.nand.specs.declared.history.Change.TheVariants.{Trim, Write};
 ghost use Rattle.nand.specs.declared.layer.Durable.{Durable as Layer};
+ghost use Rattle.nand.specs.declared.updating.Stop.TheVariants as stop;
 
 /// What reads may say of pages.
 pub fn readings()
@@ -143,6 +145,9 @@ pub fn failed_looks()
     ensures memory { (has : ℕ → Option Sector) → ¬ StopsLook has (sole 7) failure.OutOfMemory }
     ensures number { (has : ℕ → Option Sector) → ¬ StopsLook has (sole 7) failure.NoNumber }
     ensures written { (has : ℕ → Option Sector) → ¬ StopsLook has (sole 7) failure.Written }
+    ensures pages_lost { (has : ℕ → Option Sector) → ¬ StopsLook has (sole 7) failure.PagesLost }
+    ensures update_pages_lost { (has : ℕ → Option Sector) → has 7 ≡ None
+        → ¬ StopsUpdate was.Empty has (sole 7) failure.PagesLost }
     ensures update_lost { (has : ℕ → Option Sector) → has 7 ≡ None
         → StopsUpdate was.Empty has (sole 7) failure.Lost }
     ensures update_there { (has : ℕ → Option Sector) → has 7 ≡ Some None
@@ -318,13 +323,15 @@ pub fn failures()
     ensures no_memory { ¬ IsRefusal failure.OutOfMemory }
     ensures is_closed { ¬ IsRefusal failure.Closed }
     ensures is_lost { ¬ IsRefusal failure.Lost }
+    ensures pages_lost { ¬ IsRefusal failure.PagesLost }
 {}
 
 /// An open layer on a modelled chip, and a chip that can be opened.
 pub fn opened()
-    ensures most { (shape : Numbers) → shape.blocks ≡ 100
+    ensures most { (shape : Numbers) → shape.blocks ≡ 100 → shape.spare_blocks ≡ 3
         → shape.pages ≡ 4 → most_used shape 8 ≡ 97 }
-    ensures blocks { (shape : Numbers) → shape.blocks ≡ 9 → shape.pages ≡ 4
+    ensures blocks { (shape : Numbers)
+        → shape.blocks ≡ 9 → shape.spare_blocks ≡ 1 → shape.pages ≡ 4
         → ((device_on shape [] 8).blocks ≡ 8) × ((device_on shape [] 8).read_blocks ≡ 9) }
     ensures bad_block { (shape : Numbers) → shape.blocks ≡ 3 → shape.pages ≡ 4
         → ((device_on shape (false ∷ true ∷ []) 8).blocks ≡ 2)
@@ -359,21 +366,24 @@ pub fn opened()
         → ¬ CanOpen chip_flash chip_shape chip_bad chip 8 updates }
     ensures in_reserve { (layer : Layer Modelled) (updates : List Update)
         → IsOpenLayer chip_flash chip_shape chip_bad layer updates
+        → (chip_shape layer.nand).spare_blocks ≡ 1
         → (chip_shape layer.nand).pages ≡ 4 → layer_sectors layer ≡ 3
         → chip_bad layer.nand ≡ false ∷ false ∷ false ∷ [] → reserve_of layer ≡ 1 }
     ensures blank { (layer : Layer Modelled) (v : Sector) (updates : List Update)
         → IsOpenLayer chip_flash chip_shape chip_bad layer updates
+        → (chip_shape layer.nand).spare_blocks ≡ 1
         → (chip_shape layer.nand).pages ≡ 4 → layer_sectors layer ≡ 3
         → chip_bad layer.nand ≡ false ∷ false ∷ false ∷ []
         → chip_flash layer.nand 2 0 ≢ Version (sole 1) 5 v }
     ensures blank_chip { (chip : Modelled) (v : Sector) (updates : List Update)
         → CanOpen chip_flash chip_shape chip_bad chip 3 updates
+        → (chip_shape chip).spare_blocks ≡ 1
         → (chip_shape chip).pages ≡ 4 → chip_bad chip ≡ false ∷ false ∷ false ∷ []
         → chip_flash chip 2 0 ≢ Version (sole 1) 5 v }
     ensures freed { (f : Flash) (shape : Numbers) → shape.blocks ≡ 2
         → CanFreeInUse f shape (true ∷ false ∷ []) 8 → IsDuplicated f 8 1 }
     ensures freed_in_use { (f : Flash) (shape : Numbers)
-        → shape.blocks ≡ 9 → shape.pages ≡ 4 → CanFreeInUse f shape [] 8
+        → shape.blocks ≡ 9 → shape.spare_blocks ≡ 1 → shape.pages ≡ 4 → CanFreeInUse f shape [] 8
         → (b : ℕ) × (good_before [] b < 8) × IsDuplicated f 8 b }
     ensures keeps { (chip : Modelled) (updates : List Update)
         → CanOpen chip_flash chip_shape chip_bad chip 8 updates
@@ -413,8 +423,8 @@ pub fn orders()
     ensures in_order { IsOrder [] [] 2 }
     ensures bad_last { IsOrder (1 ∷ 0 ∷ []) (true ∷ false ∷ []) 2 }
     ensures ranked { (numbers : List ℕ) → IsOrder numbers [] 2 → chip_block numbers 1 ≡ 1 }
-    ensures most { most_in_use 100 4 8 ≡ 97 }
-    ensures least { most_in_use 3 2 3 ≡ 3 }
+    ensures most { most_in_use 100 3 4 8 ≡ 97 }
+    ensures least { most_in_use 3 2 2 3 ≡ 3 }
     ensures in_use { IsInUse (true ∷ false ∷ []) 1 1 }
     ensures past_use { ¬ IsInUse (false ∷ false ∷ []) 1 1 }
     ensures bad_use { ¬ IsInUse (true ∷ []) 1 0 }
@@ -463,6 +473,8 @@ pub fn programs()
         → chip_flash new.nand 0 1 ≢ Version (sole 7) 6 None }
     ensures marked { (old new : Layer Modelled) (u : Update)
         → chip_bad new.nand ≢ chip_bad old.nand
+        → TalliesOnce (chip_tally old.nand) (chip_tally new.nand)
+        (marked_blocks chip_shape chip_bad old new + 1) (chip_shape old.nand).pages
         → ProgramsOnce chip_flash chip_shape chip_bad chip_tally old new u }
 {}
 
@@ -484,17 +496,35 @@ pub fn tallies()
     ensures same { (tally : Counts)
         → CountsCommand {T = ℕ} (command.Erase 0) tally tally (Err fault.Failed) }
     ensures collects { TalliesOnce (record { programs = 1; copies = 2; erases = 3 })
-        (record { programs = 2; copies = 5; erases = 4 }) 4 }
+        (record { programs = 2; copies = 5; erases = 4 }) 1 4 }
+    ensures collects_again { TalliesOnce (record { programs = 1; copies = 2; erases = 3 })
+        (record { programs = 2; copies = 8; erases = 5 }) 2 4 }
     ensures twice { (before now : Counts) → before.programs ≡ 1 → now.programs ≡ 3
-        → ¬ TalliesOnce before now 4 }
+        → ¬ TalliesOnce before now 2 4 }
     ensures copies { (before now : Counts) → before.copies ≡ 2 → now.copies ≡ 6
-        → ¬ TalliesOnce before now 4 }
+        → ¬ TalliesMoves before now 1 4 }
+    ensures copies_again { (before now : Counts) → before.copies ≡ 2 → now.copies ≡ 9
+        → ¬ TalliesMoves before now 2 4 }
     ensures erases { (before now : Counts) → before.erases ≡ 3 → now.erases ≡ 5
-        → ¬ TalliesOnce before now 4 }
+        → ¬ TalliesMoves before now 1 4 }
+    ensures moves { (before now : Counts) → TalliesOnce before now 1 4
+        → TalliesMoves before now 1 4 }
     ensures updates { (old new : Layer Modelled) (u : Update)
         → ProgramsOnce chip_flash chip_shape chip_bad chip_tally old new u
-        → chip_bad new.nand ≡ chip_bad old.nand
         → (chip_tally old.nand).programs ≡ 5 → (chip_tally new.nand).programs ≡ 6 }
+    ensures attempts { (old new : Layer Modelled) (u : Update)
+        → ProgramsOnce chip_flash chip_shape chip_bad chip_tally old new u
+        → (chip_shape old.nand).blocks ≡ 2 → chip_bad old.nand ≡ false ∷ false ∷ []
+        → chip_bad new.nand ≡ true ∷ false ∷ []
+        → (chip_tally old.nand).erases ≡ 3 → (chip_tally new.nand).erases ≢ 6 }
+    ensures once { TalliesAttempt {T = ℕ} (record { programs = 1; copies = 2; erases = 3 })
+        (record { programs = 2; copies = 5; erases = 4 }) 4 (Ok 0) }
+    ensures stopped { TalliesAttempt {T = ℕ} (record { programs = 1; copies = 2; erases = 3 })
+        (record { programs = 1; copies = 5; erases = 4 }) 4 (Err stop.NoNumber) }
+    ensures programmed { (before now : Counts) → before.programs ≡ 1 → now.programs ≡ 2
+        → ¬ TalliesAttempt {T = ℕ} before now 4 (Err stop.NoNumber) }
+    ensures stopped_copies { (before now : Counts) → before.copies ≡ 2 → now.copies ≡ 6
+        → ¬ TalliesAttempt {T = ℕ} before now 4 (Err stop.NoNumber) }
 {}
 
 /// How updates fail, and which causes are true.
@@ -514,6 +544,8 @@ pub fn failing()
         → ¬ IsTrueCause chip_faults old new failure.NoNumber }
     ensures last_number { (old new : Layer Modelled) → number_of old ≡ 2 ^ 64 - 1
         → IsTrueCause chip_faults old new failure.NoNumber }
+    ensures more_losses { (old new : Layer Modelled) → losses_of old.core ≡ 1
+        → losses_of new.core ≡ 1 → ¬ IsTrueCause chip_faults old new failure.PagesLost }
     ensures sectors { (old new : Layer Modelled) → layer_sectors old ≡ 8
         → layer_sectors new ≡ 7 → ¬ IsSameDevice chip_shape chip_bad old new }
     ensures chip { (old new : Layer Modelled) → (chip_shape old.nand).pages ≡ 4
@@ -550,7 +582,13 @@ pub fn failing()
     ensures failed_lost { (has : HasFailed chip_flash chip_shape chip_bad chip_faults)
         → has.cause ≢ failure.Lost }
     ensures spare { (shape : Numbers) → shape.blocks ≡ 9
-        → shape.pages ≡ 4 → ¬ IsSpent shape [] 8 5 }
+        → shape.spare_blocks ≡ 1 → shape.pages ≡ 4 → ¬ IsSpent shape [] 8 5 }
+    ensures may_fail { (shape : Numbers) → shape.blocks ≡ 9 → shape.spare_blocks ≡ 4
+        → shape.pages ≡ 4 → CanSpare shape (true ∷ []) 12 3 }
+    ensures no_spare { (shape : Numbers) → shape.blocks ≡ 9 → shape.spare_blocks ≡ 4
+        → shape.pages ≡ 4 → ¬ CanSpare shape (true ∷ []) 12 4 }
+    ensures no_room { (shape : Numbers) → shape.blocks ≡ 9 → shape.spare_blocks ≡ 9
+        → shape.pages ≡ 4 → ¬ CanSpare shape (true ∷ []) 12 5 }
     ensures spent { (shape : Numbers) → shape.blocks ≡ 3 → shape.pages ≡ 4 → IsSpent shape [] 8 5 }
     ensures spent_numbers { (shape : Numbers) → IsSpent shape [] 8 (2 ^ 64 - 1) }
     ensures only_spent { (old new : Layer Modelled) (u : Update) (updates : List Update)

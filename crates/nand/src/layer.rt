@@ -11,7 +11,7 @@ ghost use Rattle.durable.specs.Flash.{IsErased, PageContents};
 ghost use Rattle.durable.specs.Losses.{HasNoLoss};
 ghost use Rattle.nand.specs.Numbers.{good_before, numbered};
 ghost use Rattle.nand.specs.Opened.{CanOpen, Fails, IsUnmounted, IsOpenLayer, IsSameDevice, IsTrueCause, KeepsDevice, MarksFailed, ReadsSector, Were};
-ghost use Rattle.nand.specs.Opened.{NumbersBelow, device_on, layer_sectors, number_of, reserve_of, update_of};
+ghost use Rattle.nand.specs.Opened.{CanSpare, NumbersBelow, device_on, layer_sectors, number_of, reserve_of, update_of};
 ghost use Rattle.nand.specs.Stored.{ReadsStored, StopsLook, StopsUpdate, TellsStored, WereStored, stored_value, told_of, value_for};
 ghost use Rattle.nand.specs.Looks.{Looks};
 ghost use Rattle.nand.specs.Nand.{HasBytes, ReadsStamp};
@@ -85,6 +85,9 @@ impl<N: Nand> Durable<N> {
             × IfErr result (λ refused. N.tally refused.nand ≡ N.tally nand) }
         ensures number { IfOk result (λ layer. (n : ℕ) → NumbersBelow (N.flash nand) n
             → number_of layer ≤ n) }
+        ensures spares { IfOk result
+            (λ layer. (n : ℕ) → CanSpare (N.shape nand) (N.bad nand) sectors n
+            → n ≤ reserve_of layer) }
 
         // It tells no loss exactly if each sector's newest version, where it is needed, has a page in a block without a gap.
         ensures tells { IfOk result
@@ -158,8 +161,8 @@ impl<N: Nand> Durable<N> {
         self.core.sectors()
     }
 
-    /// How many losses the open has found: pages that have become unreadable before others of their blocks, which have newest versions still. An
-    /// older version may stand for each of theirs.
+    /// How many losses the open has found, or the mount after the last command that failed: pages that have become unreadable before others of their
+    /// blocks, which have newest versions still. An older version may stand for each of theirs.
     pub fn losses(&self) -> u64
         ensures { result ≡ losses_of self.now.core }
     {
@@ -259,6 +262,7 @@ impl<N: Nand> Durable<N> {
         ensures idle { IsUnmounted self.old → N.tally self.new.nand ≡ N.tally self.old.nand }
         ensures device { KeepsDevice N.shape N.bad N.faults self.old self.new }
         ensures marks { OnOk result (MarksFailed N.flash N.shape N.bad N.faults self.old self.new) }
+        ensures losses { OnOk result (losses_of self.new.core ≤ losses_of self.old.core) }
         ensures memory { result ≡ Err failure.OutOfMemory
             → MarksFailed N.flash N.shape N.bad N.faults self.old self.new }
         ensures once { (updates : List Update) → IsOpenLayer N.flash N.shape N.bad self.old updates
@@ -305,6 +309,7 @@ impl<N: Nand> Durable<N> {
             → N.tally self.new.nand ≡ N.tally self.old.nand }
         ensures device { KeepsDevice N.shape N.bad N.faults self.old self.new }
         ensures marks { OnOk result (MarksFailed N.flash N.shape N.bad N.faults self.old self.new) }
+        ensures losses { OnOk result (losses_of self.new.core ≤ losses_of self.old.core) }
         ensures memory { result ≡ Err failure.OutOfMemory
             → MarksFailed N.flash N.shape N.bad N.faults self.old self.new }
         ensures once { (updates : List Update) → IsOpenLayer N.flash N.shape N.bad self.old updates
@@ -346,6 +351,7 @@ impl<N: Nand> Durable<N> {
         ensures idle { IsUnmounted self.old → N.tally self.new.nand ≡ N.tally self.old.nand }
         ensures device { KeepsDevice N.shape N.bad N.faults self.old self.new }
         ensures marks { OnOk result (MarksFailed N.flash N.shape N.bad N.faults self.old self.new) }
+        ensures losses { OnOk result (losses_of self.new.core ≤ losses_of self.old.core) }
         ensures memory { result ≡ Err failure.OutOfMemory
             → MarksFailed N.flash N.shape N.bad N.faults self.old self.new }
         ensures once { (updates : List Update) → IsOpenLayer N.flash N.shape N.bad self.old updates

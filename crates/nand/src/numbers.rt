@@ -32,10 +32,10 @@ pub fn chip_page(numbers: &[u32], at: PageAddr) -> PageAddr
 
 /// How many blocks are in use, if so many are good. The others are a reserve.
 pub fn used_of(shape: Shape, good: u32, sectors: u32) -> u32
-    ensures used { result ≡ min good (most_in_use shape.blocks shape.pages sectors) }
+    ensures used { result ≡ min good (most_in_use shape.blocks shape.spare_blocks shape.pages sectors) }
     ensures few { result ≤ good }
 {
-    let most = shape.blocks.saturating_sub(shape.blocks / 50 + 1);
+    let most = shape.blocks.saturating_sub(shape.spare_blocks);
     let needed = if shape.pages == 0 {
         2
     } else {

@@ -1,15 +1,15 @@
 //! How sectors get a new version, and how the layer goes on after a command that has failed.
 ghost use Rattle.std.specs.Prelude.{◌≡◌, ◌≢◌, ◌⊎◌, ◌<◌, ◌≤◌, ◌+◌, ◌^◌, ℕ, Bool, true, false, List, ◌∷◌, length, Ok, Err, OnOk, OnErr, IfErr};
-ghost use Rattle.durable.specs.Device.{device_of};
+ghost use Rattle.durable.specs.Device.{device_of, losses_of};
 ghost use Rattle.durable.specs.Failures.{Changes};
 ghost use Rattle.durable.specs.Updates.{LiesWithin, Update};
 ghost use Rattle.durable.specs.declared.command.Command.TheVariants as commands;
-ghost use Rattle.nand.specs.Attempts.{CanReplace, CountsStop, Leaves};
+ghost use Rattle.nand.specs.Attempts.{CanReplace, CountsStop, Leaves, TalliesAttempt};
 ghost use Rattle.nand.specs.Nand.{CountsCommand, CountsFault, Performs, value_with};
 ghost use Rattle.nand.specs.Numbers.{IsOrder, good_before, is_marked, numbered};
 ghost use Rattle.nand.specs.Opened.{CanOpen, Fails, IsUnmounted, IsOpenLayer, IsSameDevice, IsTrueCause, KeepsDevice, MarksFailed};
 ghost use Rattle.nand.specs.Opened.{layer_sectors, number_of, reserve_of, update_of};
-ghost use Rattle.nand.specs.Programs.{AddsVersion, ProgramsOnce, TalliesOnce};
+ghost use Rattle.nand.specs.Programs.{AddsVersion, ProgramsOnce};
 ghost use Rattle.nand.specs.declared.failure.Failure.TheVariants as failure;
 ghost use Rattle.nand.specs.declared.flash.Fault.{Fault as Cause};
 ghost use Rattle.nand.specs.declared.flash.Fault.TheVariants as fault;
@@ -103,6 +103,7 @@ impl<N: Nand> Durable<N> {
         ensures idle { IsUnmounted self.old → N.tally self.new.nand ≡ N.tally self.old.nand }
         ensures device { KeepsDevice N.shape N.bad N.faults self.old self.new }
         ensures marks { OnOk result (MarksFailed N.flash N.shape N.bad N.faults self.old self.new) }
+        ensures losses { OnOk result (losses_of self.new.core ≤ losses_of self.old.core) }
         ensures memory { result ≡ Err failure.OutOfMemory
             → MarksFailed N.flash N.shape N.bad N.faults self.old self.new }
         ensures overwrites { result ≢ Err failure.Written }
@@ -116,6 +117,7 @@ impl<N: Nand> Durable<N> {
             return Err(Failure::Closed);
         }
         let reserve = self.reserve;
+        let losses = self.core.losses();
         let mut failed = 0;
         loop {
             match self.attempt(extent, trimmed, main) {
@@ -132,7 +134,7 @@ impl<N: Nand> Durable<N> {
                     if failed >= reserve {
                         return Err(Failure::Failed);
                     }
-                    if let Err(failure) = self.replace(number) {
+                    if let Err(failure) = self.replace(number, losses) {
                         return Err(failure);
                     }
                 }
@@ -160,14 +162,14 @@ impl<N: Nand> Durable<N> {
         ensures counts { CountsStop (N.faults self.old.nand) (N.faults self.new.nand) result }
         ensures device { IsSameDevice N.shape N.bad self.old self.new }
         ensures reserve { reserve_of self.new ≡ reserve_of self.old }
+        ensures losses { losses_of self.new.core ≡ losses_of self.old.core }
         ensures adds { (updates : List Update) → IsOpenLayer N.flash N.shape N.bad self.old updates
             → OnOk result
             (AddsVersion (N.flash self.old.nand) (N.flash self.new.nand)
             (number_of self.old) (update_of extent
             (value_with trimmed main.now))) }
-        ensures tally { OnOk result
-            (TalliesOnce (N.tally self.old.nand) (N.tally self.new.nand)
-            (device_of self.old.core).pages) }
+        ensures tally { TalliesAttempt (N.tally self.old.nand) (N.tally self.new.nand)
+            (device_of self.old.core).pages result }
     {
         loop {
             let command = self.core.next(extent);
@@ -192,8 +194,8 @@ impl<N: Nand> Durable<N> {
         }
     }
 
-    // Marks the block with this number bad, and mounts again with the next block of the reserve in its stead.
-    fn replace(&mut self, number: u32) -> Result<(), Failure>
+    // Marks the block with this number bad, and mounts again with the next block of the reserve in its stead. The mount may find so many losses, and no more.
+    fn replace(&mut self, number: u32, losses: u64) -> Result<(), Failure>
         ensures replaced { (updates : List Update)
             → CanReplace N.flash N.shape N.bad self.old number updates → 0 < reserve_of self.old
             → OnOk result (IsOpenLayer N.flash N.shape N.bad self.new updates
@@ -210,7 +212,9 @@ impl<N: Nand> Durable<N> {
             → good_before (N.bad self.new.nand) (N.shape self.old.nand).blocks + 1
             ≡ good_before (N.bad self.old.nand) (N.shape self.old.nand).blocks }
         ensures causes { OnErr result ((result ≡ Err failure.PowerGone)
-            ⊎ (result ≡ Err failure.OutOfMemory)) }
+            ⊎ (result ≡ Err failure.OutOfMemory) ⊎ (result ≡ Err failure.PagesLost)) }
+        ensures losses { OnOk result (losses_of self.new.core ≤ losses) }
+        ensures lost { result ≡ Err failure.PagesLost → losses < losses_of self.new.core }
         ensures failures { N.faults self.new.nand fault.Failed
             ≡ N.faults self.old.nand fault.Failed }
         ensures faults { OnOk result ((cause : Cause)
@@ -219,6 +223,7 @@ impl<N: Nand> Durable<N> {
             → N.faults self.new.nand fault.PowerGone ≢ N.faults self.old.nand fault.PowerGone }
         ensures marks { (b : ℕ) → is_marked (N.bad self.old.nand) b ≡ true
             → is_marked (N.bad self.new.nand) b ≡ true }
+        ensures tally { N.tally self.new.nand ≡ N.tally self.old.nand }
         ensures shape { N.shape self.new.nand ≡ N.shape self.old.nand }
         ensures sectors { layer_sectors self.new ≡ layer_sectors self.old }
     {
@@ -230,6 +235,9 @@ impl<N: Nand> Durable<N> {
                 self.numbers = mounted.numbers;
                 self.core = mounted.core;
                 self.reserve = mounted.reserve;
+                if self.core.losses() > losses {
+                    return Err(Failure::PagesLost);
+                }
                 self.mounted = true;
                 Ok(())
             }

@@ -555,17 +555,6 @@ impl Volume {
         broom::fold(&self.flash, &self.queue, rt, broom)
     }
 
-    /// Gives up a broom that has set nothing aside, such as one that was just made.
-    pub fn fold_new(&self, broom: Broom) -> Folded
-        requires ready { IsBroomReady self.now broom }
-        requires aside { aside_of broom ≡ None }
-        ensures view { folded_view result
-            ≡ closed_broom (view_of_broom broom) (blocks_of_broom broom) }
-        ensures place { folded_place result ≡ place_of broom }
-    {
-        broom::fold_new(&self.flash, broom)
-    }
-
     /// Gives a broom up without using the queue, so it doesn't wait. Its destination and its spare are closed. A block that is set aside stays
     /// drained, and nobody erases it.
     pub fn retire_broom(&self, broom: Broom) -> Folded

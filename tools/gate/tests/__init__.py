@@ -34,16 +34,13 @@ class Small(unittest.TestCase):
         """A stand-in for `rt`, which knows the top of the repository as $top."""
         self.write("bin/rt", f"#!/usr/bin/env bash\ntop={self.top}\n{text}").chmod(0o755)
 
-    def edit(self, crate, name, *pairs):
-        """A wrong body."""
-        self.write(f"crates/{crate}/must-fail/{name}.edit", self.lines(pairs))
+    def edits(self, crate, *named):
+        """The wrong bodies of a crate with their twins, each as its name and its texts: the old one, the wrong one and the twin's."""
+        self.write(f"crates/{crate}/wrong-bodies.edits", "\n".join(self.an_edit(*it) for it in named))
 
-    def twins(self, crate, *named):
-        """The twins of a crate, each as its name and its pairs of texts."""
-        self.write(f"crates/{crate}/twins.edits", "\n".join(f"edit: {name}\n{self.lines(pairs)}" for name, *pairs in named))
-
-    def lines(self, pairs):
-        return "file: src/lib.rt\n" + "".join(f"old: {old}\nnew: {new}\n" for old, new in pairs)
+    def an_edit(self, name, *texts):
+        lines = (f"old: {old}\nnew: {new}\ntwin: {twin}\n" for old, new, twin in texts)
+        return f"edit: {name}\nfile: src/lib.rt\n{''.join(lines)}"
 
     def run_main(self, module, *words, status=0):
         """What a command prints."""

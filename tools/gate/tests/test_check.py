@@ -17,9 +17,9 @@ class Check(Small):
     def setUp(self):
         super().setUp()
         self.ran, self.fails, self.last = [], "", "12 passed, 0 failed"
-        self.patch(wrong_bodies, "put_aside", lambda: self.ran.append("put aside"))
-        self.patch(wrong_bodies, "note_from", lambda said: self.runs(f"note {said}"))
-        self.patch(wrong_bodies, "put_back", lambda: self.ran.append("put back"))
+        self.patch(wrong_bodies, "untried", lambda: ["low"])
+        self.patch(wrong_bodies, "write", lambda names: self.ran.append(" ".join(["write", *names])))
+        self.patch(wrong_bodies, "note", lambda names, said, again: self.runs(f"note of {names[0]}: {said}"))
         self.patch(tree, "said_by", lambda _, *command, shown: (self.runs(" ".join(command)), self.last))
         self.patch(check, "packages", lambda is_ci: ["fio"])
         self.patch(subprocess, "run", lambda command, **_: subprocess.CompletedProcess(command, self.runs(" ".join(command))))
@@ -48,7 +48,7 @@ class Check(Small):
         lines, status = self.said()
         self.assertEqual((lines[-1], status), ("12 passed, 0 failed", 0))
         self.assertEqual(self.ran[:10], [".ci/needs fio", *check.BEFORE])
-        self.assertEqual(self.ran[10:18], ["put aside", "rt ci", "note 12 passed, 0 failed", "put back", *check.AFTER])
+        self.assertEqual(self.ran[10:18], ["write low", "rt ci", "note of low: 12 passed, 0 failed", "write", *check.AFTER])
         rest = [command for row in check.ROWS for command in row]
         self.assertEqual(sorted(self.ran[18:]), sorted(rest))
         for row in check.ROWS:
@@ -65,9 +65,9 @@ class Check(Small):
 
     def test_a_proof_that_fails_ends_it(self):
         self.fails, self.last = "rt ci", "11 passed, 1 failed"
-        self.assertEqual((self.said()[1], self.ran[-1]), (1, "put back"))
+        self.assertEqual((self.said()[1], self.ran[-1]), (1, "write"))
         self.ran, self.fails = [], "note"
-        self.assertEqual((self.said()[1], self.ran[-1]), (1, "put back"))
+        self.assertEqual((self.said()[1], self.ran[-1]), (1, "write"))
 
     def test_a_later_failure_is_not_followed_by_the_counts(self):
         for step in (".ci/promises", ".ci/twins --missing", "bench/run", "bindings/nbdkit/check"):

@@ -9,6 +9,7 @@ grep -q LOW "$top/crates/one/src/lib.rt" && low=low || low=changed
 echo "rt: must-fail one/low_errs.edit: refused, as it must be: ./proofs/low/Answers.antt:1:1: error: \\`returns-clause-$low\\`: no proof of \\`x\\`"
 echo 'rt: must-fail one/high_errs.edit: refused, as it must be: note: src/lib.rt:9:5: it is not proved that it holds (`returns`); `search` gave up'
 """
+HIGH = "high_errs", ("    2;", "    0;", "    2 + 0;")
 SOURCE = "const LOW: u32 = 1;\n\nfn low() {\n    1;\n}\n\n#[inline]\nfn high() {\n    2;\n}\n"
 
 
@@ -19,8 +20,7 @@ class Gallery(Small):
         self.write("docs/GALLERY.md", "# Wrong bodies\n")
         self.write("crates.txt", "one:\n")
         self.write("crates/one/src/lib.rt", SOURCE)
-        self.edit("one", "low_errs", ("    1;", "    0;"))
-        self.edit("one", "high_errs", ("    2;", "    0;"))
+        self.edits("one", HIGH, ("low_errs", ("    1;", "    0;", "    1 + 0;")))
         self.run_main(gallery, "--write")
 
     def rows(self):
@@ -29,7 +29,7 @@ class Gallery(Small):
         return {row[0][2:]: (row[1], row[3], row[4]) for row in cells}
 
     def test_an_edit_has_the_goal_by_which_it_was_refused(self):
-        self.assertEqual(self.rows(), {"Low errs": ("`low`", "", "none |"), "High errs": ("`high`", "", "none |")})
+        self.assertEqual(self.rows(), {"Low errs": ("`low`", "", "`1 + 0;` |"), "High errs": ("`high`", "", "`2 + 0;` |")})
         self.run_main(wrong_bodies, "one")
         self.assertEqual([row[1] for row in self.rows().values()], ["**`returns`**", "**`returns-clause-low`**"])
         self.run_main(gallery)
@@ -43,12 +43,12 @@ class Gallery(Small):
         self.assertEqual(self.rows()["Low errs"][1], "**`returns-clause-changed`**")
 
     def test_an_edit_outside_of_all_functions_is_in_its_file(self):
-        self.edit("one", "low_errs", ("LOW: u32 = 1;", "LOW: u32 = 0;"))
+        self.edits("one", HIGH, ("low_errs", ("LOW: u32 = 1;", "LOW: u32 = 0;", "LOW: u32 = 1 + 0;")))
         self.run_main(gallery, "--write")
         self.assertEqual(self.rows()["Low errs"][0], "`lib`")
 
     def test_the_page_is_of_the_edits_and_their_twins(self):
-        self.twins("one", ("low_errs", ("    1;", "    1 + 0;")))
+        self.edits("one", HIGH, ("low_errs", ("    1;", "    0;", "    0 + 1;")))
         self.assertIn("docs/GALLERY.md differs", self.run_main(gallery, status=1))
         self.run_main(gallery, "--write")
-        self.assertEqual(self.rows()["Low errs"][2], "`1 + 0;` |")
+        self.assertEqual(self.rows()["Low errs"][2], "`0 + 1;` |")

@@ -36,7 +36,7 @@ class Layout(Small):
 
     def test_a_page_and_an_edit_may_have_long_lines(self):
         self.passes("docs/PAGE.md", "word " * 100 + "\n")
-        self.passes("crates/low/must-fail/one.edit", "old: " + "x" * 200 + "\n")
+        self.passes("crates/low/wrong-bodies.edits", "old: " + "x" * 200 + "\n")
 
     def test_a_term_ends_where_the_next_one_begins(self):
         self.passes("crates/low/proofs/Low.antt", term(60) + "\n" + term(60))

@@ -54,7 +54,7 @@ class Needless(Small):
 
     def test_an_answer_stays_at_the_goal_that_refuses_a_wrong_body(self):
         self.write("crates/low/src/lib.rt", "pub fn first() -> u8 {\n    1\n}\n")
-        self.edit("low", "is_two", ("    1", "    2"))
+        self.edits("low", ("is_two", ("    1", "    2", "    1 + 0")))
         self.write("docs/GALLERY.md", "## `low`\n\n| Is two | `first` | `1` becomes `2` | **`returns-clause-easy`** | none |\n")
         self.assertIn("needless low: 1 answers go", self.run_main(needless, "low"))
         self.assertEqual((self.top / "crates/low/proofs/lib/first/Answers.antt").read_text(), HEAD + LEMMA + EASY + HARD)

@@ -3,8 +3,9 @@
 from gate import promises
 from gate.tests import Small
 
-SOURCE = "pub use room::Room;\n\nimpl Room {\n    pub fn open(&self)\n        ensures told { done }\n        ensures { true }\n    {\n    }\n}\n"
-TABLE = "| Call | Clause | What it promises |\n|---|---|---|\n"
+CALL = "    pub fn {}(&self)\n        ensures {} {{ done }}\n        ensures {{ true }}\n    {{\n    }}\n"
+SOURCE = "pub use room::Room;\n\nimpl Room {\n" + CALL.format("open", "told") + CALL.format("close", "told") + CALL.format("look", "seen") + "}\n"
+TABLE = "| Call | Clause | What it promises |", "|---|---|---|"
 
 
 class Promises(Small):
@@ -15,13 +16,28 @@ class Promises(Small):
         self.write("crates/low/src/lib.rt", SOURCE)
         self.write("crates/low/src/room.rt", "pub struct Room {}\n")
 
-    def test_a_row_names_a_call_and_its_clauses(self):
-        def wrong(*rows):
-            return list(promises.wrong_rows("PAGE", (TABLE + "\n".join(rows)).splitlines(), promises.clauses()))
+    def wrong(self, *lines):
+        return list(promises.wrong_rows("PAGE", lines, promises.public_calls()))
 
-        self.assertEqual(wrong("| `Room::open` | `told`, `unnamed` | It opens. |"), [])
-        self.assertEqual(wrong("| `Room::open` | `opened` | It opens. |"), ["PAGE:3: no clause opened at Room::open"])
-        self.assertEqual(wrong("| `Room::close` | `told` | It closes. |"), ["PAGE:3: no function Room::close", "PAGE:3: no clause told at Room::close"])
+    def test_a_row_names_a_call_and_its_clauses(self):
+        self.assertEqual(self.wrong(*TABLE, "| `Room::open` | `told`, `unnamed` | It opens. |"), [])
+        self.assertEqual(self.wrong(*TABLE, "| `Room::open` | `opened` | It opens. |"), ["PAGE:3: no clause opened at Room::open"])
+        said = ["PAGE:3: no public call Room::shut", "PAGE:3: no clause told at Room::shut"]
+        self.assertEqual(self.wrong(*TABLE, "| `Room::shut` | `told` | It shuts. |"), said)
+
+    def test_a_row_of_a_clause_has_each_call_that_keeps_it(self):
+        head = "| Call | Clause | Definition |", "|---|---|---|"
+        self.assertEqual(self.wrong(*head, "| `Room::open`, `close` | `told` | `Told` |"), [])
+        self.assertEqual(self.wrong(*head, "| `Room::close` | `told` | `Told` |"), ["PAGE:3: Room::open has the clause too"])
+        self.assertEqual(self.wrong(*head, "| `Room::look` | `seen` | `Seen` |"), [])
+
+    def test_a_table_of_calls_has_each_public_one(self):
+        head = "| Call | Cost |", "|---|---|"
+        self.assertEqual(self.wrong(*head, "| `Room::open`, `close(x)` | 1 |", "| `Room::look` | 2 |"), [])
+        said = ["PAGE:3: no public call Room::shut", "PAGE: no row for Room::close"]
+        self.assertEqual(self.wrong(*head, "| `Room::open`, `shut` | 1 |", "| `Room::look` | 2 |"), said)
+        self.write("bindings/include/low.h", "void room_end(void);")
+        self.assertEqual(self.wrong("| Call | Codes |", "|---|---|", "| `room_end(h)` | 0 |", "| `room_out(h)` | 0 |"), ["PAGE:4: no public call room_out"])
 
     def test_a_path_leads_to_an_item_of_its_crate_or_module(self):
         for path, wrong in (("low::Room", ""), ("room::Room", ""), ("std::Hall", ""), ("room::Hall", "room has no Hall"), ("low::Hall", "low has no Hall")):

@@ -11,6 +11,9 @@ cat src/lib.rt >>"$top/seen"
 """
 
 
+FIRST, SECOND = ("one", ("first", "WRONG", "FIRST")), ("two", ("second", "WRONG", "SECOND"))
+
+
 class Twins(Small):
     def setUp(self):
         super().setUp()
@@ -18,8 +21,7 @@ class Twins(Small):
         self.write("crates.txt", "low:\nhigh: low\n")
         for name in ("low", "high"):
             self.write(f"crates/{name}/src/lib.rt", "first\nsecond\n")
-            self.edit(name, "one", ("first", "WRONG"))
-            self.twins(name, ("one", ("first", "FIRST")))
+            self.edits(name, FIRST)
 
     def test_what_was_proved_is_recorded_for_its_text(self):
         self.assertIn("still to prove: the twins of low, high", self.run_main(twins, "--check"))
@@ -36,43 +38,38 @@ class Twins(Small):
         self.assertEqual(self.run_main(twins, "--missing"), "")
 
     def test_twins_of_other_places_are_tried_together_and_of_one_place_apart(self):
-        self.twins("low", ("two", ("second", "SECOND")), ("one", ("first", "FIRST")), ("three", ("first", "1st")))
-        self.edit("low", "two", ("second", "WRONG"))
-        self.edit("low", "three", ("first", "WRONG"))
+        self.edits("low", SECOND, FIRST, ("three", ("first", "WRONG", "1st")))
         self.run_main(twins, "low")
         self.assertEqual((self.top / "seen").read_text(), "FIRST\nSECOND\n1st\nsecond\n")
 
     def test_a_twin_that_is_refused_is_not_recorded(self):
-        self.twins("high", ("one", ("first", "WRONG")))
+        self.edits("high", ("one", ("first", "FIRST", "WRONG")))
         self.assertIn("twins of high were not proved", self.run_main(twins, "--all", status=1))
         self.assertIn("still to prove: the twins of high", self.run_main(twins, "--check"))
 
-    def test_a_twin_has_its_edit_and_an_edit_without_a_twin_is_named(self):
-        self.run_main(twins, "--all")
-        (self.top / "crates/high/must-fail/one.edit").unlink()
-        self.assertIn("is the twin of no edit", self.run_main(twins, "--check", status=1))
-        self.twins("high")
-        self.edit("low", "two", ("second", "WRONG"))
-        self.assertIn("low/must-fail/two.edit has no twin", self.run_main(twins, "--check", status=1))
+    def test_an_edit_and_its_twin_have_to_fit_their_file(self):
+        self.edits("low", SECOND, ("three", ("first", "1st", "FIRST"), ("1st", "WRONG", "FIRST")))
+        said = self.run_main(twins, "--check", status=1)
+        self.assertEqual(said, "crates/low/wrong-bodies.edits: the twin of three changes a text that isn't there exactly once\n")
+        self.edits("low", ("two", ("third", "WRONG", "THIRD")))
+        self.assertIn("crates/low/wrong-bodies.edits: two changes a text that", self.run_main(twins, "--check", status=1))
 
     def test_an_edit_counts_for_itself_wherever_it_stands(self):
-        self.twins("low", ("one", ("first", "FIRST")), ("two", ("second", "SECOND")))
-        self.edit("low", "two", ("second", "WRONG"))
+        self.edits("low", FIRST, SECOND)
         self.run_main(twins, "--all")
-        self.twins("low", ("two", ("second", "SECOND")), ("one", ("first", "FIRST")))
+        self.edits("low", SECOND, FIRST)
         self.assertNotIn("still to prove", self.run_main(twins, "--check"))
-        for name, new in (("two", "2nd"), ("three", "SECOND")):
-            (self.top / "crates/low/must-fail/two.edit").rename(self.top / f"crates/low/must-fail/{name}.edit")
-            self.twins("low", ("one", ("first", "FIRST")), (name, ("second", new)))
+        # The wrong body isn't what was proved.
+        self.edits("low", SECOND, ("one", ("first", "WORSE", "FIRST")))
+        self.assertNotIn("still to prove", self.run_main(twins, "--check"))
+        for name, twin in (("two", "2nd"), ("three", "SECOND")):
+            self.edits("low", FIRST, (name, ("second", "WRONG", twin)))
             self.assertIn("still to prove: the twins of low", self.run_main(twins, "--check"))
 
     def test_a_file_of_edits_has_nothing_else(self):
-        file, text = self.top / "crates/low/twins.edits", "edit: one\nfile: src/lib.rt\nold: first\nnew: FIRST\n"
-        for more, line in (("\nedit: two\n", 6), ("\n# two\n", 6), ("news: it\n", 5), ("\n" + text, 6)):
-            file.write_text(text + more)
-            with self.assertRaisesRegex(SystemExit, f"crates/low/twins.edits:{line}: not an edit"):
+        text = self.an_edit(*FIRST)
+        without_twin = text.replace("one", "two").replace("twin: FIRST\n", "")
+        for more, line in (("\nedit: two\n", 7), ("\n# two\n", 7), ("news: it\n", 6), ("\n" + text, 7), ("\n" + without_twin, 7), ("old: second\n", 6)):
+            self.write("crates/low/wrong-bodies.edits", text + more)
+            with self.assertRaisesRegex(SystemExit, f"crates/low/wrong-bodies.edits:{line}: not an edit with its twin"):
                 twins.main(["--check"])
-        file.write_text(text)
-        self.write("crates/low/twins/two.edit", "file: src/lib.rt\n")
-        with self.assertRaisesRegex(SystemExit, "crates/low/twins: its edits belong into crates/low/twins.edits"):
-            twins.main(["--check"])

@@ -33,7 +33,7 @@ class Refused(Small):
         (self.top / ".git").mkdir()
         for name in ("uses", "low", "high"):
             self.write(f"crates/{name}/src/lib.rt", f"// {name}\n")
-            self.edit(name, f"{name}_errs")
+            self.edits(name, (f"{name}_errs", (name, "WRONG", "RIGHT")))
         self.version(OLD)
         self.run_main(wrong_bodies, "--all")
 
@@ -42,19 +42,18 @@ class Refused(Small):
 
     def gate(self, status=0):
         """A run of the gate: what it prints about the edits that it leaves out, and the crates whose edits it tries."""
-        said = self.aside()
-        tried = sorted({path.parent.parent.name for path in self.top.glob("crates/*/must-fail/*.edit")})
-        log = subprocess.run([self.top / "bin/rt", "ci"], cwd=self.top, capture_output=True, text=True, check=True).stdout
-        with contextlib.redirect_stderr(io.StringIO()):
-            self.assertEqual(wrong_bodies.note_from(log), status)
-        self.assertEqual(len(list(self.top.glob("crates/*/must-fail/*.edit"))), 3)
-        return said, tried
-
-    def aside(self):
         printed = io.StringIO()
-        with contextlib.redirect_stdout(printed):
-            wrong_bodies.put_aside()
-        return printed.getvalue()
+        with contextlib.redirect_stdout(printed), contextlib.redirect_stderr(printed):
+            names = wrong_bodies.untried()
+            wrong_bodies.write(names)
+            tried = [path.split("/")[1] for path in self.written()]
+            log = subprocess.run([self.top / "bin/rt", "ci"], cwd=self.top, capture_output=True, text=True, check=True).stdout
+            self.assertEqual(wrong_bodies.note(names, log, again=False), status)
+        return printed.getvalue(), tried
+
+    def written(self):
+        """The edits that are in the folders that `rt` reads."""
+        return sorted(path.relative_to(self.top).as_posix() for path in self.top.glob("crates/*/must-fail/*"))
 
     def entries(self):
         return sorted((words[0], words[2]) for words in (line.split(" ", 2) for line in self.record().splitlines()))
@@ -93,18 +92,6 @@ class Refused(Small):
         self.write("crates/low/src/lib.rt", "mod changed; // low\n")
         self.assertEqual(self.gate()[1], ["low", "uses"])
 
-    def test_an_edit_has_to_fit_its_file(self):
-        self.edit("low", "low_errs", ("// low", "// high"))
-        self.run_main(wrong_bodies, "low")
-        self.aside()
-        self.run_main(wrong_bodies, "--back")
-        self.write("crates/low/src/lib.rt", "// lower\n")
-        self.aside()
-        self.run_main(wrong_bodies, "--back")
-        self.write("crates/low/src/lib.rt", "// other words\n")
-        with self.assertRaisesRegex(SystemExit, "crates/low/must-fail/low_errs.edit changes a text that isn't there exactly once"):
-            wrong_bodies.put_aside()
-
     def test_all_adds_its_entries_and_takes_none_of_another_version_away(self):
         self.version(NEW)
         self.run_main(wrong_bodies, "--all")
@@ -119,12 +106,21 @@ class Refused(Small):
         self.write("taken", "uses_errs.edit\n")
         self.gate(status=1)
 
-    def test_what_was_put_aside_comes_back(self):
-        before = sorted(self.top.glob("crates/*/must-fail/*.edit"))
-        self.aside()
-        self.assertEqual(len(list(self.top.glob("crates/*/must-fail/*.edit"))), 1)
-        self.run_main(wrong_bodies, "--back")
-        self.assertEqual(sorted(self.top.glob("crates/*/must-fail/*.edit")), before)
+    def test_the_files_for_rt_have_the_wrong_bodies_alone(self):
+        self.edits("low", ("low_errs", ("low", "WRONG", "RIGHT"), ("other", "", "twin: it")), ("another", ("low", "it", "RIGHT")))
+        self.assertEqual(self.written(), [])
+        self.run_main(wrong_bodies, "--write", "low", "high")
+        self.assertEqual(self.written(), ["crates/high/must-fail/high_errs.edit", *(f"crates/low/must-fail/{it}.edit" for it in ("another", "low_errs"))])
+        text = (self.top / "crates/low/must-fail/low_errs.edit").read_text()
+        self.assertEqual(text, "file: src/lib.rt\nold: low\nnew: WRONG\nold: other\nnew: \n")
+        self.run_main(wrong_bodies, "--write", "high")
+        self.assertEqual(self.written(), ["crates/high/must-fail/high_errs.edit"])
+
+    def test_a_file_for_rt_that_no_crate_has_is_not_removed(self):
+        self.write("crates/low/must-fail/mine.edit", "file: src/lib.rt\n")
+        with self.assertRaisesRegex(SystemExit, "not in crates/low/wrong-bodies.edits: crates/low/must-fail/mine.edit"):
+            wrong_bodies.write(["high"])
+        self.assertEqual(self.written(), ["crates/low/must-fail/mine.edit"])
 
     def test_a_run_that_tries_all_edits_is_recorded(self):
         self.write(".ci/refused", "")

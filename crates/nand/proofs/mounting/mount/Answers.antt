@@ -56,7 +56,7 @@ returns-in-Err-clause-refused g c capacity =
     rw (c.shape.ensures, c.order_of.ensures.shape, c.in_ok-order.ensures.good) at c.used_of-used.ensures.used in
     let shape = g.N.Nand.shape c.args.nand.now in
     let refused = rw (c.order_of.ensures.shape, used) at c.mount_in_order.ensures.refused in
-    let here = capacity_of_used c.args.sectors (good_before (g.N.Nand.bad c.args.nand.now) shape.blocks) shape.blocks shape.pages capacity in
+    let here = capacity_of_used c.args.sectors (good_before (g.N.Nand.bad c.args.nand.now) shape.blocks) shape.blocks shape.spare_blocks shape.pages capacity in
     λ e. let is : c.in-Err.why ≡ why.Refused mount_fault.TooManySectors = cc e in refused here (c.in-Err.is ∙ ap Err is)
 
 pub returns-in-Err-clause-foreign : goal.returns-in-Err-clause-foreign

@@ -1,6 +1,6 @@
 use Rattle.std.proofs.Common.{◌≡◌, List}
 use Rattle.durable.specs.Choice.{left}
-use Rattle.durable.specs.Device.{device_of, next_number_of}
+use Rattle.durable.specs.Device.{device_of, losses_of, next_number_of}
 use Rattle.durable.specs.Promise.{IsConsistent}
 use Rattle.durable.specs.Updates.{Update}
 use Rattle.nand.specs.Numbers.{IsOrder, numbered}
@@ -15,6 +15,7 @@ invariant-loop-self g l = record {
   shape : g.N.Nand.shape l.self.nand ≡ g.N.Nand.shape l.fn.self.nand;
   bad : g.N.Nand.bad l.self.nand ≡ g.N.Nand.bad l.fn.self.nand;
   device : device_of l.self.core ≡ device_of l.fn.self.core;
+  losses : losses_of l.self.core ≡ losses_of l.fn.self.core;
   number : next_number_of l.self.core ≡ next_number_of l.fn.self.core;
   faults : (cause : Fault) → g.N.Nand.faults l.self.nand cause ≡ g.N.Nand.faults l.fn.self.nand cause;
   spent : HasSpent (g.N.Nand.tally l.fn.self.nand) (g.N.Nand.tally l.self.nand) (device_of l.fn.self.core).pages (left l.self.core);

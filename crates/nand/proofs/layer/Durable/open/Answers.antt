@@ -1,7 +1,7 @@
 use Rattle.std.proofs.Common.{[], ap, Err, refl}
 use Rattle.nand.specs.Numbers.{good_before}
 use Rattle.nand.proofs.Mounted.{has_blocks, remaining_causes}
-use Rattle.nand.proofs.Orders.{erased_opens}
+use Rattle.nand.proofs.Orders.{erased_opens, spares_reserved}
 use Rattle.nand.proofs.Replacing.{mounted_open}
 use Rattle.nand.proofs.layer.Durable.open.Goals as goal
 
@@ -17,6 +17,10 @@ returns-in-Ok-clause-new g c erased =
     let bad = g.N.Nand.bad c.args.nand in
     let blocks = has_blocks c.args.sectors (good_before bad shape.blocks) shape.pages c.in-Ok.ensures.capacity in
     returns-in-Ok-clause-open g c [] (erased_opens (g.N.Nand.flash c.args.nand) shape bad c.args.sectors erased blocks)
+
+pub returns-in-Ok-clause-spares : goal.returns-in-Ok-clause-spares
+returns-in-Ok-clause-spares g c n can = spares_reserved (g.N.Nand.shape c.args.nand) (g.N.Nand.bad c.args.nand) c.args.sectors n c.in-Ok.mounted.reserve
+    can c.in-Ok.ensures.reserve
 
 pub returns-in-Err-clause-frees : goal.returns-in-Err-clause-frees
 returns-in-Err-clause-frees g c updates is = λ e. c.in-Err.ensures.frees updates is (ap Err e)

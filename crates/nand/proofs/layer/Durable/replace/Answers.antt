@@ -5,8 +5,8 @@ use Rattle.nand.specs.Opened.{layer_sectors, most_used, reserve_of, used_blocks}
 use Rattle.nand.proofs.Replacing.{fewer_good, mounted_open, one_less, openable_there}
 use Rattle.nand.proofs.layer.Durable.replace.Goals as goal
 
-pub returns-in-Ok-clause-replaced : goal.returns-in-Ok-clause-replaced
-returns-in-Ok-clause-replaced g c updates can some =
+pub returns-else-losses-clause-replaced : goal.returns-else-losses-clause-replaced
+returns-else-losses-clause-replaced g c updates can some =
     let was = c.args.self.now.nand in
     let marked = c.mark_bad.new.self in
     let chip = g.N.Nand.shape was in

@@ -10,10 +10,34 @@ use Rattle.nand.specs.declared.flash.Fault.TheVariants as fault
 use Rattle.nand.specs.declared.flash.Shape.{Shape}
 use Rattle.nand.specs.declared.updating.Stop.{Stop}
 use Rattle.nand.specs.declared.updating.Stop.TheVariants as stop
-use Rattle.nand.proofs.Programs.{adds_there, tallies_there}
+use Rattle.nand.specs.Programs.{TalliesMoves, TalliesOnce}
+use Rattle.nand.specs.declared.flash.Tally.{Tally}
+use Rattle.nand.proofs.Programs.{adds_there, moves_more, moves_none}
 use Rattle.nand.proofs.Replacing.{all_used, either, no_replacement, open_once, opens_once, settles, settles_made}
 use Rattle.nand.proofs.Steps.{fails_open, left_open, power_gone}
 use Rattle.nand.proofs.layer.Durable.update.Goals as goal
+
+pub loop-self-init : goal.loop-self-init
+loop-self-init g c = record {
+  few = omega arith;
+  sectors = refl;
+  shape = refl;
+  marks = λ b is. is;
+  power = refl;
+  failures = omega arith;
+  first = λ none. (refl, refl, refl, refl);
+  losses = omega arith;
+  programmed = refl;
+  holds = λ updates h. (
+    updates,
+    inl refl,
+    h,
+    omega arith,
+    omega arith,
+    λ none. refl,
+    moves_none (g.N.Nand.tally c.args.self.now.nand) (g.N.Nand.shape c.args.self.now.nand).pages,
+  );
+}
 
 pub returns-in-Ok-clause-acknowledged : goal.returns-in-Ok-clause-acknowledged
 returns-in-Ok-clause-acknowledged g c updates h =
@@ -34,16 +58,27 @@ returns-in-Ok-clause-marks g c updates h =
     ∙ ap (λ (n : ℕ). (g.N.Nand.faults was fault.Failed + n) % 2 ^ 64) marked)
 
 pub returns-in-Ok-clause-once : goal.returns-in-Ok-clause-once
-returns-in-Ok-clause-once g c updates h none =
+returns-in-Ok-clause-once g c updates h =
     let inv = c.loop-self.invariant in
     let holds = inv.holds updates h in
-    let blocks = (g.N.Nand.shape c.args.self.now.nand).blocks in
-    let zero : c.loop-self.failed ≡ 0 = omega (arith, holds.4, ap (λ (m : List Bool). good_before m blocks) (sym c.attempt.ensures.device.marks ∙ none)) in
-    let first = inv.first zero in (
-      adds_there (g.N.Nand.flash c.args.self.now.nand) (g.N.Nand.flash c.loop-self.self.nand) (g.N.Nand.flash c.attempt.new.self.nand) _ _
+    let was = c.args.self.now.nand in
+    let blocks = (g.N.Nand.shape was).blocks in
+    let pages = (g.N.Nand.shape was).pages in
+    let last = g.N.Nand.tally c.attempt.new.self.nand in
+    let once = subst (λ (n : ℕ). TalliesOnce (g.N.Nand.tally c.loop-self.self.nand) last 1 n)
+    (ap (λ (d : Device). d.pages) holds.2.device ∙ ap (λ (s : Shape). s.pages) inv.shape) c.in-Ok.ensures.tally in
+    let marked : c.loop-self.failed ≡ good_before (g.N.Nand.bad was) blocks - good_before (g.N.Nand.bad c.attempt.new.self.nand) blocks =
+    omega (arith, holds.4, ap (λ (m : List Bool). good_before m blocks) c.attempt.ensures.device.marks) in (
+      λ none.
+          let zero : c.loop-self.failed ≡ 0 =
+          omega (arith, holds.4, ap (λ (m : List Bool). good_before m blocks) (sym c.attempt.ensures.device.marks ∙ none)) in
+          let first = inv.first zero in
+          adds_there (g.N.Nand.flash was) (g.N.Nand.flash c.loop-self.self.nand) (g.N.Nand.flash c.attempt.new.self.nand) _ _
           (update_of c.args.extent (value_with c.args.trimmed c.args.main.now)) first.3 first.2 (c.in-Ok.ensures.adds holds.0 holds.2),
-      tallies_there (g.N.Nand.tally c.attempt.new.self.nand) first.4
-          (ap (λ (d : Device). d.pages) holds.2.device ∙ ap (λ (s : Shape). s.pages) inv.shape) c.in-Ok.ensures.tally,
+      (
+        once.0 ∙ ap (λ (n : ℕ). (n + 1) % 2 ^ 64) inv.programmed,
+        subst (λ (n : ℕ). TalliesMoves (g.N.Nand.tally was) last (n + 1) pages) marked (moves_more holds.6 once.1),
+      ),
     )
 
 pub returns-then-failed-eq0-clause-fails : goal.returns-then-failed-eq0-clause-fails
@@ -195,12 +230,16 @@ loop-self-preserved g c =
       power = replaced.faults fault.PowerGone ∙ (one.1 ∙ inv.power);
       failures = omega (arith, replaced.faults fault.Failed, one.0, inv.failures);
       first = λ none. absurd (omega (arith, none));
+      losses = omega (arith, replaced.losses, c.losses-losses.ensures);
+      programmed = ap (λ (t : Tally). t.programs) c.replace.ensures.tally ∙ (c.in-Err-Fault-Failed-default.ensures.tally.0 ∙ inv.programmed);
       holds = λ updates h.
           let update = update_of c.args.extent (value_with c.args.trimmed c.args.main.now) in
           let holds = inv.holds updates h in
           let blocks = (g.N.Nand.shape c.args.self.now.nand).blocks in
           let there = subst (λ (s : Stop). Leaves g.N.Nand.flash g.N.Nand.shape g.N.Nand.bad c.attempt.new.self update holds.0 s) stopped
           (c.in-Err-Fault-Failed-default.ensures.leaves holds.0 holds.2) in
+          let more = subst (λ (n : ℕ). TalliesMoves (g.N.Nand.tally was) (g.N.Nand.tally mid) 1 n)
+          (ap (λ (d : Device). d.pages) holds.2.device ∙ ap (λ (s : Shape). s.pages) inv.shape) c.in-Err-Fault-Failed-default.ensures.tally.1 in
           let some : 0 < reserve_of c.attempt.new.self = omega (arith, c.attempt.ensures.reserve, holds.3, c.if-failed-reserve.false) in
           let again = replaced.replaced there.0 there.2 some in
           let settled = settles (λ (us : List Update). IsOpenLayer g.N.Nand.flash g.N.Nand.shape g.N.Nand.bad c.replace.new.self us) update updates
@@ -213,5 +252,7 @@ loop-self-preserved g c =
             omega (arith, again.1, holds.3, c.attempt.ensures.reserve),
             omega (arith, one_less, holds.4, ap (λ (m : List Bool). good_before m blocks) c.attempt.ensures.device.marks),
             λ none. absurd (omega (arith, none)),
+            subst (λ (t : Tally). TalliesMoves (g.N.Nand.tally c.args.self.now.nand) t (c.loop-self.failed + 1) (g.N.Nand.shape c.args.self.now.nand).pages)
+                (sym c.replace.ensures.tally) (moves_more holds.6 more),
           );
     }
