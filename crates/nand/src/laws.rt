@@ -586,9 +586,9 @@ pub fn failing()
     ensures may_fail { (shape : Numbers) → shape.blocks ≡ 9 → shape.spare_blocks ≡ 4
         → shape.pages ≡ 4 → CanSpare shape (true ∷ []) 12 3 }
     ensures no_spare { (shape : Numbers) → shape.blocks ≡ 9 → shape.spare_blocks ≡ 4
-        → shape.pages ≡ 4 → ¬ CanSpare shape (true ∷ []) 12 4 }
+        → shape.pages ≡ 4 → ¬ CanSpare shape (true ∷ []) 8 4 }
     ensures no_room { (shape : Numbers) → shape.blocks ≡ 9 → shape.spare_blocks ≡ 9
-        → shape.pages ≡ 4 → ¬ CanSpare shape (true ∷ []) 12 5 }
+        → shape.pages ≡ 4 → ¬ CanSpare shape (true ∷ []) 12 4 }
     ensures spent { (shape : Numbers) → shape.blocks ≡ 3 → shape.pages ≡ 4 → IsSpent shape [] 8 5 }
     ensures spent_numbers { (shape : Numbers) → IsSpent shape [] 8 (2 ^ 64 - 1) }
     ensures only_spent { (old new : Layer Modelled) (u : Update) (updates : List Update)
