@@ -2,9 +2,6 @@ ghost use Rattle.std.specs.Prelude.{◌<◌, ◌≤◌};
 
 use std::alloc::{AllocError, Global};
 
-// How many bits there are for a sector, if hints aren't longer than is needed.
-const MOST_BITS: usize = 32;
-
 // The greatest number of bits that a hint has, and that it leaves out of a sector's number.
 const MOST: u32 = 31;
 
@@ -12,7 +9,7 @@ const MOST: u32 = 31;
 const FORGETTING: u32 = 5;
 
 /// For each page a few neighbouring sectors of which it may have one, and whether it was programmed for that one alone. All hints together take at most
-/// four bytes a sector: the more pages there are for a sector, the shorter they are, and the more sectors they stand for.
+/// so many bits a sector: the more pages there are for a sector, the shorter they are, and the more sectors they stand for.
 #[derive(Drop)]
 pub struct Hints {
     words: Vec<u64>,
@@ -33,8 +30,13 @@ pub struct Hint {
 
 impl Hints {
     /// Nothing is known of any page.
-    pub fn new(alloc: Global, pages: usize, sectors: usize) -> Result<Hints, AllocError> {
-        let width = width_of(pages, sectors);
+    pub fn new(
+        alloc: Global,
+        pages: usize,
+        sectors: usize,
+        most_bits: usize,
+    ) -> Result<Hints, AllocError> {
+        let width = width_of(pages, sectors, most_bits);
         let bits = pages.saturating_mul(width as usize);
         Ok(Hints {
             words: vec![in alloc; u64::MAX; bits / 64 + 2]?,
@@ -111,10 +113,10 @@ impl Hints {
 }
 
 // How many bits a hint has: one more than tell the sectors apart, or fewer if that were too many in all.
-fn width_of(pages: usize, sectors: usize) -> u32
+fn width_of(pages: usize, sectors: usize, most_bits: usize) -> u32
     ensures { result ≤ 31 }
 {
-    let most = sectors.saturating_mul(MOST_BITS) / pages.max(1);
+    let most = sectors.saturating_mul(most_bits) / pages.max(1);
     for width in 0..MOST {
         if most <= width as usize || sectors <= 1 << width >> 1 {
             return width;

@@ -12,6 +12,9 @@ use std::alloc::{AllocError, Global};
 // How far from a page's hint a sector is looked for if the page was programmed for several.
 const REACH: u32 = 4096;
 
+// How many blocks a map may tell apart in four bytes a sector; with more it takes five.
+const LOW_BLOCKS: u32 = 262_144;
+
 /// A sector that each page has, as far as it is known. The map says which of the sectors of the page's hint it is.
 #[derive(Drop)]
 pub struct Owners {
@@ -33,9 +36,10 @@ impl Owners {
         requires { length map.now.items < 2 ^ 32 }
     {
         let count = (blocks as usize).saturating_mul(pages as usize);
+        let most_bits = if blocks <= LOW_BLOCKS { 32 } else { 24 };
         let mut owners = Owners {
             pages,
-            hints: Hints::new(alloc, count, map.len())?,
+            hints: Hints::new(alloc, count, map.len(), most_bits)?,
             live: vec![in alloc; 0; pages as usize + 1]?,
             left: 0,
         };

@@ -1,64 +1,20 @@
 -- Numbers in groups: what is kept where.
 use Rattle.std.proofs.Common.{◌≡◌, ◌≢◌, ℕ, zero, suc, ◌+◌, ◌-◌, ◌*◌, ◌<◌, ◌≤◌, ◌/◌, ◌%◌, ◌++◌, List, [], ◌∷◌, length, get_or, set, replicate}
 use Rattle.std.proofs.Common.{refl, sym, ◌∙◌, ap, ap₂, subst, arith, ⊎_elim, take, Result, Ok, Err, is_ok, IsOk, if◌then◌else◌}
-use Rattle.std.proofs.lemmas.Bool.{cases_eq, cases_lt, false≢true}
+use Rattle.std.proofs.lemmas.Bool.{cases_eq, false≢true}
 use Rattle.std.proofs.lemmas.Bool.Decides.{nat_tests}
-use Rattle.std.proofs.lemmas.List.{length_push, get_or_push, get_or_append_left, get_or-set_same, get_or-set_other}
-use Rattle.std.proofs.lemmas.List.{get_or-replicate, get_or_past, length-set, length-append, length-replicate, ext_get_or, replicate_more, take_all}
-use Rattle.packed_map.specs.Groups.{number_at, grouped_numbers, share, shared_in, AreGrouped}
-
-pub length_numbers : (places kept : List ℕ) (n : ℕ) → length (grouped_numbers places kept n) ≡ n
-unfolding grouped_numbers
-length_numbers places kept zero = refl
-length_numbers places kept (suc n) =
-    omega (arith, length_push (grouped_numbers places kept n) (number_at places kept n), length_numbers places kept n)
-
-pub numbers_get : (places kept : List ℕ) (n i : ℕ) → i < n → get_or (grouped_numbers places kept n) i 0 ≡ number_at places kept i
-unfolding grouped_numbers
-numbers_get places kept zero i lt = absurd (omega arith)
-numbers_get places kept (suc n) i lt =
-    let before = grouped_numbers places kept n in
-    let size = length_numbers places kept n in
-    ⊎_elim
-    (λ (below : i < n). get_or_append_left before (number_at places kept n ∷ []) 0 i (omega (arith, below, size)) ∙ numbers_get places kept n i below)
-    (λ (last : n ≤ i). let same : n ≡ i = omega (arith, last, lt) in
-    subst (λ (j : ℕ). get_or (before ++ (number_at places kept n ∷ [])) j 0 ≡ number_at places kept j) same
-    (get_or_push before (number_at places kept n) 0 n size))
-    (cases_lt i n)
-
--- the numbers are those with one changed, if they are at each index
-pub numbers_changed : (places kept new_places new_kept : List ℕ) (n i x : ℕ) → i < n → number_at new_places new_kept i ≡ x
-    → ((k : ℕ) → k < n → k ≢ i → number_at new_places new_kept k ≡ number_at places kept k)
-    → grouped_numbers new_places new_kept n ≡ set (grouped_numbers places kept n) i x
-numbers_changed places kept new_places new_kept n i x lt here others =
-    let old = grouped_numbers places kept n in
-    let size = length_numbers places kept n in
-    let new_size = length_numbers new_places new_kept n in
-    ext_get_or 0 _ _ (new_size ∙ sym (length-set old i x ∙ size)) (λ k below.
-    let within : k < n = omega (arith, below, new_size) in
-    numbers_get new_places new_kept n k within ∙ ⊎_elim
-    (λ (same : k ≡ i). subst (λ (j : ℕ). number_at new_places new_kept j ≡ get_or (set old i x) j 0) (sym same)
-    (here ∙ sym (get_or-set_same old i x 0 (omega (arith, lt, size)))))
-    (λ (differs : k ≢ i). others k within differs ∙ sym (get_or-set_other old i k x 0 differs ∙ numbers_get places kept n k within))
-    (cases_eq k i))
-
-zeros_at : (n i : ℕ) → get_or {A = ℕ} (replicate {A = ℕ} n 0) i 0 ≡ 0
-zeros_at n i = ⊎_elim (λ (lt : i < n). get_or-replicate {A = ℕ} n i 0 0 lt)
-    (λ (le : n ≤ i). get_or_past {X = ℕ} (replicate {A = ℕ} n 0) i 0 (omega (arith, le, length-replicate {A = ℕ} n 0))) (cases_lt i n)
+use Rattle.std.proofs.lemmas.List.{get_or_append_left, get_or-set_same, get_or-set_other}
+use Rattle.std.proofs.lemmas.List.{get_or-replicate, length-set, length-append, length-replicate, take_all}
+use Rattle.packed_map.specs.Groups.{number_at, share, shared_in, AreGrouped}
+use Rattle.packed_map.specs.Parts.{values_of}
+use Rattle.packed_map.proofs.Parts.{values_get, values_zero, zeros_at}
 
 -- at first each number is 0
 first_number : (groups i : ℕ) → number_at (replicate {A = ℕ} groups 0) (replicate {A = ℕ} 256 0) i ≡ 0
 first_number groups i = zeros_at 256 (get_or {A = ℕ} (replicate {A = ℕ} groups 0) (i / 256) 0 * 256 + i % 256)
 
-zeros_more : (n : ℕ) → replicate {A = ℕ} (n + 1) 0 ≡ replicate {A = ℕ} (suc n) 0
-zeros_more n = let same : n + 1 ≡ suc n = omega arith in ap (λ (m : ℕ). replicate {A = ℕ} m 0) same
-
-pub first_numbers : (groups n : ℕ) → grouped_numbers (replicate groups 0) (replicate 256 0) n ≡ replicate n 0
-unfolding grouped_numbers
-first_numbers groups zero = refl
-first_numbers groups (suc n) =
-    ap (λ (rest : List ℕ). rest ++ (number_at (replicate groups 0) (replicate 256 0) n ∷ [])) (first_numbers groups n)
-    ∙ ap (λ (x : ℕ). replicate {A = ℕ} n 0 ++ (x ∷ [])) (first_number groups n) ∙ replicate_more {X = ℕ} n 0 ∙ zeros_more n
+pub first_numbers : (groups n : ℕ) → values_of (number_at (replicate groups 0) (replicate 256 0)) n ≡ replicate n 0
+first_numbers groups n = values_zero (number_at (replicate {A = ℕ} groups 0) (replicate {A = ℕ} 256 0)) n (first_number groups)
 
 share_zero : (place : ℕ) → place ≡ 0 → share place ≡ 1
 share_zero place is = grind (arith, nat_tests)
@@ -132,9 +88,9 @@ zero_at places kept used k was there =
 
 -- as all are while no group has one
 pub numbers_unused : (places kept : List ℕ) (used n i : ℕ) → AreGrouped places kept used → used ≡ 1 → i < n → n < length places * 256
-    → get_or (grouped_numbers places kept n) i 0 ≡ 0
+    → get_or (values_of (number_at places kept) n) i 0 ≡ 0
 numbers_unused places kept used n i was one lt all =
-    numbers_get places kept n i lt ∙ zero_at places kept used i was (omega (arith, was.within (i / 256) (omega (arith, lt, all)), one))
+    values_get (number_at places kept) n i lt ∙ zero_at places kept used i was (omega (arith, was.within (i / 256) (omega (arith, lt, all)), one))
 
 pub stored_here : (places kept : List ℕ) (used i x : ℕ) → AreGrouped places kept used → i / 256 < length places
     → number_at places (set kept (get_or places (i / 256) 0 * 256 + i % 256) x) i ≡ x
@@ -163,9 +119,9 @@ resized (Err e) old new n len is ok size more = absurd (false≢true ok)
 
 -- what is kept for an index is found from another one of its group
 pub kept_beside : (places kept : List ℕ) (n first i place : ℕ) → first ≤ i → i < first / 256 * 256 + 256 → i < n → place ≡ get_or places (first / 256) 0
-    → get_or kept (place * 256 + first % 256 + (i - first)) 0 ≡ get_or (grouped_numbers places kept n) i 0
+    → get_or kept (place * 256 + first % 256 + (i - first)) 0 ≡ get_or (values_of (number_at places kept) n) i 0
 kept_beside places kept n first i place le group lt is =
     let same : first / 256 ≡ i / 256 = omega (arith, le, group) in
     let there : place ≡ get_or places (i / 256) 0 = is ∙ ap (λ (g : ℕ). get_or places g 0) same in
     let at : place * 256 + first % 256 + (i - first) ≡ get_or places (i / 256) 0 * 256 + i % 256 = omega (arith, le, group, there) in
-    ap (λ (k : ℕ). get_or kept k 0) at ∙ sym (numbers_get places kept n i lt)
+    ap (λ (k : ℕ). get_or kept k 0) at ∙ sym (values_get (number_at places kept) n i lt)

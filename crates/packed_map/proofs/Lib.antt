@@ -1,4 +1,5 @@
+pub mod BytesOfWords
 pub mod Entries
 pub mod Groups
-pub mod Halves
+pub mod Parts
 pub mod Searches

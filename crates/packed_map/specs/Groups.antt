@@ -1,14 +1,9 @@
 -- Numbers in groups of 256, of which those with no number but 0 are kept at one place.
-use Rattle.std.specs.Prelude.{◌≡◌, ◌≢◌, ℕ, zero, suc, ◌+◌, ◌*◌, ◌<◌, ◌/◌, ◌%◌, ◌++◌, ◌==◌, List, [], ◌∷◌, length, if◌then◌else◌, slice_index_or}
+use Rattle.std.specs.Prelude.{◌≡◌, ◌≢◌, ℕ, ◌+◌, ◌*◌, ◌<◌, ◌/◌, ◌%◌, ◌==◌, List, [], ◌∷◌, length, if◌then◌else◌, slice_index_or}
 
 -- the number at an index: in its group, where that is kept
 abbrev pub number_at : List ℕ → List ℕ → ℕ → ℕ
 number_at places kept i = slice_index_or kept (slice_index_or places (i / 256) 0 * 256 + i % 256) 0
-
--- the first so many numbers
-unfoldable pub grouped_numbers : List ℕ → List ℕ → ℕ → List ℕ
-grouped_numbers places kept zero = []
-grouped_numbers places kept (suc n) = grouped_numbers places kept n ++ (number_at places kept n ∷ [])
 
 -- one for a group that is kept at the first place
 abbrev pub share : ℕ → ℕ

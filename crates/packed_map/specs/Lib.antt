@@ -1,4 +1,4 @@
 pub mod Entries
 pub mod Finding
 pub mod Groups
-pub mod Halves
+pub mod Parts

@@ -2,8 +2,8 @@
 ghost use Rattle.std.specs.Prelude.{◌≡◌, ℕ, List, [], ◌∷◌, replicate, None, Some};
 ghost use Rattle.packed_map.specs.Entries.{entry_of, IsPackable};
 ghost use Rattle.packed_map.specs.Finding.{Finds};
-ghost use Rattle.packed_map.specs.Groups.{grouped_numbers, AreGrouped};
-ghost use Rattle.packed_map.specs.Halves.{joined};
+ghost use Rattle.packed_map.specs.Groups.{number_at, AreGrouped};
+ghost use Rattle.packed_map.specs.Parts.{byte_at, joined_at, values_of};
 
 /// The bits of entries.
 #[tactic(auto, unfolding(crate::specs::Entries::entry_of))]
@@ -41,17 +41,20 @@ pub fn searches()
 {}
 
 /// Where the numbers of groups are, and which groups are kept.
-#[tactic(auto, unfolding(crate::specs::Groups::grouped_numbers))]
+#[tactic(auto, unfolding(crate::specs::Parts::values_of))]
 pub fn groups()
-    ensures numbers { grouped_numbers (0 ∷ []) (5 ∷ 6 ∷ []) 3 ≡ 5 ∷ 6 ∷ 0 ∷ [] }
+    ensures numbers { values_of (number_at (0 ∷ []) (5 ∷ 6 ∷ [])) 3 ≡ 5 ∷ 6 ∷ 0 ∷ [] }
     ensures first { AreGrouped (replicate 3 0) (replicate 256 0) 1 }
     ensures nothing { (places : List ℕ) → ¬ AreGrouped places [] 1 }
     ensures shared { (kept : List ℕ) → ¬ AreGrouped (1 ∷ 1 ∷ []) kept 2 }
     ensures outside { (kept : List ℕ) → ¬ AreGrouped (2 ∷ []) kept 2 }
 {}
 
-/// Numbers by their halves.
-#[tactic(auto, unfolding(crate::specs::Halves::joined))]
-pub fn halves()
-    ensures { joined (1 ∷ 2 ∷ []) (0 ∷ 3 ∷ []) ≡ 1 ∷ 12884901890 ∷ [] }
+/// Numbers by their parts.
+#[tactic(auto, unfolding(crate::specs::Parts::values_of))]
+pub fn parts()
+    ensures bytes { values_of (byte_at (67305985 ∷ 4278190080 ∷ [])) 8
+        ≡ 1 ∷ 2 ∷ 3 ∷ 4 ∷ 0 ∷ 0 ∷ 0 ∷ 255 ∷ [] }
+    ensures joined { values_of (joined_at (1 ∷ 2 ∷ []) (0 ∷ 3 ∷ []) (0 ∷ 5 ∷ [])) 2
+        ≡ 1 ∷ 5510443040770 ∷ [] }
 {}

@@ -2,6 +2,7 @@
 //! that have none.
 #![tactic(auto)]
 
+mod bytes;
 mod entry;
 mod laws;
 mod numbers;

@@ -1,29 +1,37 @@
 ghost use Rattle.std.specs.Prelude.{◌≡◌, ◌<◌, ◌≤◌, ◌+◌, ◌*◌, ◌/◌, ◌^◌, length, replicate, slice_set, slice_index_or, IfOk};
 ghost use Rattle.packed_map.specs.Finding.{Finds};
 
+use crate::bytes::SparseBytes;
 use crate::words::SparseWords;
 use std::alloc::{AllocError, Global};
 use std::marker::Model;
 
 const HALF: u64 = 4_294_967_296;
 
-/// Numbers of which most are small: those below 2^32 take four bytes, and zeros next to nothing.
+const BYTE: u64 = 256;
+
+/// Numbers of which most are small: those below 2^32 take four bytes, those below 2^40 five, and zeros next to nothing.
 #[derive(Drop)]
 pub struct SparseNumbers {
     low: SparseWords,
+    middle: SparseBytes,
     high: SparseWords,
 }
 
 // Clauses see the list of the numbers.
 impl Model for SparseNumbers {
-    ghost use Rattle.std.specs.Prelude.{◌≡◌, List, ℕ, length};
-    ghost use Rattle.packed_map.specs.Halves.{joined};
+    ghost use Rattle.std.specs.Prelude.{◌≡◌, ◌<◌, ◌^◌, List, ℕ, length, slice_index_or};
+    ghost use Rattle.packed_map.specs.Parts.{joined_at, values_of};
 
     ghost Value = { List ℕ };
 
-    ghost view = { λ n. joined n.low n.high };
+    ghost view = { λ n. values_of (joined_at n.low n.middle n.high) (length n.low) };
 
-    ghost invariant = { λ n. length n.high ≡ length n.low };
+    ghost invariant = { λ n. record {
+      middle : length n.middle ≡ length n.low;
+      high : length n.high ≡ length n.low;
+      small : (i : ℕ) → slice_index_or n.high i 0 < 2 ^ 24;
+    } };
 }
 
 impl SparseNumbers {
@@ -33,6 +41,7 @@ impl SparseNumbers {
     {
         Ok(SparseNumbers {
             low: SparseWords::new(alloc, len)?,
+            middle: SparseBytes::new(alloc, len)?,
             high: SparseWords::new(alloc, len)?,
         })
     }
@@ -49,7 +58,8 @@ impl SparseNumbers {
         requires { index < length self.now }
         ensures { result ≡ slice_index_or self.now index 0 }
     {
-        u64::from(self.high.get(index)) * HALF + u64::from(self.low.get(index))
+        (u64::from(self.high.get(index)) * BYTE + u64::from(self.middle.get(index))) * HALF
+            + u64::from(self.low.get(index))
     }
 
     /// One of these indices, all in one group of 256, at which a number stands.
@@ -85,6 +95,7 @@ impl SparseNumbers {
         ensures { self.new ≡ slice_set self.old index number }
     {
         self.low.set(index, (number % HALF) as u32);
-        self.high.set(index, (number / HALF) as u32);
+        self.middle.set(index, (number / HALF % BYTE) as u8);
+        self.high.set(index, (number / HALF / BYTE) as u32);
     }
 }

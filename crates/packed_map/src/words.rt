@@ -25,11 +25,12 @@ pub struct SparseWords {
 // Clauses see the list of the numbers.
 impl Model for SparseWords {
     ghost use Rattle.std.specs.Prelude.{◌<◌, ◌≤◌, ◌+◌, ◌*◌, ◌^◌, List, ℕ, length, vec_capacity};
-    ghost use Rattle.packed_map.specs.Groups.{grouped_numbers, AreGrouped};
+    ghost use Rattle.packed_map.specs.Groups.{number_at, AreGrouped};
+    ghost use Rattle.packed_map.specs.Parts.{values_of};
 
     ghost Value = { List ℕ };
 
-    ghost view = { λ n. grouped_numbers n.places.items n.kept.items n.len };
+    ghost view = { λ n. values_of (number_at n.places.items n.kept.items) n.len };
 
     ghost invariant = { λ n. record {
       kept : AreGrouped n.places.items n.kept.items n.used;

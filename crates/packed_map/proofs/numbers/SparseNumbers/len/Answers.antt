@@ -1,6 +1,9 @@
 use Rattle.std.proofs.Common.{length, sym, ◌∙◌, ap}
-use Rattle.packed_map.proofs.Halves.{length_joined}
+use Rattle.packed_map.specs.Parts.{joined_at}
+use Rattle.packed_map.proofs.Parts.{length_values}
 use Rattle.packed_map.proofs.numbers.SparseNumbers.len.Goals as goal
 
 pub returns : goal.returns
-returns c = c.len.ensures ∙ sym (ap length (sym c.self.view_is) ∙ length_joined c.self.inside.low c.self.inside.high c.self.invariant)
+returns c =
+    let n = c.self.inside in
+    c.len.ensures ∙ sym (ap length (sym c.self.view_is) ∙ length_values (joined_at n.low n.middle n.high) (length n.low))

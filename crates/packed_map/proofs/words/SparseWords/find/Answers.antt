@@ -1,19 +1,21 @@
 use Rattle.std.proofs.Common.{◌≡◌, ◌<◌, ◌+◌, ◌*◌, ◌/◌, ◌%◌, ◌-◌, ℕ, List, length, get_or, ◌∙◌, ap, arith}
 use Rattle.std.proofs.lemmas.List.{get_or_read}
-use Rattle.packed_map.proofs.Groups.{length_numbers, kept_within, kept_beside}
+use Rattle.packed_map.proofs.Groups.{kept_within, kept_beside}
 use Rattle.packed_map.proofs.Searches.{found_last, found_before}
+use Rattle.packed_map.specs.Groups.{number_at}
+use Rattle.packed_map.proofs.Parts.{length_values}
 use Rattle.packed_map.proofs.words.SparseWords.find.Goals as goal
 use Rattle.packed_map.proofs.words.SparseWords.find.Goals.{then-from, else-from}
 
 pub index-requires : goal.index-requires
 index-requires c =
     let n = c.self.inside in
-    omega (arith, c.requires.within, ap length c.self.view_is, length_numbers n.places.items n.kept.items n.len, c.self.invariant.all, n.places.ok)
+    omega (arith, c.requires.within, ap length c.self.view_is, length_values (number_at n.places.items n.kept.items) n.len, c.self.invariant.all, n.places.ok)
 
 pub index-requires-in-loop-i : goal.index-requires-in-loop-i
 index-requires-in-loop-i c =
     let n = c.self.inside in
-    let size = length_numbers n.places.items n.kept.items n.len in
+    let size = length_values (number_at n.places.items n.kept.items) n.len in
     let below : c.args.first / 256 < length n.places.items = omega (arith, c.requires.within, ap length c.self.view_is, size, c.self.invariant.all) in
     let place = get_or_read n.places.items (c.args.first / 256) c.index.result.now below c.index.ensures 0 in
     omega (arith, kept_within n.places.items n.kept.items n.used c.args.first c.self.invariant.kept below, place, n.kept.ok)
@@ -23,7 +25,7 @@ loop-i-preserved c =
     let n = c.self.inside in
     let self = c.args.self.now in
     let i = c.loop-i.i in
-    let size = length_numbers n.places.items n.kept.items n.len in
+    let size = length_values (number_at n.places.items n.kept.items) n.len in
     let within : i < n.len = omega (arith, c.loop-i-test.true, c.requires.within, ap length c.self.view_is, size) in
     let below : c.args.first / 256 < length n.places.items = omega (arith, c.loop-i.auto.i, within, c.self.invariant.all) in
     let place = get_or_read n.places.items (c.args.first / 256) c.index.result.now below c.index.ensures 0 in

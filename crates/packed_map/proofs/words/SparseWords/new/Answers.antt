@@ -1,7 +1,8 @@
 use Rattle.std.proofs.Common.{◌+◌, ◌-◌, ◌/◌, ◌++◌, ℕ, List, length, take, replicate, sym, ◌∙◌, ap, ap₂, subst, arith}
 use Rattle.std.proofs.lemmas.List.{length-replicate}
-use Rattle.packed_map.specs.Groups.{grouped_numbers, AreGrouped}
+use Rattle.packed_map.specs.Groups.{number_at, AreGrouped}
 use Rattle.packed_map.proofs.Groups.{first_kept, first_numbers}
+use Rattle.packed_map.specs.Parts.{values_of}
 use Rattle.packed_map.proofs.words.SparseWords.new.Goals as goal
 
 pub invariant_of-result : goal.invariant_of-result
@@ -24,4 +25,4 @@ returns c =
     let places = c.in_ok-vec.ensures.items_if_clones_equal (λ y h. h) in
     let zeros = c.in_ok-resize.ensures.items
     ∙ ap₂ (λ (xs : List ℕ) (n : ℕ). take 256 xs ++ replicate (256 - n) 0) c.in_ok-kept.ensures.items c.in_ok-kept.ensures.len in
-    ap₂ (λ (ps : List ℕ) (ks : List ℕ). grouped_numbers ps ks c.args.len) places zeros ∙ first_numbers groups c.args.len
+    ap₂ (λ (ps : List ℕ) (ks : List ℕ). values_of (number_at ps ks) c.args.len) places zeros ∙ first_numbers groups c.args.len
