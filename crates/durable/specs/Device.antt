@@ -2,6 +2,7 @@
 use Rattle.std.specs.Prelude.{◌≡◌, ◌<◌, ◌+◌, ◌^◌, ℕ, length, Option, IfSome}
 use Rattle.geometry.specs.Sectors.{Sector}
 use Rattle.geometry.specs.declared.page_addr.PageAddr.{PageAddr}
+use Rattle.durable.specs.Collecting.{live_in}
 use Rattle.durable.specs.Updates.{LiesWithin}
 use Rattle.durable.specs.Flash.{Version, Flash}
 use Rattle.durable.specs.declared.extent.Extent.{Extent}
@@ -42,6 +43,10 @@ IsStampOn device stamp = IfSome stamp (λ s. LiesWithin device.sectors s.extent 
 -- how many losses the mount has told
 abbrev pub losses_of : Core → ℕ
 losses_of core = core.losses
+
+-- how many sectors have their page in a block
+abbrev pub live_of : Core → ℕ → ℕ
+live_of core b = live_in b core.map.items
 
 -- the page to be programmed next, if a block is open
 abbrev pub next_page_of : Core → Option PageAddr

@@ -1,15 +1,15 @@
 ghost use Rattle.std.specs.Prelude.{◌≡◌, ◌≢◌, ◌⊎◌, ◌<◌, ◌≤◌, ◌+◌, ◌%◌, ◌^◌, ℕ, List, ◌∷◌, [], length};
-ghost use Rattle.std.specs.Prelude.{None, Some, Ok, Err, OnOk, OnErr, IfOk, IfErr};
+ghost use Rattle.std.specs.Prelude.{None, Some, Ok, Err, OnOk, OnErr, IfOk, IfErr, IfSome};
 ghost use Rattle.geometry.specs.Sectors.{was_of};
 ghost use Rattle.geometry.specs.declared.answer.Got.TheVariants as got;
 ghost use Rattle.geometry.specs.declared.answer.Was.TheVariants as was;
 ghost use Rattle.durable.specs.Collecting.{HasCapacity};
 ghost use Rattle.durable.specs.Updates.{LiesWithin, Update, array_after, sole};
 ghost use Rattle.durable.specs.declared.fault.MountFault.TheVariants as mount_fault;
-ghost use Rattle.durable.specs.Device.{HasOwnVersions, IsWrittenOn, losses_of};
+ghost use Rattle.durable.specs.Device.{HasOwnVersions, IsWrittenOn, device_of, live_of, losses_of};
 ghost use Rattle.durable.specs.Flash.{IsErased, PageContents};
 ghost use Rattle.durable.specs.Losses.{HasNoLoss};
-ghost use Rattle.nand.specs.Numbers.{good_before, numbered};
+ghost use Rattle.nand.specs.Numbers.{chip_block as block_of, good_before, numbered};
 ghost use Rattle.nand.specs.Opened.{CanOpen, Fails, IsUnmounted, IsOpenLayer, IsSameDevice, IsTrueCause, KeepsDevice, MarksFailed, ReadsSector, Were};
 ghost use Rattle.nand.specs.Opened.{CanSpare, NumbersBelow, device_on, layer_sectors, number_of, reserve_of, update_of};
 ghost use Rattle.nand.specs.Stored.{ReadsStored, StopsLook, StopsUpdate, TellsStored, WereStored, stored_value, told_of, value_for};
@@ -174,6 +174,22 @@ impl<N: Nand> Durable<N> {
         ensures reserve { result ≡ reserve_of self.now }
     {
         self.reserve
+    }
+
+    /// How many sectors have their page in one of the chip's blocks, if it is in use: one that is bad or in reserve isn't.
+    pub fn live(&self, block: u32) -> Option<u32>
+        ensures in_use { IfSome result
+            (λ live. (c : ℕ) × (c < (device_of self.now.core).blocks)
+            × (block_of self.now.numbers.items c ≡ block) × (live ≡ live_of self.now.core c)) }
+        ensures other { result ≡ None → (c : ℕ) → c < (device_of self.now.core).blocks
+            → block_of self.now.numbers.items c ≢ block }
+    {
+        for number in 0..self.core.blocks() {
+            if chip_block(&self.numbers, number) == block {
+                return Some(self.core.live(number));
+            }
+        }
+        None
     }
 
     /// How often each of the chip's blocks was erased before the open. Of a few blocks that are as good the least erased is taken, so a chip that was

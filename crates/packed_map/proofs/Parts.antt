@@ -58,8 +58,12 @@ joined_set low middle high i number lt same_middle same_high =
     let h = number / 4294967296 / 256 in
     ap (values_of (joined_at (set low i l) (set middle i m) (set high i h))) (length-set low i l)
     ∙ values_changed (joined_at low middle high) (joined_at (set low i l) (set middle i m) (set high i h)) (length low) i number lt
-    (omega (arith, get_or-set_same low i l 0 lt, get_or-set_same middle i m 0 (omega (arith, lt, same_middle)),
-    get_or-set_same high i h 0 (omega (arith, lt, same_high))))
+    (omega (
+      arith,
+      get_or-set_same low i l 0 lt,
+      get_or-set_same middle i m 0 (omega (arith, lt, same_middle)),
+      get_or-set_same high i h 0 (omega (arith, lt, same_high)),
+    ))
     (λ k below differs. omega (arith, get_or-set_other low i k l 0 differs, get_or-set_other middle i k m 0 differs, get_or-set_other high i k h 0 differs))
 
 pub joined_zeros : (low middle high : List ℕ) (n : ℕ) → low ≡ replicate n 0 → middle ≡ replicate n 0 → high ≡ replicate n 0
@@ -67,5 +71,9 @@ pub joined_zeros : (low middle high : List ℕ) (n : ℕ) → low ≡ replicate 
 joined_zeros low middle high n is_low is_middle is_high =
     let size : length low ≡ n = ap length is_low ∙ length-replicate {A = ℕ} n 0 in
     ap (λ (m : ℕ). values_of (joined_at low middle high) m) size
-    ∙ values_zero (joined_at low middle high) n (λ i. omega (arith, ap (λ (xs : List ℕ). get_or xs i 0) is_low ∙ zeros_at n i,
-    ap (λ (xs : List ℕ). get_or xs i 0) is_middle ∙ zeros_at n i, ap (λ (xs : List ℕ). get_or xs i 0) is_high ∙ zeros_at n i))
+    ∙ values_zero (joined_at low middle high) n (λ i. omega (
+      arith,
+      ap (λ (xs : List ℕ). get_or xs i 0) is_low ∙ zeros_at n i,
+      ap (λ (xs : List ℕ). get_or xs i 0) is_middle ∙ zeros_at n i,
+      ap (λ (xs : List ℕ). get_or xs i 0) is_high ∙ zeros_at n i,
+    ))

@@ -12,8 +12,11 @@ get-word-requires c =
 pub overflow_add-rest : goal.overflow_add-rest
 overflow_add-rest c =
     let word = c.get-word.result in
-    omega (arith, subst (λ (s : ℕ). put word s c.from.result < 4294967296) (sym c.shift-shift.ensures)
-    (put_fits word (c.args.index % 4) c.from.result (omega arith) (omega arith) (omega (arith, c.from.ensures))))
+    omega (
+      arith,
+      subst (λ (s : ℕ). put word s c.from.result < 4294967296) (sym c.shift-shift.ensures)
+          (put_fits word (c.args.index % 4) c.from.result (omega arith) (omega arith) (omega (arith, c.from.ensures))),
+    )
 
 pub set-requires : goal.set-requires
 set-requires c =

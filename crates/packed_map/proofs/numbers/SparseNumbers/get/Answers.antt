@@ -23,5 +23,14 @@ returns c =
     let n = c.self.inside in
     let number = joined_at n.low n.middle n.high in
     let within : c.args.index < length n.low = omega (arith, c.requires, ap length c.self.view_is, length_values number (length n.low)) in
-    omega (arith, c.from.ensures, c.get.ensures, c.from-2.ensures, c.get-2.ensures, c.from-3.ensures, c.get-3.ensures,
-    values_get number (length n.low) c.args.index within, ap (λ (xs : List ℕ). get_or xs c.args.index 0) c.self.view_is)
+    omega (
+      arith,
+      c.from.ensures,
+      c.get.ensures,
+      c.from-2.ensures,
+      c.get-2.ensures,
+      c.from-3.ensures,
+      c.get-3.ensures,
+      values_get number (length n.low) c.args.index within,
+      ap (λ (xs : List ℕ). get_or xs c.args.index 0) c.self.view_is,
+    )
