@@ -277,6 +277,34 @@ fn a_block_that_was_erased_often_rests(rt: HostRuntime) -> Result<(), Fail> {
     Ok(())
 }
 
+// Block 0 is bad and another one in reserve; the others tell the sectors whose pages they have.
+#[test]
+fn each_block_tells_its_live_sectors(rt: HostRuntime) -> Result<(), Fail> {
+    let mut worn = chip(rt.alloc(), 6, 2)?;
+    assert!(rt; worn.mark_bad(0).is_ok());
+    let Some(mut layer) = open(&rt, worn, 3) else {
+        return Ok(());
+    };
+    for (sector, byte) in [(0, 1), (1, 2), (2, 3), (0, 4)] {
+        assert!(rt; make(&rt, &mut layer, Call::Write(sector, byte), None).is_ok());
+    }
+    let mut unused = 0;
+    let mut live = 0;
+    for block in 0..6 {
+        match layer.live(block) {
+            Some(count) => live += count,
+            None => unused += 1,
+        }
+    }
+    assert!(rt; layer.live(0).is_none() && layer.live(6).is_none());
+    expect(
+        &rt,
+        live == 3 && unused == 1 + layer.reserve(),
+        &(live, unused),
+    );
+    Ok(())
+}
+
 // Block 0 has lost its first page, whose sector has a newer one, so the open tells a loss. The erase of block 2 fails then: the call goes on,
 // since its mount finds no loss more.
 #[test]

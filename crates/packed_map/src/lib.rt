@@ -1,5 +1,5 @@
-//! The map of a layer over flash, packed: the page of each sector in four bytes, or eight on the largest devices, and next to nothing for sectors
-//! that have none.
+//! The map of a layer over flash, packed: the page of each sector in four bytes, or five on the largest devices, and next to nothing for sectors that
+//! have none.
 #![tactic(auto)]
 
 mod bytes;
