@@ -257,12 +257,12 @@ static void run(int part)
 {
     switch (part) {
     case 0: use_largest(MOST_BLOCKS, MOST_SECTORS / MOST_BLOCKS + 1, MOST_SECTORS); break;
-    case 1: use(MOST_BLOCKS, 16, 75, 12); break;
+    case 1: use(MOST_BLOCKS, 16, 75, 8); break;
     case 2: use(65536, 256, 75, 8); break;
     case 3: use(65536, 256, 55, 8); break;
     case 4: use_largest(1024, MOST_PAGES, 1 << 23); break;
-    case 5: mount_full(MOST_BLOCKS, 16, MOST_BLOCKS * 12, 0, 0, 12.25); break;
-    case 6: mount_full(MOST_BLOCKS, 16, MOST_BLOCKS * 6, 1ull << 32, 1, 24.25); break;
+    case 5: mount_full(MOST_BLOCKS, 16, MOST_BLOCKS * 12, 0, 0, 9.4); break;
+    case 6: mount_full(MOST_BLOCKS, 16, MOST_BLOCKS * 6, 1ull << 32, 1, 15.4); break;
     case 7: begin_largest(); break;
     default: use(16384, 256, 48u >> (part - 8), 8);
     }
