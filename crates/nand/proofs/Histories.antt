@@ -1,17 +1,15 @@
 -- What a list of calls leaves.
-use Rattle.std.proofs.Common.{◌≡◌, ◌⊎◌, ◌∙◌, inl, inr, ◌+◌, ◌<◌, All, ℕ, zero, suc, Bool, false, List, [], ◌∷◌, ◌++◌, length, Result, Ok, Err, IfOk, IfErr}
+use Rattle.std.proofs.Common.{◌≡◌, ◌⊎◌, ◌∙◌, inl, inr, ◌+◌, ◌<◌, ℕ, zero, suc, Bool, false, List, [], ◌∷◌, ◌++◌, length, Result, Ok, Err, IfOk, IfErr}
 use Rattle.std.proofs.Common.{get_or, set, refl, sym, ap, subst, arith}
-use Rattle.std.proofs.lemmas.List.Elements.{All-append, All-cons, All-nil}
 use Rattle.durable.specs.Flash.{Flash}
 use Rattle.durable.specs.Updates.{Makes, Update}
 use Rattle.nand.specs.declared.failure.Failure.{Failure}
-use Rattle.nand.specs.declared.flash.Fault.{Fault}
 use Rattle.nand.specs.declared.flash.Shape.{Shape}
 use Rattle.nand.specs.declared.history.Change.{Change}
 use Rattle.nand.specs.declared.layer.Durable.{Durable}
 use Rattle.nand.specs.declared.layer.NotOpened.{NotOpened}
 use Rattle.nand.specs.Histories.{Leads, update_by}
-use Rattle.nand.specs.Opened.{CanOpen, Fails, HasFailed, IsOpenLayer, IsOpenable, layer_sectors}
+use Rattle.nand.specs.Opened.{CanOpen, Fails, IsOpenLayer, IsOpenable, layer_sectors}
 
 -- a chip that holds the same can be opened too
 pub same_chip : {N : Type 0} (flash : N → Flash) (shape : N → Shape) (bad : N → List Bool) (nand back : N) (sectors : ℕ) (updates : List Update)
@@ -64,41 +62,35 @@ set_last [] old new (suc n) is = absurd (omega (arith, is))
 set_last (x ∷ outcomes) old new zero is = absurd (omega (arith, is))
 set_last (x ∷ outcomes) old new (suc n) is = ap (λ (rest : List Bool). x ∷ rest) (set_last outcomes old new n (omega (arith, is)))
 
--- one call more was made
-one_more : (calls : List Change) (outcomes : List Bool) (n : ℕ) (call : Change) (acknowledged : Bool) (before middle after : List Update)
-    → Leads calls outcomes before middle → length outcomes ≡ n → n < length calls → call ≡ get_or calls n call
-    → Makes acknowledged (update_by call) middle after → Leads calls (outcomes ++ acknowledged ∷ []) before after
-one_more [] outcomes n call acknowledged before middle after leads same lt is follows = absurd (omega (arith, lt))
-one_more (first ∷ calls) [] zero call acknowledged before middle after leads same lt is follows = (
-  after,
-  subst (λ (x : Change). Makes acknowledged (update_by x) before after) is
-      (subst (λ (us : List Update). Makes acknowledged (update_by call) us after) leads follows),
-  refl,
-)
-one_more (first ∷ calls) [] (suc n) call acknowledged before middle after leads same lt is follows = absurd (omega (arith, same))
-one_more (first ∷ calls) (outcome ∷ outcomes) zero call acknowledged before middle after leads same lt is follows = absurd (omega (arith, same))
-one_more (first ∷ calls) (outcome ∷ outcomes) (suc n) call acknowledged before middle after leads same lt is follows =
-    (leads.0, leads.1, one_more calls outcomes n call acknowledged leads.0 middle after leads.2 (omega (arith, same)) (omega (arith, lt)) is follows)
+module _ (HasFailed : Update → List Update → Type 0) where
+  -- one call more was made
+  one_more : (calls : List Change) (outcomes : List Bool) (n : ℕ) (call : Change) (acknowledged : Bool) (before middle after : List Update)
+      → Leads HasFailed calls outcomes before middle → length outcomes ≡ n → n < length calls → call ≡ get_or calls n call
+      → Makes acknowledged (update_by call) middle after → (acknowledged ≡ false → HasFailed (update_by call) middle)
+      → Leads HasFailed calls (outcomes ++ acknowledged ∷ []) before after
+  one_more [] outcomes n call acknowledged before middle after leads same lt is follows failed = absurd (omega (arith, lt))
+  one_more (first ∷ calls) [] zero call acknowledged before middle after leads same lt is follows failed = (
+    after,
+    subst (λ (x : Change). Makes acknowledged (update_by x) before after) is
+        (subst (λ (us : List Update). Makes acknowledged (update_by call) us after) leads follows),
+    subst (λ (x : Change). acknowledged ≡ false → HasFailed (update_by x) before) is
+        (subst (λ (us : List Update). acknowledged ≡ false → HasFailed (update_by call) us) leads failed),
+    refl,
+  )
+  one_more (first ∷ calls) [] (suc n) call acknowledged before middle after leads same lt is follows failed = absurd (omega (arith, same))
+  one_more (first ∷ calls) (outcome ∷ outcomes) zero call acknowledged before middle after leads same lt is follows failed = absurd (omega (arith, same))
+  one_more (first ∷ calls) (outcome ∷ outcomes) (suc n) call acknowledged before middle after leads same lt is follows failed =
+      (leads.0, leads.1, leads.2, one_more calls outcomes n call acknowledged leads.0 middle after leads.3 (omega (arith, same)) (omega (arith, lt)) is follows failed)
 
--- the same where its outcome was put behind the others, and then set
-pub leads_more : (calls : List Change) (outcomes pushed : List Bool) (n : ℕ) (call : Change) (acknowledged : Bool) (before middle after : List Update)
-    → Leads calls outcomes before middle → pushed ≡ outcomes ++ false ∷ [] → length outcomes ≡ n → n < length calls → call ≡ get_or calls n call
-    → Makes acknowledged (update_by call) middle after → Leads calls (set pushed n acknowledged) before after
-leads_more calls outcomes pushed n call acknowledged before middle after leads put same lt is follows =
-    subst (λ (os : List Bool). Leads calls os before after)
-    (sym (ap (λ (os : List Bool). set os n acknowledged) put ∙ set_last outcomes false acknowledged n same))
-    (one_more calls outcomes n call acknowledged before middle after leads same lt is follows)
-
--- what a call that is told as not acknowledged shows
-abbrev pub Explains : {N : Type 0} → (N → Flash) → (N → Shape) → (N → List Bool) → (N → Fault → ℕ) → Bool → Type 0
-Explains flash shape bad faults told = told ≡ false → HasFailed flash shape bad faults
-
--- one outcome more was put behind the others, and then set
-pub all_more : (P : Bool → Type 0) (outcomes pushed : List Bool) (n : ℕ) (acknowledged : Bool) → All P outcomes → P acknowledged
-    → pushed ≡ outcomes ++ false ∷ [] → length outcomes ≡ n → All P (set pushed n acknowledged)
-all_more P outcomes pushed n acknowledged all last put same =
-    subst (All P) (sym (ap (λ (os : List Bool). set os n acknowledged) put ∙ set_last outcomes false acknowledged n same))
-    (All-append P outcomes (acknowledged ∷ []) all (All-cons P acknowledged [] last (All-nil P)))
+  -- the same where its outcome was put behind the others, and then set
+  pub leads_more : (calls : List Change) (outcomes pushed : List Bool) (n : ℕ) (call : Change) (acknowledged : Bool) (before middle after : List Update)
+      → Leads HasFailed calls outcomes before middle → pushed ≡ outcomes ++ false ∷ [] → length outcomes ≡ n → n < length calls
+      → call ≡ get_or calls n call → Makes acknowledged (update_by call) middle after → (acknowledged ≡ false → HasFailed (update_by call) middle)
+      → Leads HasFailed calls (set pushed n acknowledged) before after
+  leads_more calls outcomes pushed n call acknowledged before middle after leads put same lt is follows failed =
+      subst (λ (os : List Bool). Leads HasFailed calls os before after)
+      (sym (ap (λ (os : List Bool). set os n acknowledged) put ∙ set_last outcomes false acknowledged n same))
+      (one_more calls outcomes n call acknowledged before middle after leads same lt is follows failed)
 
 longer : (outcomes : List Bool) (last : Bool) → length (outcomes ++ last ∷ []) ≡ length outcomes + 1
 longer [] last = refl

@@ -160,16 +160,16 @@ IsTrueCause {N} faults old new failure.Written = Unit {0}
 IsTrueCause {N} faults old new failure.Lost = Unit {0}
 IsTrueCause {N} faults old new failure.PagesLost = losses_of old.core < losses_of new.core
 
--- a call of an open layer has failed for a true cause: the power went, a command failed, or the numbers had run out
-pub record HasFailed {N : Type 0} (flash : N → Flash) (shape : N → Shape) (bad : N → List Bool) (faults : N → Fault → ℕ) : Type 0 where
+-- an update of an open layer with such an array has failed for a true cause: the power went, a command failed, or the numbers had run out
+pub record HasFailed {N : Type 0} (flash : N → Flash) (shape : N → Shape) (bad : N → List Bool) (faults : N → Fault → ℕ) (update : Update)
+    (updates : List Update) : Type 0 where
   pub old : Durable N
   pub new : Durable N
-  pub updates : List Update
   pub cause : Failure
   pub holds : IsOpenLayer flash shape bad old updates
+  pub fails : Fails flash shape bad old new update updates cause
   pub true : IsTrueCause faults old new cause
   pub written : cause ≢ failure.Written
-  pub lost : cause ≢ failure.Lost
 
 -- what a read returns: that the sector is empty, or its bytes
 abbrev pub ReadsSector : Sector → Got → List ℕ → Type 0

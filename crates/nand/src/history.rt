@@ -66,19 +66,18 @@ impl<N: Nand> Durable<N> {
         requires none { acknowledged.old.items ≡ [] }
         ensures array { (before : List Update) → CanOpen N.flash N.shape N.bad nand sectors before
             → IfOk result
-            (λ layer. (after : List Update) × Leads changes.now acknowledged.new.items before after
+            (λ layer. (after : List Update)
+            × Leads (HasFailed N.flash N.shape N.bad N.faults)
+            changes.now acknowledged.new.items before after
             × IsOpenLayer N.flash N.shape N.bad layer after) }
         ensures back { (before : List Update) → CanOpen N.flash N.shape N.bad nand sectors before
             → IfErr result
             (λ refused. (after : List Update)
-            × Leads changes.now acknowledged.new.items before after
+            × Leads (HasFailed N.flash N.shape N.bad N.faults)
+            changes.now acknowledged.new.items before after
             × CanOpen N.flash N.shape N.bad refused.nand sectors after) }
         ensures all { OnOk result (length acknowledged.new.items ≡ length changes.now) }
 
-        // It tells a call as not acknowledged only if one has failed.
-        ensures failed { (before : List Update) → CanOpen N.flash N.shape N.bad nand sectors before
-            → All (λ told. told ≡ false → HasFailed N.flash N.shape N.bad N.faults)
-            acknowledged.new.items }
         ensures device { IfOk result
             (λ layer. (layer_sectors layer ≡ sectors) × (N.shape layer.nand ≡ N.shape nand)) }
     {
@@ -117,7 +116,8 @@ impl<N: Nand> Durable<N> {
             × Makes acknowledged.new (update_by change.now) updates after
             × CanOpen N.flash N.shape N.bad refused.nand (layer_sectors self) after) }
         ensures failed { (updates : List Update) → IsOpenLayer N.flash N.shape N.bad self updates
-            → acknowledged.new ≡ false → HasFailed N.flash N.shape N.bad N.faults }
+            → acknowledged.new ≡ false
+            → HasFailed N.flash N.shape N.bad N.faults (update_by change.now) updates }
         ensures device { IfOk result
             (λ layer. (layer_sectors layer ≡ layer_sectors self)
             × (N.shape layer.nand ≡ N.shape self.nand)) }

@@ -572,14 +572,18 @@ pub fn failing()
         → chip_bad old.nand ≡ false ∷ false ∷ []
         → chip_bad new.nand ≡ true ∷ false ∷ [] → chip_faults old.nand fault.Failed ≡ 3
         → chip_faults new.nand fault.Failed % 2 ^ 64 ≡ 4 }
-    ensures failed_open { (has : HasFailed chip_flash chip_shape chip_bad chip_faults)
+    ensures failed_open { (u : Update) (updates : List Update)
+        (has : HasFailed chip_flash chip_shape chip_bad chip_faults u updates)
         → has.old.mounted ≡ true }
-    ensures failed_true { (has : HasFailed chip_flash chip_shape chip_bad chip_faults)
+    ensures failed_true { (u : Update) (updates : List Update)
+        (has : HasFailed chip_flash chip_shape chip_bad chip_faults u updates)
         → has.cause ≡ failure.PowerGone
         → chip_faults has.new.nand fault.PowerGone ≢ chip_faults has.old.nand fault.PowerGone }
-    ensures failed_written { (has : HasFailed chip_flash chip_shape chip_bad chip_faults)
+    ensures failed_written { (u : Update) (updates : List Update)
+        (has : HasFailed chip_flash chip_shape chip_bad chip_faults u updates)
         → has.cause ≢ failure.Written }
-    ensures failed_lost { (has : HasFailed chip_flash chip_shape chip_bad chip_faults)
+    ensures failed_lost { (u : Update) (updates : List Update)
+        (has : HasFailed chip_flash chip_shape chip_bad chip_faults u updates)
         → has.cause ≢ failure.Lost }
     ensures spare { (shape : Numbers) → shape.blocks ≡ 9
         → shape.spare_blocks ≡ 1 → shape.pages ≡ 4 → ¬ IsSpent shape [] 8 5 }
@@ -621,12 +625,20 @@ pub fn histories()
     ensures past { ¬ IsFor 8 1 (Trim (record { first = 7; count = 2 })) }
     ensures no_sectors { ¬ IsFor 8 1 (Trim (record { first = 7; count = 0 })) }
     ensures in_order { (a b : Call) (u : Update)
-        → Leads (a ∷ b ∷ []) (true ∷ true ∷ []) (u ∷ []) (update_by b ∷ update_by a ∷ u ∷ []) }
+        → Leads (λ v before. ⊥) (a ∷ b ∷ []) (true ∷ true ∷ []) (u ∷ []) (update_by b ∷ update_by a ∷ u ∷ []) }
     ensures only { (a b : Call) (updates : List Update)
-        → Leads (a ∷ b ∷ []) (true ∷ true ∷ []) [] updates
+        → Leads (λ v before. Unit {0}) (a ∷ b ∷ []) (true ∷ true ∷ []) [] updates
         → updates ≡ update_by b ∷ update_by a ∷ [] }
     ensures not_made { (a b : Call) (updates : List Update)
-        → Leads (a ∷ b ∷ []) (true ∷ []) [] updates → updates ≡ update_by a ∷ [] }
-    ensures cut { (a b : Call) → Leads (a ∷ b ∷ []) (false ∷ true ∷ []) [] (update_by b ∷ []) }
-    ensures too_many { (updates : List Update) → ¬ Leads [] (true ∷ []) [] updates }
+        → Leads (λ v before. Unit {0}) (a ∷ b ∷ []) (true ∷ []) [] updates → updates ≡ update_by a ∷ [] }
+    ensures cut { (a b : Call)
+        → Leads (λ u before. (u ≡ update_by a) × (before ≡ []))
+        (a ∷ b ∷ []) (false ∷ true ∷ []) [] (update_by b ∷ []) }
+    ensures failed { (a b : Call) (updates : List Update)
+        → ¬ Leads (λ v before. before ≡ []) (a ∷ b ∷ []) (true ∷ false ∷ []) [] updates }
+    ensures failed_update { (a b : Call) (updates : List Update)
+        → Leads (λ v before. v ≡ update_by a) (a ∷ b ∷ []) (true ∷ false ∷ []) [] updates
+        → update_by b ≡ update_by a }
+    ensures too_many { (updates : List Update)
+        → ¬ Leads (λ v before. Unit {0}) [] (true ∷ []) [] updates }
 {}

@@ -27,10 +27,9 @@ pub returns-in-Err-clause-failed : goal.returns-in-Err-clause-failed
 returns-in-Err-clause-failed g c updates is told = record {
   old = c.args.self;
   new = c.make.new.self;
-  updates = updates;
   cause = c.in-Err.field-0;
   holds = is;
+  fails = c.in-Err.ensures.fails updates is;
   true = c.in-Err.ensures.cause;
   written = λ written. c.in-Err.ensures.overwrites (ap Err written);
-  lost = (c.in-Err.ensures.fails updates is).readable;
 }
