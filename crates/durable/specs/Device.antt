@@ -45,8 +45,8 @@ abbrev pub losses_of : Core → ℕ
 losses_of core = core.losses
 
 -- how many sectors have their page in a block
-abbrev pub live_of : Core → ℕ → ℕ
-live_of core b = live_in b core.map.items
+abbrev pub live_sectors : Core → ℕ → ℕ
+live_sectors core b = live_in b core.map.items
 
 -- the page to be programmed next, if a block is open
 abbrev pub next_page_of : Core → Option PageAddr

@@ -10,7 +10,7 @@ ghost use Rattle.durable.specs.Choice.{IsNextCommand, Spends, StaysOpen, left, n
 ghost use Rattle.durable.specs.declared.found.Candidate.{Candidate as Seen};
 ghost use Rattle.durable.specs.Collecting.{AreLiveCounts, CanCollect, HasCapacity, IsFree, IsPageOn, MapsAll, live_in};
 ghost use Rattle.durable.specs.Commands.{Completes, CutLeaves, IsAllowed, is_program, updates_with};
-ghost use Rattle.durable.specs.Device.{Device, HasOwnVersions, IsReadOn, IsStampOn, IsWrittenOn, NamesOn, device_in, device_of, live_of, losses_of};
+ghost use Rattle.durable.specs.Device.{Device, HasOwnVersions, IsReadOn, IsStampOn, IsWrittenOn, NamesOn, device_in, device_of, live_sectors, losses_of};
 ghost use Rattle.durable.specs.Device.{next_number_in, next_number_of, next_page_of};
 ghost use Rattle.durable.specs.Failures.{Changes, HasVersionlessBlock, HoldsNoVersion, IsRenumbered, IsSameFlashOf, IsSwapped, swapped};
 ghost use Rattle.durable.specs.Faults.{mount_fault_text};
@@ -229,7 +229,7 @@ pub fn rooms()
         (Some (record { block = 1; page = 0 }) ∷ None ∷ []) }
     ensures live { (core : Layer) → core.map.items
         ≡ Some (record { block = 1; page = 0 }) ∷ Some (record { block = 2; page = 0 }) ∷ None
-        ∷ Some (record { block = 2; page = 3 }) ∷ [] → live_of core 2 ≡ 2 }
+        ∷ Some (record { block = 2; page = 3 }) ∷ [] → live_sectors core 2 ≡ 2 }
     ensures other_count { ¬ AreLiveCounts (0 ∷ 2 ∷ [])
         (Some (record { block = 1; page = 0 }) ∷ None ∷ []) }
     ensures free { IsFree (Some (record { block = 2; page = 0 }) ∷ None ∷ []) 1 }

@@ -11,7 +11,7 @@ use geometry::PageAddr;
 impl Core {
     ghost use Rattle.durable.specs.Flash.{Flash};
     ghost use Rattle.durable.specs.Updates.{LiesWithin, Update, array_after};
-    ghost use Rattle.durable.specs.Device.{device_of, live_of, losses_of, next_page_of, next_number_of};
+    ghost use Rattle.durable.specs.Device.{device_of, live_sectors, losses_of, next_page_of, next_number_of};
     ghost use Rattle.durable.specs.Memory.{IsMappedTo, map_entry};
     ghost use Rattle.durable.specs.Choice.{IsNextCommand, StaysOpen, Spends, left, number_after};
     ghost use Rattle.durable.specs.Promise.{IsConsistent};
@@ -36,7 +36,7 @@ impl Core {
     /// How many sectors have their page in a block that is in use. One without such sectors can be erased.
     pub fn live(&self, block: u32) -> u32
         requires { block < (device_of self.now).blocks }
-        ensures { result ≡ live_of self.now block }
+        ensures { result ≡ live_sectors self.now block }
     {
         self.counts.get(block)
     }

@@ -79,8 +79,12 @@ module _ (HasFailed : Update → List Update → Type 0) where
   )
   one_more (first ∷ calls) [] (suc n) call acknowledged before middle after leads same lt is follows failed = absurd (omega (arith, same))
   one_more (first ∷ calls) (outcome ∷ outcomes) zero call acknowledged before middle after leads same lt is follows failed = absurd (omega (arith, same))
-  one_more (first ∷ calls) (outcome ∷ outcomes) (suc n) call acknowledged before middle after leads same lt is follows failed =
-      (leads.0, leads.1, leads.2, one_more calls outcomes n call acknowledged leads.0 middle after leads.3 (omega (arith, same)) (omega (arith, lt)) is follows failed)
+  one_more (first ∷ calls) (outcome ∷ outcomes) (suc n) call acknowledged before middle after leads same lt is follows failed = (
+    leads.0,
+    leads.1,
+    leads.2,
+    one_more calls outcomes n call acknowledged leads.0 middle after leads.3 (omega (arith, same)) (omega (arith, lt)) is follows failed,
+  )
 
   -- the same where its outcome was put behind the others, and then set
   pub leads_more : (calls : List Change) (outcomes pushed : List Bool) (n : ℕ) (call : Change) (acknowledged : Bool) (before middle after : List Update)

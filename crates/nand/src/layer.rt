@@ -6,7 +6,7 @@ ghost use Rattle.geometry.specs.declared.answer.Was.TheVariants as was;
 ghost use Rattle.durable.specs.Collecting.{HasCapacity};
 ghost use Rattle.durable.specs.Updates.{LiesWithin, Update, array_after, sole};
 ghost use Rattle.durable.specs.declared.fault.MountFault.TheVariants as mount_fault;
-ghost use Rattle.durable.specs.Device.{HasOwnVersions, IsWrittenOn, device_of, live_of, losses_of};
+ghost use Rattle.durable.specs.Device.{HasOwnVersions, IsWrittenOn, device_of, live_sectors, losses_of};
 ghost use Rattle.durable.specs.Flash.{IsErased, PageContents};
 ghost use Rattle.durable.specs.Losses.{HasNoLoss};
 ghost use Rattle.nand.specs.Numbers.{chip_block as block_of, good_before, numbered};
@@ -180,7 +180,7 @@ impl<N: Nand> Durable<N> {
     pub fn live(&self, block: u32) -> Option<u32>
         ensures in_use { IfSome result
             (λ live. (c : ℕ) × (c < (device_of self.now.core).blocks)
-            × (block_of self.now.numbers.items c ≡ block) × (live ≡ live_of self.now.core c)) }
+            × (block_of self.now.numbers.items c ≡ block) × (live ≡ live_sectors self.now.core c)) }
         ensures other { result ≡ None → (c : ℕ) → c < (device_of self.now.core).blocks
             → block_of self.now.numbers.items c ≢ block }
     {

@@ -50,7 +50,8 @@ zeros_at n i = ⊎_elim (λ (lt : i < n). get_or-replicate {A = ℕ} n i 0 0 lt)
 
 -- a number that is set in its parts
 pub joined_set : (low middle high : List ℕ) (i number : ℕ) → i < length low → length middle ≡ length low → length high ≡ length low
-    → values_of (joined_at (set low i (number % 4294967296)) (set middle i (number / 4294967296 % 256)) (set high i (number / 4294967296 / 256))) (length (set low i (number % 4294967296)))
+    → values_of (joined_at (set low i (number % 4294967296)) (set middle i (number / 4294967296 % 256)) (set high i (number / 4294967296 / 256)))
+    (length (set low i (number % 4294967296)))
     ≡ set (values_of (joined_at low middle high) (length low)) i number
 joined_set low middle high i number lt same_middle same_high =
     let l = number % 4294967296 in
