@@ -8,8 +8,6 @@ use Rattle.durable.proofs.Promises.{completes_cut}
 use Rattle.nand.specs.Nand.{value_with}
 use Rattle.nand.specs.Numbers.{good_before, numbered}
 use Rattle.nand.specs.Opened.{IsOpenLayer, device_on, layer_sectors, reserve_of, update_of, used_blocks}
-use Rattle.nand.specs.Programs.{TalliesMoves}
-use Rattle.nand.specs.declared.flash.Tally.{Tally}
 use Rattle.nand.proofs.Programs.{adds_version, moves_so_far, none_new, none_spent, some_left, still_none, still_spent, tallies_once}
 use Rattle.nand.proofs.Replacing.{blank_after, blank_there, in_use, reserve_there, stopped}
 use Rattle.nand.proofs.Steps.{adds, keeps, moved, same_number, same_order}
@@ -48,28 +46,6 @@ returns-then-matches-clause-leaves g c updates h =
       blank = inv.blank updates h;
       consistent = inv.consistent updates h;
     }
-
-pub returns-then-matches-clause-tally : goal.returns-then-matches-clause-tally
-returns-then-matches-clause-tally g c =
-    let core = c.loop-self.self.core in
-    let spent = c.loop-self.invariant.spent in
-    (spent.programmed, moves_so_far spent (some_left core.blocks core.pages core.next_page core.on_device))
-
-pub returns-in-Err-clause-tally : goal.returns-in-Err-clause-tally
-returns-in-Err-clause-tally g c =
-    let core = c.loop-self.self.core in
-    let spent = c.loop-self.invariant.spent in
-    let there = c.in-Err.ensures.tally.1 in
-    let was = g.N.Nand.tally c.args.self.now.nand in
-    let pages = (device_of c.args.self.now.core).pages in
-    let moves = moves_so_far spent (some_left core.blocks core.pages core.next_page core.on_device) in
-    (ap (λ (t : Tally). t.programs) there ∙ spent.programmed, subst (λ (t : Tally). TalliesMoves was t 1 pages) (sym there) moves)
-
-pub returns-then-is_last-clause-tally : goal.returns-then-is_last-clause-tally
-returns-then-is_last-clause-tally g c =
-    let core = c.loop-self.self.core in
-    tallies_once _ _ _ c.next-command.result _ _ (sym c.is_last.ensures ∙ c.if-is_last.true) c.loop-self.invariant.spent
-    (some_left core.blocks core.pages core.next_page core.on_device) c.in_default-perform.ensures.tally.0
 
 pub returns-in-Err-clause-leaves : goal.returns-in-Err-clause-leaves
 returns-in-Err-clause-leaves g c updates h =
