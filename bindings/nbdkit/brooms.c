@@ -21,6 +21,7 @@ enum {
     TURNS_OF_A_TRIAL = 8, // each so many choices the other one is tried
     DRAINS_REMEMBERED = 8, // an average of costs is over about so many
     POOR_PART = 8, // a drain that wins back less than this part of a block is made when a write waits, and not ahead of it
+    LOOKS_OF_A_LIFE = 16, // so often a broom that isn't the first looks whether it is needed
     HEAD_START = 10, // how many nice values a broom's thread is below those of the requests
 };
 
@@ -399,9 +400,43 @@ static int drain(struct broom *broom) {
     }
 }
 
+// Whether the device has a broom too many. Each keeps blocks, so that the others find more live pages in those that are left. What it gives back it never
+// gets again, so it looks only a few times in the life of a device: one that lasts keeps its brooms.
+static int is_needless(struct broom *broom) {
+    struct brooms *all = broom->all;
+    uint64_t most = all->blocks * (uint64_t) (all->endurance - 1), part = most > 0 ? atomic_load(&all->all_erases) * LOOKS_OF_A_LIFE / most : 0;
+    if (broom->number == 0 || broom->drained_count > 0 || part == broom->looked_at)
+        return 0;
+    broom->looked_at = part;
+    return stock_is_calm(all->stock, &broom->load);
+}
+
+// Gives the broom's blocks back: they are closed, and another one collects them.
+static void leave(struct broom *broom) {
+    mintlintel_seat_close(announced(broom->seat));
+    broom->destination = broom->spare = NO_BLOCK;
+    atomic_store(&broom->room, 0);
+    stock_leave(broom->all->stock, broom->number);
+}
+
+// What a broom does in a round that it has begun. 0 if it has left.
+static int go_round(struct broom *broom, uint64_t known) {
+    int was_fruitful = erase_drained(broom, 0);
+    was_fruitful |= drain(broom);
+    was_fruitful |= erase_drained(broom, 0);
+    was_fruitful = was_fruitful || erase_drained(broom, 1);
+    if (!was_fruitful)
+        tally_add(&broom->fruitless, 1);
+    if (is_needless(broom)) {
+        leave(broom);
+        return 0;
+    }
+    stock_end_round(broom->all->stock, broom->number, known, !was_fruitful, broom->was_poor);
+    return 1;
+}
+
 static void *sweep(void *argument) {
     struct broom *broom = argument;
-    struct stock *stock = broom->all->stock;
     char name[16];
     snprintf(name, sizeof name, "broom-%" PRIu32, broom->number);
     pthread_setname_np(pthread_self(), name);
@@ -409,15 +444,8 @@ static void *sweep(void *argument) {
     // Without the right to do so the value stays.
     setpriority(PRIO_PROCESS, 0, getpriority(PRIO_PROCESS, 0) - HEAD_START);
     uint64_t known;
-    while (stock_begin_round(stock, broom->number, &known)) {
-        int was_fruitful = erase_drained(broom, 0);
-        was_fruitful |= drain(broom);
-        was_fruitful |= erase_drained(broom, 0);
-        was_fruitful = was_fruitful || erase_drained(broom, 1);
-        if (!was_fruitful)
-            tally_add(&broom->fruitless, 1);
-        stock_end_round(stock, broom->number, known, !was_fruitful, broom->was_poor);
-    }
+    while (stock_begin_round(broom->all->stock, broom->number, &known) && go_round(broom, known))
+        ;
     return NULL;
 }
 

@@ -36,6 +36,8 @@ struct broom {
     _Atomic uint32_t room;        // its pages that are left
     uint32_t spare;               // the block after that, or NO_BLOCK
     uint64_t random;              // for the sectors whose blocks are compared
+    uint64_t looked_at;           // parts of all erases that were used when it last looked whether it is needed
+    struct load load;             // and what had been waited for then
     tally copies;                 // its programs, by the library's tally of its seat
     tally renewed;                // pages that a host's seat has written anew for it
     tally drains, kept, pinned, lost, fruitless;

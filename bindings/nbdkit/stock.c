@@ -15,6 +15,7 @@ enum {
     TURN_MS = 1,        // a long request that lets others have its handle takes one again
     MAX_BATCH = 8,      // free blocks that waiting writes wait for, if brooms can win as many
     OWN_PART = 4,       // clients open blocks of their own up to this part of the spare ones
+    CALM_PART = 4,      // where writes wait for less than this part of the blocks that are opened, one broom is enough
 };
 
 static uint64_t now(void) {
@@ -64,7 +65,8 @@ int stock_begin(struct stock *stock, const struct options *options, struct mintl
     stock->fruitless_at = calloc(options->brooms + 1, sizeof *stock->fruitless_at);
     stock->poor_at = calloc(options->brooms + 1, sizeof *stock->poor_at);
     stock->works = calloc(options->brooms + 1, sizeof *stock->works);
-    if (!stock->hosts || !stock->fruitless_at || !stock->poor_at || !stock->works) {
+    stock->has_left = calloc(options->brooms + 1, sizeof *stock->has_left);
+    if (!stock->hosts || !stock->fruitless_at || !stock->poor_at || !stock->works || !stock->has_left) {
         nbdkit_error("there is no memory for the handles");
         stock_end(stock);
         return -1;
@@ -81,6 +83,7 @@ void stock_end(struct stock *stock) {
     free(stock->fruitless_at);
     free(stock->poor_at);
     free(stock->works);
+    free(stock->has_left);
     pthread_cond_destroy(&stock->for_any);
     pthread_cond_destroy(&stock->for_write);
     pthread_cond_destroy(&stock->for_broom);
@@ -150,7 +153,7 @@ static struct host *take_roomy(struct stock *stock, uint32_t own, int may_open) 
 static int is_fruitless(struct stock *stock) {
     uint64_t changes = atomic_load(&stock->changes);
     for (uint32_t broom = 0; broom < stock->broom_count; broom++)
-        if (stock->fruitless_at[broom] != changes)
+        if (stock->fruitless_at[broom] != changes && !stock->has_left[broom])
             return 0;
     return 1;
 }
@@ -313,7 +316,7 @@ static int may_rest(const struct stock *stock, uint32_t broom) {
 
 // Whether a broom has work: something may have changed since it last found nothing.
 static int is_wanted(struct stock *stock, uint32_t broom) {
-    if (stock->is_held && stock->waiting_to_write == 0)
+    if (stock->has_left[broom] || (stock->is_held && stock->waiting_to_write == 0))
         return 0;
     return stock->is_collecting && !may_rest(stock, broom) && stock->fruitless_at[broom] != atomic_load(&stock->changes);
 }
@@ -520,6 +523,26 @@ int stock_leaves_to(struct stock *stock, uint32_t broom) {
     int looks = stock->refused_at == stock->opened + 1 && (stock->works[broom] || is_wanted(stock, broom));
     pthread_mutex_unlock(&stock->mutex);
     return looks;
+}
+
+int stock_is_calm(struct stock *stock, struct load *last) {
+    pthread_mutex_lock(&stock->mutex);
+    struct load load = {.waits = stock->waits, .opened = stock->opened};
+    int is_calm = stock->low == 1 && CALM_PART * (load.waits - last->waits) < load.opened - last->opened;
+    pthread_mutex_unlock(&stock->mutex);
+    *last = load;
+    return is_calm;
+}
+
+void stock_leave(struct stock *stock, uint32_t broom) {
+    pthread_mutex_lock(&stock->mutex);
+    stock->has_left[broom] = 1;
+    stock->works[broom] = 0;
+    stock->working--;
+    stock->gained_at = now();
+    count_change(stock);
+    pthread_cond_broadcast(&stock->for_broom);
+    pthread_mutex_unlock(&stock->mutex);
 }
 
 void stock_add_free(struct stock *stock) {

@@ -73,7 +73,8 @@ struct stock {
     int is_collecting, is_stopping;
     int is_held;             // brooms work only for a write that waits
     uint32_t working;        // brooms in a round
-    uint8_t *works;          // which of them are
+    uint8_t *works;          // of each broom, whether it is in one
+    uint8_t *has_left;       // of each broom, whether it collects no more
     uint32_t refused_at;     // one more than the blocks that were opened as a write was last refused, or 0
     int is_gathering; // writes wait until some blocks are free, since one at a time wakes a thread for each page
     uint64_t waits, gave_up, miscounts;
@@ -123,6 +124,18 @@ void stock_end_round(struct stock *stock, uint32_t broom, uint64_t known, int wa
 
 // Whether no block was opened since a write was refused, and this broom is in a round, or begins one.
 int stock_leaves_to(struct stock *stock, uint32_t broom);
+
+// How often writes have waited for a block, and how many blocks were opened.
+struct load {
+    uint64_t waits;
+    uint32_t opened;
+};
+
+// Whether one broom is enough: since `last`, which becomes now, few of the blocks that were opened were waited for, and none is kept free ahead of writes.
+int stock_is_calm(struct stock *stock, struct load *last);
+
+// Ends the round of a broom that has given its blocks back, and collects no more. The others look for these.
+void stock_leave(struct stock *stock, uint32_t broom);
 
 // A block was erased and is free.
 void stock_add_free(struct stock *stock);

@@ -185,32 +185,44 @@ def by_itself(shop, name, kind, sources, *more):
     """Runs a test that is linked to these sources of the plugin, under a sanitizer."""
     program, include = shop.folder / f"{name}_{kind}", os.environ.get("INCLUDE", HERE.parent / "include")
     paths = [HERE / f"tests/{name}.c", *(shop.source() / source for source in sources)]
-    strict = ["-std=gnu11", "-D_FILE_OFFSET_BITS=64", "-O2", "-g", "-Wall", "-Wextra", "-Werror", f"-fsanitize={kind}", f"-I{include}"]
+    strict = ["-std=gnu11", "-D_FILE_OFFSET_BITS=64", "-O2", "-g", "-Wall", "-Wextra", "-Werror", f"-fsanitize={kind}", f"-I{include}",
+              f"-I{shop.source()}"]
     shop.run(["gcc", *strict, *paths, *more, "-o", program, "-pthread"])
     return shop.run([*(("setarch", "-R") if kind == "thread" else ()), program], 80).strip()
 
 
-def over_device(shop, name):
-    """A test over a device without a server, under both sanitizers."""
+def over_device(shop, name, kind, within=()):
+    """What a test over a device without a server says, under a sanitizer. It may have sources of the plugin within it."""
     library = os.environ.get("LIBRARY", HERE.parent / "out/libmintlintel.a")
-    sources = [f"{source}.c" for source in ("device", "requests", "age", "stock", "brooms", "cold", "sector_locks", "counts", "luns", "faults")]
-    told = [by_itself(shop, name, kind, sources, library, "-lm") for kind in ("address", "thread")]
+    names = ("device", "requests", "age", "stock", "brooms", "cold", "sector_locks", "counts", "luns", "faults")
+    sources = [f"{source}.c" for source in names if source not in within]
+    return by_itself(shop, name, kind, sources, library, "-lm")
+
+
+def over_device_twice(shop, name):
+    """The same under both sanitizers."""
+    told = [over_device(shop, name, kind) for kind in ("address", "thread")]
     return f"{told[0]} under AddressSanitizer, {told[1]} under ThreadSanitizer" if told[0] else "under both sanitizers"
 
 
 def refusals_at_the_end(shop):
     """Small devices of random numbers: a write is refused only if no broom could have won back a block."""
-    return over_device(shop, "to_the_end")
+    return over_device_twice(shop, "to_the_end")
+
+
+def trims_at_the_end(shop):
+    """Worn devices of several brooms, whose rounds the test deals out: after trims of a block's worth of pages a write is done again."""
+    return over_device(shop, "trims", "address", ("stock", "brooms"))
 
 
 def cold_data(shop):
     """Which block is loosened, and that no sector changes by it."""
-    return over_device(shop, "cold")
+    return over_device_twice(shop, "cold")
 
 
 def lives(shop):
     """How much of a device's life its clients have, in order at different rates and by zipf."""
-    return over_device(shop, "lives")
+    return over_device_twice(shop, "lives")
 
 
 def handles(shop):
@@ -464,7 +476,7 @@ def sanitized(shop, kind):
 # The parts that have to refuse wrong plugins.
 REFUSING = {part.__name__: part for part in (
     overlaps, handles, resting_brooms, worn_out, by_qemu_io, a_map_of_holes, mixed_sizes, there_and_back, stock_by_itself, refusals_at_the_end,
-    cold_data, lives, trims_inwards, told_by_the_protocol, worn_choices, marks_out_of_reach, faults.refused_resources, reports.statistics,
+    trims_at_the_end, cold_data, lives, trims_inwards, told_by_the_protocol, worn_choices, marks_out_of_reach, faults.refused_resources, reports.statistics,
     reports.aged_at_start, images.image_file, images.killed, images.reads_beside_writes, images.power_cuts, layers.in_layers,
     guests.files_and_a_database, failures.failing_image, times.of_commands, times.under_collection)}
 REFUSING |= {f"{kind}_sanitizer": functools.partial(sanitized, kind=kind) for kind in ("address", "thread")}
@@ -516,6 +528,7 @@ def chosen(options):
         "the page's lines": files.the_page,
         "stock by itself": stock_by_itself,
         "refusals at the end": refusals_at_the_end,
+        "trims at the end": trims_at_the_end,
         "cold data by itself": cold_data,
         "lives of devices": lives,
         "parts and whole pages at once": overlaps,

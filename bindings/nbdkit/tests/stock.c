@@ -72,6 +72,45 @@ static void a_broom_that_leaves_drains(void) {
     stock_end(&stock);
 }
 
+// One broom is enough where few of the blocks that were opened since the last look were waited for, and none is kept free ahead of writes.
+static void brooms_that_are_not_needed(void) {
+    begin(2, 2, 40, 1);
+    struct load last = {0};
+    want(!stock_is_calm(&stock, &last), "no block was opened, and one broom is enough");
+    stock.opened = 8;
+    want(stock_is_calm(&stock, &last) && last.opened == 8, "no write has waited, and a broom is needed");
+    stock.opened = 16;
+    stock.waits = 2;
+    want(!stock_is_calm(&stock, &last) && last.waits == 2, "each fourth block was waited for, and one broom is enough");
+    stock.opened = 21;
+    stock.waits = 3;
+    want(stock_is_calm(&stock, &last), "waits before the last look let a broom stay");
+    stock.opened = 100;
+    stock.low = 2;
+    want(!stock_is_calm(&stock, &last), "blocks are kept free ahead of writes, and one broom is enough");
+    stock_end(&stock);
+}
+
+// Nobody waits for what a broom finds that has left, and the others look for the blocks that it gave back.
+static void a_broom_that_leaves(void) {
+    begin(2, 2, 6, 1);
+    uint64_t known;
+    while (stock.free_count > 0 || stock.open_count > 0)
+        write_page();
+    find_nothing(0);
+    uint32_t working = stock.working;
+    want(stock_begin_round(&stock, 1, &known), "a broom has to stop");
+    stock_leave(&stock, 1);
+    want(stock.working == working, "a broom that has left is in a round");
+    want(atomic_load(&stock.changes) > known, "a broom has left, and no other one looks for what it gave back");
+    find_nothing(0);
+    uint64_t waits = stock.waits;
+    want(write_page().is_last && stock.waits == waits, "a write waits for a broom that has left");
+    stock_give_changed(&stock, stock_take(&stock));
+    want(!stock_leaves_to(&stock, 1), "a broom leaves drains to one that has left");
+    stock_end(&stock);
+}
+
 // The marks fall with the spare blocks, and not to 0.
 static void marks_of_a_device_that_wears_out(void) {
     begin(2, 1, 40, 8);
@@ -188,7 +227,8 @@ static void many_requests(void) {
 int main(void) {
     static void (*const tests[])(void) = {
         blocks_of_brooms, a_block_that_is_counted_late, a_search_that_comes_too_late, a_block_that_comes_late, marks_of_a_device_that_wears_out,
-        a_broom_that_gains_little, a_long_request, a_handle_that_is_kept, a_broom_that_leaves_drains, many_requests,
+        a_broom_that_gains_little, a_long_request, a_handle_that_is_kept, a_broom_that_leaves_drains, brooms_that_are_not_needed, a_broom_that_leaves,
+        many_requests,
     };
     alarm(10 * PATIENCE_S);
     for (size_t i = 0; i < sizeof tests / sizeof *tests && failures == 0; i++)

@@ -1,0 +1,98 @@
+// trims [DEVICES]: worn devices of several brooms, in one thread: the test deals out the rounds, at random while a client writes, and after a refusal
+// to the broom with the least room first. While a tenth of the blocks or more can be erased, sectors of these are trimmed one by one: before these are
+// more than a block has pages, a write is done again, since the broom with the most room does all drains. Nothing depends on time or chance.
+#include <brooms.c>
+#define fail fail_test
+#include <stock.c>
+
+#include "over_worn_device.h"
+
+enum { PAGE = 8, MOST_BROOMS = 3, MOST_PAGES = 8, MOST_BLOCKS = 40, DEVICES = 400 };
+
+static unsigned tried, trimmed_devices;
+
+static void choose_device(uint32_t *random) {
+    struct options *o = &device.options;
+    *o = (struct options){.page = PAGE, .luns = 1, .hosts = 1, .wait = 1000000};
+    o->brooms = 2 + draw(random, MOST_BROOMS - 1);
+    o->pages = 2 + draw(random, MOST_PAGES - 1);
+    uint32_t kept = o->hosts + 2 * o->brooms;
+    o->blocks = kept + 8 + draw(random, MOST_BLOCKS - kept - 7);
+    o->spare_blocks = 1 + draw(random, 4);
+    o->sectors = (o->blocks - kept - o->spare_blocks) * o->pages + 1;
+    o->endurance = 2 + draw(random, 19);
+    o->low = o->high = 1;
+    snprintf(device_name, sizeof device_name, "device %u (%u sectors, %u blocks of %u pages, endurance %u, %u brooms): ", tried, o->sectors, o->blocks,
+             o->pages, o->endurance, o->brooms);
+}
+
+static void go_round_of(uint32_t broom) {
+    uint64_t known;
+    stock_begin_round(&device.stock, broom, &known);
+    go_round(&device.brooms.brooms[broom], known);
+}
+
+// Rounds until a block is free or no broom finds anything, as if a write waited. Of the brooms that have work it is one at random, or the one with the
+// least room.
+static void deal_rounds(uint32_t *random) {
+    struct stock *stock = &device.stock;
+    stock->waiting_to_write = stock->starving = 1;
+    while (lacks_block(stock) && stock->open_count == 0 && !is_fruitless(stock)) {
+        uint32_t next = NO_BLOCK, first = random ? draw(random, stock->broom_count) : 0;
+        for (uint32_t i = 0; i < stock->broom_count; i++) {
+            uint32_t broom = (first + i) % stock->broom_count;
+            if (is_wanted(stock, broom) && (next == NO_BLOCK || (!random && device.brooms.brooms[broom].room < device.brooms.brooms[next].room)))
+                next = broom;
+        }
+        go_round_of(next);
+    }
+    stock->waiting_to_write = stock->starving = 0;
+}
+
+static int is_written(uint32_t sector, uint32_t *random) {
+    static const uint8_t page[PAGE];
+    deal_rounds(random);
+    device.stock.waits++; // a client that waits for each block, so that no broom leaves
+    return device_write(&device, 0, page, PAGE, sector * (uint64_t) PAGE) == 0;
+}
+
+// A skewed draw, so that some blocks stay live and others die.
+static void write_until_refused(uint32_t *random) {
+    uint32_t skew = draw(random, 3), sector, most = 0;
+    do {
+        sector = most < device.options.sectors ? most++ : draw(random, device.options.sectors);
+        for (uint32_t i = 0; i < skew && most == device.options.sectors; i++)
+            sector = draw(random, sector + 1);
+    } while (is_written(sector, random));
+}
+
+static void trim_one_by_one(void) {
+    uint32_t trimmed = 0, sector, pages = device.options.pages;
+    while (trimmed < pages && can_a_tenth_be_erased() && (sector = find_to_trim()) < device.options.sectors) {
+        device_trim(&device, PAGE, sector * (uint64_t) PAGE);
+        trimmed++;
+        if (is_written(sector, NULL)) {
+            trimmed_devices++;
+            return;
+        }
+    }
+    if (trimmed == pages)
+        fail("a tenth of the blocks can be erased, and %u of their pages were trimmed, but a write is refused", trimmed);
+}
+
+int main(int count, char **words) {
+    unsigned devices = count > 1 ? (unsigned) atoi(words[1]) : DEVICES;
+    uint32_t random = 1;
+    for (tried = 0; tried < devices && failures < 10; tried++) {
+        choose_device(&random);
+        if (device_open(&device) == -1)
+            abort();
+        write_until_refused(&random);
+        trim_one_by_one();
+        device_close(&device);
+    }
+    if (trimmed_devices == 0)
+        fail("no device was left with a tenth of its blocks");
+    printf("%u devices, and %u took writes again after trims\n", tried, trimmed_devices);
+    return failures > 0;
+}
