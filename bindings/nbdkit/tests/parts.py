@@ -173,11 +173,11 @@ def overlaps(shop):
 
 
 def stock_by_itself(shop):
-    """The counts of free blocks, and which thread waits for which, without a library. In the second program no write looks again by itself, so a lost
-    wake-up is seen."""
+    """The counts of free blocks, and which thread waits for which, without a library. In the second program no write looks again by itself, and another
+    thread comes between any two steps, so each lost wake-up is seen."""
     for kind in ("address", "thread"):
         by_itself(shop, "stock", kind, ["stock.c"])
-        by_itself(shop, "waits", kind, ["stock.c"], "-DLOOK_AGAIN_MS=3600000")
+        by_itself(shop, "waits", kind, ["stock.c"], "-DLOOK_AGAIN_MS=3600000", "-include", HERE / "tests/steps.h")
     return "under both sanitizers"
 
 

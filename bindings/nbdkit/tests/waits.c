@@ -1,11 +1,12 @@
-// Whoever waits has to be woken by what lets it go on, and not by a look some time later: each way in which a wait ends, and the moments in
-// which a request begins to wait. It is built with a LOOK_AGAIN_MS of an hour. It prints what failed, and ends with the number of failures.
+// Whoever waits has to be woken by what lets it go on, and not by a look some time later: each way in which a wait ends, also if this comes between any
+// two steps of who begins to wait, or the other way round. It is built with a LOOK_AGAIN_MS of an hour, and with steps.h before all else. It prints what
+// failed, and ends with the number of failures.
 #define _GNU_SOURCE
 #include "over_stock.h"
 
 #include <sched.h>
 
-enum { PATIENCE_S = 15, RACES_MS = 1500, FEWEST_ROUNDS = 100 };
+enum { PATIENCE_S = 15 };
 
 static struct host *in_use;
 static struct attempt its_attempt;
@@ -214,71 +215,104 @@ static void each_way(void) {
     }
 }
 
-// ---- The moments in which a request begins to wait.
+// ---- The moments between two steps. One of two threads, the one that waits or the other, is stopped before a step, until the other thread has ended or
+// waits itself. Each step is such a moment in turn, so nothing depends on how fast the threads are.
 
-static _Atomic uint32_t had, done; // rounds in which the first has the only handle, and that the second has ended
-static _Atomic int is_over;
+enum role { NONE, STOPPED, OTHER };
 
-static void spin(uint32_t steps) {
-    for (uint32_t i = 0; i < steps; i++)
-        __asm__ volatile("" ::: "memory");
+static _Thread_local enum role role;
+static _Thread_local uint32_t steps;
+static const struct way *way;
+static uint32_t stop_at;      // the step of the stopped one
+static int stops_who_waits;   // whether that is the one that waits
+static _Atomic int may_begin; // the other one
+static _Atomic int has_gone_on, was_stopped;
+
+void before_step(void) {
+    if (role != STOPPED || ++steps != stop_at)
+        return;
+    atomic_store_explicit(&was_stopped, 1, memory_order_seq_cst);
+    atomic_store_explicit(&may_begin, 1, memory_order_seq_cst);
+    while (!atomic_load_explicit(&has_gone_on, memory_order_seq_cst))
+        sched_yield();
 }
 
-static void wait_for(_Atomic uint32_t *round, uint32_t wanted) {
-    for (uint32_t i = 1; atomic_load(round) < wanted; i++)
-        if (i % 256 == 0)
-            sched_yield();
+void before_wait(void) {
+    if (role != NONE)
+        atomic_store_explicit(role == OTHER ? &has_gone_on : &may_begin, 1, memory_order_seq_cst);
 }
 
-// In each round it has the only handle, and gives it back as the second asks for it.
-static void *give_over_and_over(void *unused) {
-    (void) unused;
-    double end = seconds() + RACES_MS / 1e3;
-    for (uint32_t round = 1; !atomic_load(&is_over); round++) {
-        struct attempt attempt = {0};
-        struct host *host = round % 2 ? stock_take(&stock) : stock_take_to_write(&stock, &attempt);
-        atomic_store(&is_over, seconds() > end && round > FEWEST_ROUNDS);
-        atomic_store(&had, round);
-        spin(round * 7919 % 601);
-        if (round % 2 == 0)
-            stock_give_written(&stock, host, &attempt);
-        else if (round % 4 == 1)
-            stock_give(&stock, host);
-        else
-            stock_give_changed(&stock, host);
-        wait_for(&done, round);
-    }
+// A pause of a few milliseconds ends by itself, and steps come behind it.
+void before_timed_wait(const struct timespec *end) {
+    struct timespec now;
+    clock_gettime(CLOCK_MONOTONIC, &now);
+    if (end->tv_sec > now.tv_sec + PATIENCE_S)
+        before_wait();
+}
+
+int lock_in_steps(pthread_mutex_t *mutex) {
+    before_step();
+    if (pthread_mutex_trylock(mutex) == 0)
+        return 0;
+    before_wait();
+    return (pthread_mutex_lock)(mutex);
+}
+
+// The part of one of the two threads.
+static void *run(int waits) {
+    role = waits == stops_who_waits ? STOPPED : OTHER;
+    while (role == OTHER && !atomic_load_explicit(&may_begin, memory_order_seq_cst))
+        sched_yield();
+    if (waits)
+        way->waits(NULL);
+    else
+        way->event();
+    before_wait(); // it has ended, so the other one doesn't wait for it
     return NULL;
 }
 
-static void *ask_over_and_over(void *unused) {
-    for (uint32_t round = 1;; round++) {
-        wait_for(&had, round);
-        int is_last = atomic_load(&is_over);
-        spin(round * 104729 % 311);
-        if (round % 8 < 4)
-            write_one(unused);
-        else
-            read_one(unused);
-        atomic_store(&done, round);
-        if (is_last)
-            return NULL;
-    }
+static void *run_who_waits(void *unused) {
+    (void) unused;
+    return run(1);
 }
 
-static void races(void) {
-    begin(1, 1, 100000000, 1);
-    pthread_t first, second;
-    start(&first, give_over_and_over);
-    start(&second, ask_over_and_over);
-    has_to_end(second, "a request begins to wait while the handle is given back");
-    has_to_end(first, "the other one");
+static void *run_event(void *unused) {
+    (void) unused;
+    return run(0);
+}
+
+// Whether there was such a step.
+static int try_moment(void) {
+    pthread_t who_waits, other;
+    char text[200];
+    snprintf(text, sizeof text, "between two steps, by this: %s", way->text);
+    way->before();
+    may_begin = has_gone_on = was_stopped = 0;
+    start(&who_waits, run_who_waits);
+    start(&other, run_event);
+    has_to_end(who_waits, text);
+    has_to_end(other, text);
     stock_end(&stock);
+    return was_stopped;
+}
+
+static void moments(void) {
+    uint32_t count = 0;
+    for (size_t i = 0; i < 2 * (sizeof ways / sizeof *ways); i++) {
+        way = &ways[i / 2];
+        stops_who_waits = i % 2 == 0;
+        if (way->event == keep_written || way->event == keep_trimmed)
+            continue; // a handle is kept until the next page if nobody waits yet
+        for (stop_at = 1; try_moment(); stop_at++)
+            count++;
+        want(stop_at > 1, way->text);
+    }
+    printf("%u moments\n", count);
 }
 
 int main(void) {
-    alarm(60 + RACES_MS / 1000);
+    alarm(60);
     each_way();
-    races();
+    moments();
     return failures;
 }
