@@ -215,6 +215,16 @@ static int set_of_image(struct options *options, const char *key, const char *va
     return -1;
 }
 
+static int set_named_file(struct options *options, const char *key, const char *value) {
+    if (strcmp(key, "stats") == 0)
+        return set_file(&options->stats, value);
+    if (strcmp(key, "image") == 0)
+        return set_file(&options->image, value);
+    if (strcmp(key, "part") == 0)
+        return set_part(options, value);
+    return set_of_image(options, key, value);
+}
+
 int options_set(struct options *options, const char *key, const char *value) {
     const struct {
         const char *key;
@@ -248,15 +258,9 @@ int options_set(struct options *options, const char *key, const char *value) {
         return set_worn(options, value);
     if (strcmp(key, "seed") == 0)
         return nbdkit_parse_uint64_t(key, value, &options->seed);
-    if (strcmp(key, "stats") == 0)
-        return set_file(&options->stats, value);
-    if (strcmp(key, "image") == 0)
-        return set_file(&options->image, value);
-    if (strcmp(key, "part") == 0)
-        return set_part(options, value);
     if (strcmp(key, "unreadable") == 0)
         return numbers_set(&options->unreadable, key, value);
-    return set_of_image(options, key, value);
+    return set_named_file(options, key, value);
 }
 
 static int refuse_size(int64_t size, int64_t page, int64_t most) {

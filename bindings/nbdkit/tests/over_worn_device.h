@@ -1,8 +1,10 @@
-// What the tests of worn devices share: draws, and which sectors are trimmed.
+// What the tests of worn devices share: draws, which sectors are trimmed, and whether a broom could have won back a block.
 #ifndef TESTS_OVER_WORN_DEVICE_H
 #define TESTS_OVER_WORN_DEVICE_H
 
 #include "over_device.h"
+
+enum { MOST_BLOCKS = 30 };
 
 static uint32_t draw(uint32_t *random, uint32_t count) {
     *random = *random * 1664525 + 1013904223;
@@ -30,6 +32,41 @@ static uint32_t find_to_trim(void) {
         sector++;
     stock_give(&device.stock, host);
     return sector;
+}
+
+static void count_live(uint32_t *live) {
+    struct mintlintel_seat *host = &device.host_seats[0];
+    memset(live, 0, MOST_BLOCKS * sizeof *live);
+    for (uint32_t sector = 0; sector < device.options.sectors; sector++) {
+        struct mintlintel_page page;
+        if (mintlintel_host_hold(host, sector) != MINTLINTEL_WRITTEN)
+            continue;
+        mintlintel_host_held(host, &page);
+        mintlintel_host_release(host);
+        live[page.block]++;
+    }
+}
+
+static void look_for_more(void) {
+    uint32_t live[MOST_BLOCKS];
+    if (device.options.brooms == 0)
+        return;
+    count_live(live);
+    if (device.stock.open_count > 0)
+        fail("a write was refused, and %u handles have room", device.stock.open_count);
+    for (uint32_t block = 0; block < device.options.blocks; block++) {
+        struct mintlintel_state state;
+        mintlintel_broom_block(&device.broom_seats[0], block, &state);
+        int can_be_erased = state.erases + 1 < device.options.endurance;
+        if (state.phase == MINTLINTEL_PHASE_FREE)
+            fail("a write was refused, and block %u is free", block);
+        else if (can_be_erased && state.phase == MINTLINTEL_PHASE_CLOSED && live[block] < device.options.pages)
+            fail("a write was refused, and block %u can be won back: %u of its pages are live, after %u erases", block, live[block], state.erases);
+        else if (can_be_erased && state.phase > MINTLINTEL_PHASE_CLOSED)
+            fail("a write was refused, and block %u is being won back (phase %u)", block, state.phase);
+        if (device.brooms.erases[block] != state.erases && state.phase != MINTLINTEL_PHASE_RETIRED)
+            fail("block %u was erased %u times, and %u are counted", block, state.erases, device.brooms.erases[block]);
+    }
 }
 
 #endif

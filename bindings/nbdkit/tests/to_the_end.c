@@ -8,7 +8,7 @@
 
 #include "over_worn_device.h"
 
-enum { LONG_PAGE = 4096, MOST_BLOCKS = 30, MOST_PAGES = 8, MOST_CLIENTS = 4, MOST_OF_A_REQUEST = 4, MOST_REFUSALS = 12, PATIENCE_S = 240, DEVICES = 200 };
+enum { LONG_PAGE = 4096, MOST_PAGES = 8, MOST_CLIENTS = 4, MOST_OF_A_REQUEST = 4, MOST_REFUSALS = 12, PATIENCE_S = 240, DEVICES = 200 };
 
 static unsigned tried, taken_again, with_one_that_left;
 static _Atomic int has_ended;
@@ -100,41 +100,6 @@ static void look_for_writes_after_trims(void) {
 }
 
 // ---- What is left.
-
-static void count_live(uint32_t *live) {
-    struct mintlintel_seat *host = &device.host_seats[0];
-    memset(live, 0, MOST_BLOCKS * sizeof *live);
-    for (uint32_t sector = 0; sector < device.options.sectors; sector++) {
-        struct mintlintel_page page;
-        if (mintlintel_host_hold(host, sector) != MINTLINTEL_WRITTEN)
-            continue;
-        mintlintel_host_held(host, &page);
-        mintlintel_host_release(host);
-        live[page.block]++;
-    }
-}
-
-static void look_for_more(void) {
-    uint32_t live[MOST_BLOCKS];
-    if (device.options.brooms == 0)
-        return;
-    count_live(live);
-    if (device.stock.open_count > 0)
-        fail("a write was refused, and %u handles have room", device.stock.open_count);
-    for (uint32_t block = 0; block < device.options.blocks; block++) {
-        struct mintlintel_state state;
-        mintlintel_broom_block(&device.broom_seats[0], block, &state);
-        int can_be_erased = state.erases + 1 < device.options.endurance;
-        if (state.phase == MINTLINTEL_PHASE_FREE)
-            fail("a write was refused, and block %u is free", block);
-        else if (can_be_erased && state.phase == MINTLINTEL_PHASE_CLOSED && live[block] < device.options.pages)
-            fail("a write was refused, and block %u can be won back: %u of its pages are live, after %u erases", block, live[block], state.erases);
-        else if (can_be_erased && state.phase > MINTLINTEL_PHASE_CLOSED)
-            fail("a write was refused, and block %u is being won back (phase %u)", block, state.phase);
-        if (device.brooms.erases[block] != state.erases && state.phase != MINTLINTEL_PHASE_RETIRED)
-            fail("block %u was erased %u times, and %u are counted", block, state.erases, device.brooms.erases[block]);
-    }
-}
 
 // What is counted is what the blocks have: each programmed page is a client's or a copy, also one whose sector was written meanwhile, and each erase
 // is one that the library has counted. The pages of a retired block were written before its last erase. A broom that has left gave two blocks back,

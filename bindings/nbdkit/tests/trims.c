@@ -1,15 +1,17 @@
 // trims [DEVICES]: worn devices of several brooms, in one thread: the test deals out the rounds, at random while a client writes, and after a refusal
-// to the broom with the least room first. While a tenth of the blocks or more can be erased, sectors of these are trimmed one by one: before these are
-// more than a block has pages, a write is done again, since the broom with the most room does all drains. Nothing depends on time or chance.
+// to the broom with the least room first. A write is refused only if no broom could win back a block. While a tenth of the blocks or more can be erased,
+// sectors of these are trimmed one by one: before these are more than a block has pages, a write is done again, since the broom with the most room does
+// all drains. On every second device no write waits, so that all brooms but one may leave. Nothing depends on time or chance.
 #include <brooms.c>
 #define fail fail_test
 #include <stock.c>
 
 #include "over_worn_device.h"
 
-enum { PAGE = 8, MOST_BROOMS = 3, MOST_PAGES = 8, MOST_BLOCKS = 40, DEVICES = 400 };
+enum { PAGE = 8, MOST_BROOMS = 3, MOST_PAGES = 8, DEVICES = 400 };
 
-static unsigned tried, trimmed_devices;
+static unsigned tried, taken_again, with_one_that_left;
+static int waits_for_blocks;
 
 static void choose_device(uint32_t *random) {
     struct options *o = &device.options;
@@ -52,7 +54,7 @@ static void deal_rounds(uint32_t *random) {
 static int is_written(uint32_t sector, uint32_t *random) {
     static const uint8_t page[PAGE];
     deal_rounds(random);
-    device.stock.waits++; // a client that waits for each block, so that no broom leaves
+    device.stock.waits += (uint64_t) waits_for_blocks;
     return device_write(&device, 0, page, PAGE, sector * (uint64_t) PAGE) == 0;
 }
 
@@ -72,7 +74,7 @@ static void trim_one_by_one(void) {
         device_trim(&device, PAGE, sector * (uint64_t) PAGE);
         trimmed++;
         if (is_written(sector, NULL)) {
-            trimmed_devices++;
+            taken_again++;
             return;
         }
     }
@@ -87,12 +89,15 @@ int main(int count, char **words) {
         choose_device(&random);
         if (device_open(&device) == -1)
             abort();
+        waits_for_blocks = tried % 2 == 0;
         write_until_refused(&random);
+        look_for_more();
         trim_one_by_one();
+        with_one_that_left += device.stock.has_left[1];
         device_close(&device);
     }
-    if (trimmed_devices == 0)
-        fail("no device was left with a tenth of its blocks");
-    printf("%u devices, and %u took writes again after trims\n", tried, trimmed_devices);
+    if (taken_again == 0 || with_one_that_left == 0)
+        fail("no device was left with a tenth of its blocks, or no broom has left");
+    printf("%u devices, %u took writes again after trims, and of %u a broom has left\n", tried, taken_again, with_one_that_left);
     return failures > 0;
 }
