@@ -527,7 +527,7 @@ int stock_leaves_to(struct stock *stock, uint32_t broom) {
 
 int stock_is_calm(struct stock *stock, struct load *last) {
     pthread_mutex_lock(&stock->mutex);
-    struct load load = {.waits = stock->waits, .opened = stock->opened};
+    struct load load = {.waits = stock->waits + stock->gave_up, .opened = stock->opened};
     int is_calm = stock->low == 1 && CALM_PART * (load.waits - last->waits) < load.opened - last->opened;
     pthread_mutex_unlock(&stock->mutex);
     *last = load;

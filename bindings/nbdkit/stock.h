@@ -125,7 +125,7 @@ void stock_end_round(struct stock *stock, uint32_t broom, uint64_t known, int wa
 // Whether no block was opened since a write was refused, and this broom is in a round, or begins one.
 int stock_leaves_to(struct stock *stock, uint32_t broom);
 
-// How often writes have waited for a block, and how many blocks were opened.
+// How often writes have waited for a block or were refused, and how many blocks were opened.
 struct load {
     uint64_t waits;
     uint32_t opened;

@@ -176,15 +176,20 @@ def stock_by_itself(shop):
     """The counts of free blocks, and which thread waits for which, without a library. In the second program no write looks again by itself, and another
     thread comes between any two steps, so each lost wake-up is seen."""
     for kind in ("address", "thread"):
-        by_itself(shop, "stock", kind, ["stock.c"])
-        by_itself(shop, "waits", kind, ["stock.c"], "-DLOOK_AGAIN_MS=3600000", "-include", HERE / "tests/steps.h")
+        by_itself(shop, "stock", kind, [built(shop, kind, "stock")])
+        by_itself(shop, "waits", kind, [shop.source() / "stock.c"], "-DLOOK_AGAIN_MS=3600000", "-include", HERE / "tests/steps.h")
     return "under both sanitizers"
 
 
-def by_itself(shop, name, kind, sources, *more):
-    """Runs a test that is linked to these sources of the plugin, under a sanitizer."""
+def built(shop, kind, name):
+    """What was built of a source under a sanitizer; of a wrong plugin it is the source."""
+    return shop.source() / f"{name}.c" if shop.wrong else HERE / f"out/{kind}/{name}.o"
+
+
+def by_itself(shop, name, kind, parts, *more):
+    """Runs a test that is linked to these parts of the plugin, under a sanitizer."""
     program, include = shop.folder / f"{name}_{kind}", os.environ.get("INCLUDE", HERE.parent / "include")
-    paths = [HERE / f"tests/{name}.c", *(shop.source() / source for source in sources)]
+    paths = [HERE / f"tests/{name}.c", *parts]
     strict = ["-std=gnu11", "-D_FILE_OFFSET_BITS=64", "-O2", "-g", "-Wall", "-Wextra", "-Werror", f"-fsanitize={kind}", f"-I{include}",
               f"-I{shop.source()}"]
     shop.run(["gcc", *strict, *paths, *more, "-o", program, "-pthread"])
@@ -195,8 +200,7 @@ def over_device(shop, name, kind, within=()):
     """What a test over a device without a server says, under a sanitizer. It may have sources of the plugin within it."""
     library = os.environ.get("LIBRARY", HERE.parent / "out/libmintlintel.a")
     names = ("device", "requests", "age", "stock", "brooms", "cold", "sector_locks", "counts", "luns", "faults")
-    sources = [f"{source}.c" for source in names if source not in within]
-    return by_itself(shop, name, kind, sources, library, "-lm")
+    return by_itself(shop, name, kind, [built(shop, kind, it) for it in names if it not in within], library, "-lm")
 
 
 def over_device_twice(shop, name):

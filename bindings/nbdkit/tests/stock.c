@@ -85,6 +85,9 @@ static void brooms_that_are_not_needed(void) {
     stock.opened = 21;
     stock.waits = 3;
     want(stock_is_calm(&stock, &last), "waits before the last look let a broom stay");
+    stock.opened = 24;
+    stock.gave_up = 1;
+    want(!stock_is_calm(&stock, &last), "writes are refused that may not wait, and one broom is enough");
     stock.opened = 100;
     stock.low = 2;
     want(!stock_is_calm(&stock, &last), "blocks are kept free ahead of writes, and one broom is enough");
