@@ -407,7 +407,7 @@ def marks_out_of_reach(shop):
         fio(shop, server, "few", rw="randwrite", bs="4k", size="9600k", iodepth=4, io_size="1200k", norandommap=1)
         server.settle()
         copies = server.stop().copies
-        want(0 < copies < 1500, f"{copies} pages were copied ahead of 300 writes")
+        want(0 < copies < 2000, f"{copies} pages were copied ahead of 300 writes")
         told.append(f"{copies} pages copied ahead by {brooms} broom{'s' * (brooms > 1)}")
     return ", ".join(told)
 
@@ -494,7 +494,7 @@ ALONE = {"brooms that rest", "marks out of reach", "a device that wears out", "a
 
 
 # Those that take longest, so that they begin first.
-LONG = ("a guest's files and database", "an image, and power cuts", "an image, and kill -9")
+LONG = ("a guest's files and database", "an image, and power cuts", "an image, and kill -9", "an image in layers")
 
 
 def failed(shop, named):
