@@ -117,6 +117,14 @@ def help_and_page(shop):
     return ""
 
 
+def whole_edits():
+    """The edits of the wrong plugins, each of which can be made."""
+    edits = wrong_edits.edits(HERE / "wrong.edits")
+    for edit in edits:
+        edit.changed(HERE)
+    return edits
+
+
 def wrong_plugin(shop, edit):
     """The plugin with the changes of an edit, in a folder of its own, with the objects of the plugin itself that are as they would be."""
     kind = edit.part.split("_")[-2] if edit.part.endswith("_sanitizer") else ""
@@ -136,7 +144,7 @@ def wrong_plugin(shop, edit):
 def refusal(shop, edit, parts):
     """What a part says against a wrong plugin, in one line; None where it passes. A plugin that can't be built fails the check itself."""
     shop.end_kept()
-    shop.wrong = wrong_plugin(shop, edit)
+    shop.wrong, shop.changed = wrong_plugin(shop, edit), edit.file
     try:
         parts[edit.part](shop)
         return None
@@ -145,7 +153,7 @@ def refusal(shop, edit, parts):
     finally:
         shop.end_all()
         shop.end_kept()
-        shop.wrong = None
+        shop.wrong, shop.changed = None, ""
 
 
 def is_refused(shop, edit, parts):
@@ -160,7 +168,7 @@ def is_refused(shop, edit, parts):
 def wrong_plugins(shop, parts, alone):
     """Each wrong plugin is refused by the part that it names, which the plugin itself has passed, and for the reason that it names: a
     client that is out of time, or a test that can't be built, refuses nothing unless that is the reason."""
-    edits = wrong_edits.edits(HERE / "wrong.edits")
+    edits = whole_edits()
     shop.options.long = False
     beside = sorted((edit for edit in edits if edit.part not in alone), key=lambda edit: "didn't end" not in edit.why)  # a deadlock takes longest
     failed = [edit.name for edit, is_so in zip(beside, side_by_side(shop, beside, lambda one, edit: is_refused(one, edit, parts))) if not is_so]

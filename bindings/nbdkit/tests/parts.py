@@ -22,7 +22,8 @@ UNALIGNED = {"bsrange": "512-20k", "bs_unaligned": 1, "blockalign": 512, "serial
 
 
 def build(shop):
-    """The plugin, also under the sanitizers, its page, and the clients."""
+    """The plugin, also under the sanitizers, its page, and the clients. An edit of a wrong plugin that can't be made ends the check here."""
+    faults.whole_edits()
     shop.run(["make", "-s", "-C", HERE], 120)
     for kind in ("address", "thread"):
         shop.run(["make", "-s", "-C", HERE, f"OUT=out/{kind}", f"CFLAGS={sanitized_by(kind)}", f"out/{kind}/nbdkit-mintlintel-plugin.so"], 120)
@@ -182,8 +183,9 @@ def stock_by_itself(shop):
 
 
 def built(shop, kind, name):
-    """What was built of a source under a sanitizer; of a wrong plugin it is the source."""
-    return shop.source() / f"{name}.c" if shop.wrong else HERE / f"out/{kind}/{name}.o"
+    """What was built of a source under a sanitizer. Of a wrong plugin it is the source where that, or a header, was changed."""
+    is_changed = shop.changed == f"{name}.c" or shop.changed.endswith(".h")
+    return shop.source() / f"{name}.c" if is_changed else HERE / f"out/{kind}/{name}.o"
 
 
 def by_itself(shop, name, kind, parts, *more):

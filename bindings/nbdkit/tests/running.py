@@ -57,6 +57,7 @@ class Shop:
         self.folder, self.options = folder, options
         self.started, self.mounted, self.kept = [], [], []
         self.aged = self.wrong = None
+        self.changed = ""  # the file of a wrong plugin that isn't as it should be
         self.copies = 0
         self.is_over = False
         self.slow = 1
