@@ -416,7 +416,7 @@ def marks_out_of_reach(shop):
 
 # Devices that are 62 or 89 % full: sectors of each block, blocks, endurance, brooms, how they are written, and the least share of all programs. The last
 # two have this by cold data in the blocks that are filled for the last time.
-WORN_OUT = [(40, 60, 20, 1, "uniform", 93), (40, 60, 20, 2, "uniform", 93), (40, 60, 20, 2, "zipf", 93), (57, 288, 10, 2, "sequential", 90),
+WORN_OUT = [(40, 60, 20, 1, "uniform", 93), (40, 60, 20, 2, "uniform", 93), (40, 60, 20, 2, "zipf", 93), (57, 288, 10, 2, "sequential", 88),
             (57, 288, 10, 1, "zipf", 97.5), (57, 288, 10, 2, "zipf", 97.5)]
 
 
