@@ -18,7 +18,6 @@ GROUPS = {
 WITHOUT = {
     "counts_of of ftl_one": "a field",
     "items_of of rounds": "a field",
-    "answers_kept of workers": "a field",
     "state_of of exports": "another name",
     "kept of handles": "a formula of what a value owns: what makes such a value refuses a stronger one, and what ends it a weaker one",
 }

@@ -11,8 +11,8 @@ use std::io::Write;
 use streams::Watched;
 use workers::{CollectorEnd, Tally};
 
-/// Room for a log, if one is wanted.
-pub fn log_room(
+// Room for a log, if one is wanted.
+pub(crate) fn log_room(
     alloc: Global,
     geometry: &Geometry,
     wanted: bool,
@@ -26,8 +26,8 @@ pub fn log_room(
     Ok(Some(Lines::new(alloc, geometry)?))
 }
 
-/// Writes what each broom has done, if it is wanted: then there is room for it.
-pub fn tell_brooms_if<V: Write>(
+// Writes what each broom has done, if it is wanted: then there is room for it.
+pub(crate) fn tell_brooms_if<V: Write>(
     lines: Option<Lines>,
     brooms: &[CollectorEnd],
     file: &mut Watched<V>,

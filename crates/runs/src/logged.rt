@@ -13,9 +13,9 @@ use std::io::Write;
 use streams::Watched;
 use trace::Command;
 
-/// Does a command, adds its answer line to those that wait if it is wanted, and records in the log the collection that it made.
+// Does a command, adds its answer line to those that wait if it is wanted, and records in the log the collection that it made.
 #[inline(always)]
-pub fn answer_logged<V: Write>(
+pub(crate) fn answer_logged<V: Write>(
     ftl: &mut OneFtl,
     desk: &mut Desk,
     command: &Command<'_>,

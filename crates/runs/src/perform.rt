@@ -10,8 +10,8 @@ use answers::Reply;
 use ftl_one::{NewOneFault, OneFtl, WornOut};
 use trace::{Command, Op};
 
-/// Does a command other than a read. The buffer has the size of a page, and is overwritten.
-pub fn perform(ftl: &mut OneFtl, command: &Command<'_>, page: &mut [u8]) -> Reply
+// Does a command other than a read. The buffer has the size of a page, and is overwritten.
+pub(crate) fn perform(ftl: &mut OneFtl, command: &Command<'_>, page: &mut [u8]) -> Reply
     requires playable { IsPlayable (geometry_of ftl.old) command.now }
     requires no_read { command.now.op ≢ ops.Read }
     requires buffer { length page.old ≡ page_bytes_of (geometry_of ftl.old) }

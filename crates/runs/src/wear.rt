@@ -20,8 +20,8 @@ pub struct Played {
     pub ghost sent: { waiting_of desk.lines ≡ [] },
 }
 
-/// Writes the wear of each block of a device, if it is wanted.
-pub fn tell_wear_if<V: Write>(
+// Writes the wear of each block of a device, if it is wanted.
+pub(crate) fn tell_wear_if<V: Write>(
     wanted: bool,
     ftl: &OneFtl,
     desk: &mut Desk,
@@ -37,8 +37,8 @@ pub fn tell_wear_if<V: Write>(
     tell_wear(ftl, desk, wear)
 }
 
-/// Writes the wear of each block of a device.
-pub fn tell_wear<V: Write>(
+// Writes the wear of each block of a device.
+fn tell_wear<V: Write>(
     ftl: &OneFtl,
     desk: &mut Desk,
     wear: &mut Watched<V>,

@@ -9,21 +9,16 @@ mod worker;
 
 pub use collector::Collector;
 pub use collector::broom_answer::BroomAnswer;
-pub use collector::broom_thread::{BroomThread, CollectOf};
 pub use collector::collector_end::CollectorEnd;
 pub use collector::tally::Tally;
 pub use fault::RoundFault;
 pub use rounds::{Answer, Answers, Cursor, Kind};
 pub use runs::commands::play_commands;
 pub use runs::run_end::RunEnd;
-pub use runs::{play_round, play_rounds};
-pub use team::leaving::{fold_collectors, hand_out};
-pub use team::{Team, play_workers};
 pub use trace::{Command, Commands, Op};
 pub use volume::{
     Broom, Drain, Erase, Folded, Gate, Geometry, GeometryFault, NoGate, Pass, Point, Volume,
 };
 pub use worker::Worker;
-pub use worker::meetings::meet_all;
-pub use worker::plays::{play, play_at};
+pub use worker::plays::play;
 pub use worker::round_limits::RoundLimits;

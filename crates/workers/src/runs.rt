@@ -52,9 +52,9 @@ fn play_team<R: Threads + Wait + Clock + Sync, G: Gate + Send>(
     play_workers(rt, team, limits, gates)
 }
 
-/// Plays the round before an end: each worker with a line in it has a thread, brooms collect at the same time, and after all threads are joined the
-/// passes meet.
-pub fn play_round<R: Threads + Wait + Clock + Sync, G: Gate + Send>(
+// Plays the round before an end: each worker with a line in it has a thread, brooms collect at the same time, and after all threads are joined the
+// passes meet.
+fn play_round<R: Threads + Wait + Clock + Sync, G: Gate + Send>(
     rt: &R,
     volume: &Volume,
     team: Team,
@@ -76,8 +76,8 @@ pub fn play_round<R: Threads + Wait + Clock + Sync, G: Gate + Send>(
     Ok(team)
 }
 
-/// Plays all rounds of a trace, which `ends` separate. After a fault no thread runs, and all passes and brooms are retired.
-pub fn play_rounds<R: Threads + Wait + Clock + Sync, G: Gate + Send>(
+// Plays all rounds of a trace, which `ends` separate. After a fault no thread runs, and all passes and brooms are retired.
+pub(crate) fn play_rounds<R: Threads + Wait + Clock + Sync, G: Gate + Send>(
     rt: &R,
     volume: &Volume,
     team: Team,

@@ -27,7 +27,7 @@ use std::time::Clock;
 
 /// The workers and the brooms of a run, and room for the handles of their threads, which is allocated once.
 #[derive(Drop)]
-pub struct Team {
+pub(crate) struct Team {
     pub workers: Vec<Worker>,
     pub collectors: Vec<Collector>,
     pub tasks: VecDeque<Task>,
@@ -39,8 +39,8 @@ pub struct Team {
 }
 
 impl Team {
-    /// These workers and brooms, with room for their threads. `Err` means out of memory; then all passes and brooms are retired.
-    pub fn new(
+    // These workers and brooms, with room for their threads. `Err` means out of memory; then all passes and brooms are retired.
+    pub(crate) fn new(
         alloc: Global,
         workers: Vec<Worker>,
         collectors: Vec<Collector>,
@@ -232,9 +232,9 @@ fn shift<'a, R: Threads + Wait + Clock + Sync, G: Gate + Send>(
     )
 }
 
-/// Plays a round: each worker with a line has a thread that plays its lines, and brooms collect at the same time until the last worker is joined.
-/// There is a gate for each worker, and then one for each broom. After a fault no thread runs, and all passes and brooms are retired.
-pub fn play_workers<R: Threads + Wait + Clock + Sync, G: Gate + Send>(
+// Plays a round: each worker with a line has a thread that plays its lines, and brooms collect at the same time until the last worker is joined.
+// There is a gate for each worker, and then one for each broom. After a fault no thread runs, and all passes and brooms are retired.
+pub(crate) fn play_workers<R: Threads + Wait + Clock + Sync, G: Gate + Send>(
     rt: &R,
     team: Team,
     limits: RoundLimits,

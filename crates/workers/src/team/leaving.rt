@@ -18,8 +18,12 @@ use std::collections::VecDeque;
 use std::sync::Wait;
 use volume::Volume;
 
-/// Gives up the brooms, and lists what each has done and knew last, in order. A block that one has set aside goes to the queue.
-pub fn fold_collectors<R: Wait>(rt: &R, collectors: Vec<Collector>, ends: &mut Vec<CollectorEnd>)
+// Gives up the brooms, and lists what each has done and knew last, in order. A block that one has set aside goes to the queue.
+pub(crate) fn fold_collectors<R: Wait>(
+    rt: &R,
+    collectors: Vec<Collector>,
+    ends: &mut Vec<CollectorEnd>,
+)
     requires none { length ends.old.items ≡ 0 }
     requires room { length collectors.items ≤ vec_capacity ends.old }
     ensures { HaveFolded collectors.items ends.new.items }
@@ -30,8 +34,8 @@ pub fn fold_collectors<R: Wait>(rt: &R, collectors: Vec<Collector>, ends: &mut V
     }
 }
 
-/// Lists each worker's answers, in the order of the workers, and retires the passes.
-pub fn hand_out(workers: Vec<Worker>, rows: &mut Vec<Answers>)
+// Lists each worker's answers, in the order of the workers, and retires the passes.
+pub(crate) fn hand_out(workers: Vec<Worker>, rows: &mut Vec<Answers>)
     requires none { length rows.old.items ≡ 0 }
     requires room { length workers.items ≤ vec_capacity rows.old }
     ensures { rows.new.items ≡ map answers_kept workers.items }

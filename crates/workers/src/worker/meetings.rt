@@ -37,9 +37,9 @@ fn meet_others(volume: &Volume, first: &mut Worker, others: &mut [Worker])
     }
 }
 
-/// All passes meet: the first pass meets each other one, and then each of them once more, so that every pass has seen all calls that were made
-/// before.
-pub fn meet_all(volume: &Volume, workers: &mut [Worker])
+// All passes meet: the first pass meets each other one, and then each of them once more, so that every pass has seen all calls that were made
+// before.
+pub(crate) fn meet_all(volume: &Volume, workers: &mut [Worker])
     requires some { 0 < length workers.old }
     requires all { length workers.old ≡ hosts_of (geometry_of (flash_of volume.now)) }
     requires at { All (IsAt volume.now) workers.old }

@@ -149,8 +149,8 @@ pub fn play<G: Gate>(
     }
 }
 
-/// Plays the lines at these indices of a trace as `play` does, with a buffer of one page, and adds their answers to the list.
-pub fn play_at<G: Gate>(
+// Plays the lines at these indices of a trace as `play` does, with a buffer of one page, and adds their answers to the list.
+pub(crate) fn play_at<G: Gate>(
     volume: &Volume,
     pass: &mut Pass,
     commands: &Commands,
