@@ -29,7 +29,7 @@ use trace::Commands;
 use volume::Volume;
 
 // A worker with this pass and this share.
-fn seat(volume: Arc<Volume, Global>, pass: Pass, share: Share) -> Worker
+fn make_worker(volume: Arc<Volume, Global>, pass: Pass, share: Share) -> Worker
     requires ready { IsReady (flash_of (arc_value volume)) pass }
     requires fit { HasFitShare (geometry_of (flash_of (arc_value volume))) share }
     ensures at { arc_value result.volume ≡ arc_value volume }
@@ -54,7 +54,7 @@ fn seat(volume: Arc<Volume, Global>, pass: Pass, share: Share) -> Worker
 }
 
 // A worker for each pass and its share, in order.
-fn seat_workers(
+fn make_workers(
     volume: &Volume,
     passes: Vec<Pass>,
     owners: Vec<Arc<Volume, Global>>,
@@ -83,13 +83,13 @@ fn seat_workers(
         let Some(share) = shares.pop_front() else {
             unreachable!()
         };
-        workers.push_reserved(seat(owner, pass, share));
+        workers.push_reserved(make_worker(owner, pass, share));
     }
     passes.destroy_empty();
 }
 
 // A collector for each broom.
-fn seat_collectors(
+fn make_collectors(
     volume: &Volume,
     brooms: Vec<Broom>,
     owners: Vec<Arc<Volume, Global>>,
@@ -150,7 +150,7 @@ pub(crate) fn deal(
     let worker_owners = more_owners(alloc, &unseated.volume, hosts)?;
     let collector_owners = more_owners(alloc, &unseated.volume, brooms)?;
     let (volume, passes, brooms) = unseated.into_parts();
-    seat_workers(&volume, passes, worker_owners, shares, &mut workers);
-    seat_collectors(&volume, brooms, collector_owners, drains, &mut collectors);
+    make_workers(&volume, passes, worker_owners, shares, &mut workers);
+    make_collectors(&volume, brooms, collector_owners, drains, &mut collectors);
     Ok((volume, Team::new(alloc, workers, collectors)?))
 }

@@ -3,7 +3,7 @@ use Rattle.flash_table.specs.Flash.{geometry_of}
 use Rattle.host.specs.Ready.{IsReady}
 use Rattle.volume.specs.Volume.{flash_of}
 use Rattle.workers.specs.{Meetings.IsAt, Meetings.passes_of, Shares.HasFitShare, Shares.HasPlayedNone, Shares.IsOwner, Shares.work_in, Shares.work_of}
-use Rattle.workers.proofs.team.dealing.seat_workers.Given as goal
+use Rattle.workers.proofs.team.dealing.make_workers.Given as goal
 
 abbrev pub invariant-loop-pass : goal.invariant-loop-pass
 invariant-loop-pass l = record {

@@ -6,10 +6,10 @@ use Rattle.volume.proofs.FreshBrooms.{taken}
 use Rattle.workers.specs.{declared.worker.Worker.Worker, declared.worker.share.Share.Share, Meetings.IsAt}
 use Rattle.workers.specs.Shares.{HasFitShare, HasPlayedNone, IsOwner, work_in, work_of}
 use Rattle.workers.proofs.DealtRows.{moved, moved_in, pushed_all}
-use Rattle.workers.proofs.team.dealing.seat_workers.Goals as goal
+use Rattle.workers.proofs.team.dealing.make_workers.Goals as goal
 
-pub seat-requires-clause-ready : goal.seat-requires-clause-ready
-seat-requires-clause-ready c =
+pub make_worker-requires-clause-ready : goal.make_worker-requires-clause-ready
+make_worker-requires-clause-ready c =
     let volume = c.args.volume.now in
     let pass = taken (IsReady (flash_of volume)) c.in-Some.pass c.pop_front.new.self.items c.loop-pass.passes.items c.in-Some.ensures.items
     c.loop-pass.invariant.ready in
@@ -17,8 +17,8 @@ seat-requires-clause-ready c =
     c.in-Some-pop_front.ensures.items c.loop-pass.invariant.owners in
     subst (λ (v : Volume). IsReady (flash_of v) c.in-Some.pass) (sym owner.0) pass.0
 
-pub seat-requires-clause-fit : goal.seat-requires-clause-fit
-seat-requires-clause-fit c =
+pub make_worker-requires-clause-fit : goal.make_worker-requires-clause-fit
+make_worker-requires-clause-fit c =
     let volume = c.args.volume.now in
     let owner = taken (IsOwner volume) c.in-Some-pop_front.owner c.pop_front-in-Some.new.self.items c.loop-pass.owners.items
     c.in-Some-pop_front.ensures.items c.loop-pass.invariant.owners in
@@ -33,7 +33,7 @@ loop-pass-preserved c =
     let was = c.loop-pass.invariant in
     let workers = c.loop-pass.workers.items in
     let more = c.push_reserved.new.self.items in
-    let worker = c.seat.result in
+    let worker = c.make_worker.result in
     let pushed = c.push_reserved.ensures.items in
     let pass = taken (IsReady (flash_of volume)) c.in-Some.pass c.pop_front.new.self.items c.loop-pass.passes.items c.in-Some.ensures.items was.ready in
     let owner = taken (IsOwner volume) c.in-Some-pop_front.owner c.pop_front-in-Some.new.self.items c.loop-pass.owners.items
@@ -51,12 +51,12 @@ loop-pass-preserved c =
     let kept = c.push_reserved.ensures.capacity in
     record {
       passes = moved_in (λ (p : Worker). p.pass) workers more c.loop-pass.passes.items c.pop_front.new.self.items c.args.passes.items worker
-          c.in-Some.pass pushed c.in-Some.ensures.items c.seat.ensures.pass was.passes;
+          c.in-Some.pass pushed c.in-Some.ensures.items c.make_worker.ensures.pass was.passes;
       work =
           moved work_of work_in workers more c.loop-pass.shares.items c.pop_front-in-Some-2.new.self.items _ worker c.in-Some-pop_front-2.share pushed
-          c.in-Some-pop_front-2.ensures.items c.seat.ensures.work was.work;
-      at = pushed_all (IsAt volume) workers more worker pushed was.at (c.seat.ensures.at ∙ owner.0);
-      none = pushed_all HasPlayedNone workers more worker pushed was.none c.seat.ensures.none;
+          c.in-Some-pop_front-2.ensures.items c.make_worker.ensures.work was.work;
+      at = pushed_all (IsAt volume) workers more worker pushed was.at (c.make_worker.ensures.at ∙ owner.0);
+      none = pushed_all HasPlayedNone workers more worker pushed was.none c.make_worker.ensures.none;
       ready = pass.1;
       fit = share.1;
       owners = owner.1;

@@ -1,7 +1,7 @@
 use Rattle.std.proofs.Common.{◌≡◌, ◌+◌, ◌≤◌, ◌++◌, All, length, map, vec_len, vec_capacity}
 use Rattle.volume.specs.Brooms.{IsBroomReady}
 use Rattle.workers.specs.{Served.HasCountedNone, Served.broom_of, Shares.IsOwner}
-use Rattle.workers.proofs.team.dealing.seat_collectors.Given as goal
+use Rattle.workers.proofs.team.dealing.make_collectors.Given as goal
 
 abbrev pub invariant-loop-broom : goal.invariant-loop-broom
 invariant-loop-broom l = record {

@@ -4,7 +4,7 @@ use Rattle.volume.specs.{declared.volume.Volume.Volume, Brooms.IsBroomReady}
 use Rattle.volume.proofs.FreshBrooms.{taken}
 use Rattle.workers.specs.{Served.HasCountedNone, Served.broom_of, Shares.IsOwner}
 use Rattle.workers.proofs.DealtRows.{moved_in, pushed_all}
-use Rattle.workers.proofs.team.dealing.seat_collectors.Goals as goal
+use Rattle.workers.proofs.team.dealing.make_collectors.Goals as goal
 
 pub invariant_of-push_reserved : goal.invariant_of-push_reserved
 invariant_of-push_reserved c =
