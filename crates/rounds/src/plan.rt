@@ -9,7 +9,7 @@ use trace::{Commands, Op};
 #[derive(Drop)]
 pub struct Plan {
     /// For each worker the indices of its lines among the commands, in order.
-    pub rows: Vec<Vec<usize>>,
+    pub places: Vec<Vec<usize>>,
     /// The indices of the meetings, and then the number of all commands.
     pub ends: Vec<usize>,
 }
@@ -18,22 +18,22 @@ impl Plan {
     /// Which lines of a trace each worker has, and where its rounds end.
     pub fn new(alloc: Global, commands: &Commands, hosts: u32) -> Result<Plan, AllocError>
         requires { All (λ c. c.worker < hosts) commands.now }
-        ensures rows { IfOk result
-            (λ plan. map items_of plan.rows.items ≡ map
+        ensures places { IfOk result
+            (λ plan. map items_of plan.places.items ≡ map
             (λ t. places_for t commands.now) (range_with_len 0 hosts)) }
         ensures ends { IfOk result (λ plan. plan.ends.items ≡ ends_of commands.now) }
     {
-        let mut rows = empty_rows(alloc, hosts)?;
+        let mut places = empty_rows(alloc, hosts)?;
         let mut ends = Vec::new(alloc);
         for i in 0..commands.len() {
             let command = commands.command(i);
             match command.op {
                 Op::Meet => ends.push(i)?,
-                _ => rows[command.worker as usize].push(i)?,
+                _ => places[command.worker as usize].push(i)?,
             }
         }
         ends.push(commands.len())?;
-        Ok(Plan { rows, ends })
+        Ok(Plan { places, ends })
     }
 }
 

@@ -73,7 +73,7 @@ impl Collector {
         self.broom.room(self.volume.geometry().pages())
     }
 
-    fn drain<G: Gate>(&mut self, rt: &impl Wait, gate: &mut G) -> Drain
+    fn survey_and_drain<G: Gate>(&mut self, rt: &impl Wait, gate: &mut G) -> Drain
         ensures { (programmed : ℕ)
             × HasCollectedBy self.old (by.Drain result programmed ∷ []) self.new }
     {
@@ -152,7 +152,7 @@ impl Collector {
     fn turn<G: Gate>(&mut self, rt: &impl Wait, stop: &AtomicBool, gate: &mut G) -> bool
         ensures { HasTakenTurn self.old result self.new }
     {
-        let mut drain = self.drain(rt, gate);
+        let mut drain = self.survey_and_drain(rt, gate);
         let mut gained = self.follow(drain, rt, gate);
         for _made in 1..self.drains {
             if is_last(drain) || stop.load(Ordering::SeqCst) {

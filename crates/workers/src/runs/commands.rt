@@ -45,7 +45,7 @@ pub fn play_commands<R: Threads + Wait + Clock + Sync, G: Gate + Send>(
         (λ end. ArePlayed geometry.now (arc_value commands.now) (answers_by end.rows.items)) }
     ensures brooms { IfOk result (λ end. AllHaveServed geometry.now drains end.brooms.items) }
 {
-    let Plan { rows: places, ends } = Plan::new(alloc, commands, geometry.hosts())?;
+    let Plan { places, ends } = Plan::new(alloc, commands, geometry.hosts())?;
     let mut rows = Vec::with_capacity(alloc, geometry.hosts() as usize)?;
     let mut brooms = Vec::with_capacity(alloc, geometry.brooms() as usize)?;
     let (volume, team) = deal(alloc, geometry, commands, places, drains)?;

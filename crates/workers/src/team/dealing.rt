@@ -126,12 +126,12 @@ pub(crate) fn deal(
     alloc: Global,
     geometry: &Geometry,
     commands: &Arc<Commands, Global>,
-    rows: Vec<Vec<usize>>,
+    places: Vec<Vec<usize>>,
     drains: u32,
 ) -> Result<(Arc<Volume, Global>, Team), AllocError>
     requires hosts { 0 < hosts_of geometry.now }
     requires playable { All (IsPlayable geometry.now) (arc_value commands.now) }
-    requires rows { map items_of rows.items
+    requires places { map items_of places.items
         ≡ rows_for (hosts_of geometry.now) (arc_value commands.now) }
     ensures geometry { IfOk result (λ r. geometry_of (flash_of (arc_value r.0)) ≡ geometry.now) }
     ensures begun { IfOk result
@@ -143,7 +143,7 @@ pub(crate) fn deal(
 {
     let hosts = geometry.hosts() as usize;
     let brooms = geometry.brooms() as usize;
-    let shares = make_shares(alloc, geometry, commands, rows)?;
+    let shares = make_shares(alloc, geometry, commands, places)?;
     let mut workers = Vec::with_capacity(alloc, hosts)?;
     let mut collectors = Vec::with_capacity(alloc, brooms)?;
     let unseated = open_shared(alloc, geometry)?;

@@ -63,18 +63,18 @@ pub(crate) fn make_shares(
     alloc: Global,
     geometry: &Geometry,
     commands: &Arc<Commands, Global>,
-    rows: Vec<Vec<usize>>,
+    places: Vec<Vec<usize>>,
 ) -> Result<Vec<Share>, AllocError>
     requires { All (λ row. AreDoable geometry.now
-        (arc_value commands.now) (items_of row)) rows.items }
+        (arc_value commands.now) (items_of row)) places.items }
     ensures fit { IfOk result (λ shares. All (HasFitShare geometry.now) shares.items) }
     ensures work { IfOk result
         (λ shares. map work_in shares.items
-        ≡ map (with_commands (arc_value commands.now)) rows.items) }
+        ≡ map (with_commands (arc_value commands.now)) places.items) }
 {
-    let mut shares = Vec::with_capacity(alloc, rows.len())?;
-    let mut rows = VecDeque::from_vec(rows);
-    while let Some(row) = rows.pop_front() {
+    let mut shares = Vec::with_capacity(alloc, places.len())?;
+    let mut places = VecDeque::from_vec(places);
+    while let Some(row) = places.pop_front() {
         shares.push_reserved(make_share(alloc, geometry, commands, row)?);
     }
     Ok(shares)

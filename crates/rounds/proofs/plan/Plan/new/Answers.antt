@@ -7,15 +7,15 @@ use Rattle.rounds.proofs.plan.Plan.new.Goals as goal
 use Rattle.rounds.proofs.plan.Plan.new.Goals.{in-Meet+in_ok-push-in-Meet, in_default+in_ok-push-in_default}
 
 pub loop-i-init : goal.loop-i-init
-loop-i-init c = record { rows = c.in_ok-rows.ensures ∙ rows_begin c.args.hosts; ends = c.new-ends.ensures.items }
+loop-i-init c = record { places = c.in_ok-places.ensures ∙ rows_begin c.args.hosts; ends = c.new-ends.ensures.items }
 
 pub index_mut-requires : goal.index_mut-requires
 index_mut-requires c =
     let w = c.command-command.result.worker in
     let low = at_place (λ (d : Command). d.worker < c.args.hosts) c.args.commands.now c.loop-i.i c.command-command.result c.requires
     c.command-command.ensures.at in
-    row_there c.args.hosts c.loop-i.rows.len w (map items_of c.loop-i.rows.items) (take c.loop-i.i c.args.commands.now) c.loop-i.invariant.rows
-    (c.loop-i.rows.ok.0 ∙ sym (length-map c.loop-i.rows.items items_of)) low
+    row_there c.args.hosts c.loop-i.places.len w (map items_of c.loop-i.places.items) (take c.loop-i.i c.args.commands.now) c.loop-i.invariant.places
+    (c.loop-i.places.ok.0 ∙ sym (length-map c.loop-i.places.items items_of)) low
 
 pub loop-i-preserved : goal.loop-i-preserved
 loop-i-preserved c =
@@ -28,8 +28,8 @@ loop-i-preserved c =
       | in-Meet+in_ok-push-in-Meet w ↦
           let meet : is_meet command.op ≡ true = ap is_meet w.in-Meet.is in
           record {
-            rows = ap (λ (v : Vec (Vec ℕ Global) Global). map items_of v.items) w.rows-is
-                ∙ (c.loop-i.invariant.rows ∙ rows_meet hosts (take i commands) (take (i + 1) commands) command more.0 meet);
+            places = ap (λ (v : Vec (Vec ℕ Global) Global). map items_of v.items) w.places-is
+                ∙ (c.loop-i.invariant.places ∙ rows_meet hosts (take i commands) (take (i + 1) commands) command more.0 meet);
             ends =
                 ap (λ (v : Vec ℕ Global). v.items) w.ends-is
                 ∙ (w.in_ok-push-in-Meet.ensures.items
@@ -40,10 +40,10 @@ loop-i-preserved c =
           let plain : is_meet command.op ≡ false = is_line command.op w.in_default.not-Meet in
           let low = at_place (λ (d : Command). d.worker < hosts) commands i command c.requires c.command-command.ensures.at in
           record {
-            rows =
-                ap (λ (v : Vec (Vec ℕ Global) Global). map items_of v.items) w.rows-is
-                ∙ row_grown hosts i c.loop-i.rows.items w.index_mut.result.now w.push-in_default.new.self (take i commands)
-                (take (i + 1) commands) command c.loop-i.invariant.rows more.0 more.1 plain low w.index_mut.ensures.value
+            places =
+                ap (λ (v : Vec (Vec ℕ Global) Global). map items_of v.items) w.places-is
+                ∙ row_grown hosts i c.loop-i.places.items w.index_mut.result.now w.push-in_default.new.self (take i commands)
+                (take (i + 1) commands) command c.loop-i.invariant.places more.0 more.1 plain low w.index_mut.ensures.value
                 w.in_ok-push-in_default.ensures.items;
             ends =
                 ap (λ (v : Vec ℕ Global). v.items) w.ends-is

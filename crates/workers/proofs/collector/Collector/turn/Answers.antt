@@ -6,8 +6,8 @@ use Rattle.workers.proofs.collector.Collector.turn.Goals as goal
 
 pub loop-made-init : goal.loop-made-init
 loop-made-init g c =
-    first_drain c.args.self.now c.drain-drain.new.self c.follow-gained.new.self c.drain-drain.result c.drain-drain.ensures.0
-    c.follow-gained.result c.drain-drain.ensures.1 c.follow-gained.ensures
+    first_drain c.args.self.now c.survey_and_drain-drain.new.self c.follow-gained.new.self c.survey_and_drain-drain.result c.survey_and_drain-drain.ensures.0
+    c.follow-gained.result c.survey_and_drain-drain.ensures.1 c.follow-gained.ensures
 
 pub loop-made-preserved : goal.loop-made-preserved
 loop-made-preserved g c =
@@ -16,7 +16,7 @@ loop-made-preserved g c =
       | then-follow w ↦ w.gained-is ∙ (w.if-follow.true ∙ ap (λ b. b || c.loop-made.gained) (sym w.if-follow.true))
       | else-follow w ↦ w.gained-is ∙ ap (λ b. b || c.loop-made.gained) (sym w.if-follow.false)
     ] in
-    let drains = c.follow-gained.ensures.collected.drains ∙ c.drain-drain.ensures.1.drains in
+    let drains = c.follow-gained.ensures.collected.drains ∙ c.survey_and_drain-drain.ensures.1.drains in
     let low = c.loop-made-test.true in
     next_drain c.args.self.now c.loop-made.self c.drain_next-drain.new.self c.follow.new.self c.loop-made._made c.loop-made.drain c.drain_next-drain.result
     c.drain_next-drain.ensures.0 c.loop-made.gained c.follow.result c.if-follow.gained c.loop-made.invariant

@@ -15,7 +15,7 @@ use Rattle.workers.proofs.team.dealing.deal.Goals as goal
 
 pub make_shares-requires : goal.make_shares-requires
 make_shares-requires c = rows_doable c.args.geometry.now (hosts_of c.args.geometry.now)
-    (arc_value c.args.commands.now) c.args.rows.items c.requires.playable c.requires.rows
+    (arc_value c.args.commands.now) c.args.places.items c.requires.playable c.requires.places
 
 pub make_workers-requires-clause-fit : goal.make_workers-requires-clause-fit
 make_workers-requires-clause-fit c =
@@ -25,10 +25,10 @@ make_workers-requires-clause-fit c =
 
 pub make_workers-requires-clause-shares_count : goal.make_workers-requires-clause-shares_count
 make_workers-requires-clause-shares_count c =
-    let rows = row_count (hosts_of c.args.geometry.now) (arc_value c.args.commands.now) c.args.rows.items c.requires.rows in
+    let rows = row_count (hosts_of c.args.geometry.now) (arc_value c.args.commands.now) c.args.places.items c.requires.places in
     let work = ap (length {A = List Command × List ℕ}) c.in_ok-shares.ensures.work in
     let passes = ap (length {A = Pass}) c.into_parts-volume.ensures.passes ∙ c.in_ok-unseated.ensures.playing in
-    omega (arith, length-map c.in_ok-shares.shares.items work_in, length-map c.args.rows.items (with_commands (arc_value c.args.commands.now)))
+    omega (arith, length-map c.in_ok-shares.shares.items work_in, length-map c.args.places.items (with_commands (arc_value c.args.commands.now)))
 
 pub make_collectors-requires-clause-ready : goal.make_collectors-requires-clause-ready
 make_collectors-requires-clause-ready c =
@@ -46,8 +46,8 @@ opened c =
     let new = c.in_ok-unseated.ensures in
     let parts = c.into_parts-volume.ensures in
     at_first (arc_value c.into_parts-volume.result.0) c.args.geometry.now
-    (arc_value c.args.commands.now) c.args.rows.items c.into_parts-volume.result.1.items c.make_workers.new.workers.items
-    (ap (λ (v : Volume). geometry_of (flash_of v)) parts.volume ∙ new.geometry) c.requires.hosts c.requires.playable c.requires.rows
+    (arc_value c.args.commands.now) c.args.places.items c.into_parts-volume.result.1.items c.make_workers.new.workers.items
+    (ap (λ (v : Volume). geometry_of (flash_of v)) parts.volume ∙ new.geometry) c.requires.hosts c.requires.playable c.requires.places
     (ap (length {A = Pass}) parts.passes ∙ new.playing)
     (subst (λ (x : Volume × List Pass). (t : ℕ) (p : Pass) → slice_get x.1 t ≡ Some p
     → view_of p ≡ first_view (device (flash_of x.0)) t) (λ i. (sym parts.volume i, sym parts.passes i)) new.first)

@@ -6,11 +6,11 @@ use Rattle.workers.proofs.worker.share.make_shares.Given as goal
 
 abbrev pub invariant-loop-row : goal.invariant-loop-row
 invariant-loop-row l = record {
-  work : map work_in l.shares.items ++ map (with_commands (arc_value l.commands)) l.rows.items ≡ map (with_commands (arc_value l.commands)) l.fn.rows.items;
+  work : map work_in l.shares.items ++ map (with_commands (arc_value l.commands)) l.places.items ≡ map (with_commands (arc_value l.commands)) l.fn.places.items;
   fit : All (HasFitShare l.geometry) l.shares.items;
-  doable : All (λ row. AreDoable l.geometry (arc_value l.commands) (items_of row)) l.rows.items;
-  room : vec_len l.shares + length l.rows.items ≤ vec_capacity l.shares;
+  doable : All (λ row. AreDoable l.geometry (arc_value l.commands) (items_of row)) l.places.items;
+  room : vec_len l.shares + length l.places.items ≤ vec_capacity l.shares;
 }
 
 abbrev pub decreases-loop-row : goal.decreases-loop-row
-decreases-loop-row l = length l.rows.items
+decreases-loop-row l = length l.places.items

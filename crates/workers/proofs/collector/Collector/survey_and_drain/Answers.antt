@@ -6,7 +6,7 @@ use Rattle.volume.specs.{declared.volume.Volume.Volume, Volume.queue_of}
 use Rattle.workers.specs.{Collecting.limit_at, Growing.GrowsBy}
 use Rattle.workers.proofs.{BroomCalls.collected_one, DrainPrograms.survey_fills}
 use Rattle.workers.specs.declared.collector.broom_answer.BroomAnswer.TheVariants as by
-use Rattle.workers.proofs.collector.Collector.drain.Goals as goal
+use Rattle.workers.proofs.collector.Collector.survey_and_drain.Goals as goal
 
 pub returns : goal.returns
 returns g c =
