@@ -1,10 +1,9 @@
-ghost use Rattle.std.specs.Prelude.{◌≡◌, ◌≢◌, ◌*◌, ◌-◌, ◌≤◌, [], ◌++◌, drop, length, IfOk, OnOk, OnErr};
+ghost use Rattle.std.specs.Prelude.{◌≡◌, ◌*◌, ◌-◌, ◌≤◌, [], ◌++◌, drop, length, IfOk, OnOk, OnErr};
 ghost use Rattle.geometry.specs.Geometry.{page_bytes_of};
 ghost use Rattle.hex.specs.Hex.{encode_lower};
-ghost use Rattle.streams.specs.Watched.{failures_of, inner_of};
 ghost use Rattle.answers.specs.Answers.{broom_line, broom_names, collection_line, collection_names, end_text, line_text, totals_text, wear_line, wear_names};
-ghost use Rattle.answers.specs.{Delivery.AppendsBeginning, Delivery.IsUnderWay, Lines.page_digits_of, Lines.waiting_of, Replies.reply_text};
-ghost use Rattle.answers.specs.{Streams.WritesOut, Streams.over, declared.line.TheConstants.PIECE_BYTES};
+ghost use Rattle.answers.specs.{Lines.page_digits_of, Lines.waiting_of, Replies.reply_text, declared.line.TheConstants.PIECE_BYTES};
+ghost use Rattle.answers.specs.Streams.{FailsBy, Moves, Part, Writes, WritesOut, over};
 ghost use Rattle.answers.specs.declared.reply.Reply.TheVariants as replies;
 
 use crate::broom_line::BroomLine;
@@ -167,8 +166,8 @@ impl Lines {
         ensures empty { OnOk result (waiting_of self.new ≡ []) }
         ensures page { page_digits_of self.new ≡ page_digits_of self.old }
         ensures kept { OnErr result
-            (IsUnderWay (W.contents (inner_of writer.old))
-            (W.contents (inner_of writer.new)) (waiting_of self.new) (waiting_of self.old)) }
+            (Moves (over W.contents writer.old writer.new)
+            (waiting_of self.new) (waiting_of self.old)) }
     {
         let sent = send_some(writer, &self.buffer[..self.used]);
         self.remove_front(sent);
@@ -192,19 +191,13 @@ impl Lines {
 
     /// Writes the lines that wait if there are many, so that there is room for another line.
     pub fn make_room<W: Write>(&mut self, writer: &mut Watched<W>) -> Result<(), OutputFailed>
-        ensures moved { OnOk result
-            (IsUnderWay (W.contents (inner_of writer.old))
-            (W.contents (inner_of writer.new)) (waiting_of self.new) (waiting_of self.old)) }
+        ensures moved { Moves (over W.contents writer.old writer.new)
+            (waiting_of self.new) (waiting_of self.old) }
+        ensures failed { FailsBy result (over W.contents writer.old writer.new) }
         ensures room { OnOk result (length (waiting_of self.new) ≤ PIECE_BYTES) }
         ensures page { page_digits_of self.new ≡ page_digits_of self.old }
-        ensures unfailed { OnOk result (failures_of writer.new ≡ failures_of writer.old) }
         ensures part { OnErr result
-            (AppendsBeginning (W.contents (inner_of writer.old))
-            (W.contents (inner_of writer.new)) (waiting_of self.old)) }
-        ensures failed { OnErr result (failures_of writer.new ≢ failures_of writer.old) }
-        ensures kept { OnErr result
-            (IsUnderWay (W.contents (inner_of writer.old))
-            (W.contents (inner_of writer.new)) (waiting_of self.new) (waiting_of self.old)) }
+            (Writes Part (waiting_of self.old) (over W.contents writer.old writer.new)) }
     {
         if self.used < PIECE_BYTES {
             return Ok(());

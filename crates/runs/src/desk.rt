@@ -1,12 +1,11 @@
-ghost use Rattle.std.specs.Prelude.{◌≡◌, ◌≢◌, ◌+◌, ◌*◌, ◌<◌, ◌≤◌, [], ◌++◌, length, vec_len, if◌then◌else◌, IfOk, OnOk, OnErr};
+ghost use Rattle.std.specs.Prelude.{◌≡◌, ◌+◌, ◌*◌, ◌<◌, ◌≤◌, [], ◌++◌, length, vec_len, if◌then◌else◌, IfOk, OnOk, OnErr};
 ghost use Rattle.std.specs.List.{fold};
 ghost use Rattle.geometry.specs.{Geometry.blocks_of, Geometry.page_bytes_of, Geometry.sectors_of, History.step, Sectors.sector_at};
 ghost use Rattle.ftl_one.specs.OneFtl.{geometry_of, array_of, stock_of};
-ghost use Rattle.streams.specs.Watched.{failures_of};
 ghost use Rattle.trace.specs.declared.commands.Op.TheVariants as ops;
 ghost use Rattle.answers.specs.{Answers.calls_of, Answers.found_text, Answers.line_text, Answers.wear_names, Lines.page_digits_of, Lines.waiting_of};
 ghost use Rattle.answers.specs.{Playable.IsPlayable, declared.line.TheConstants.PIECE_BYTES};
-ghost use Rattle.answers.specs.Streams.{Moves, WritesOut, over, Part, Writes};
+ghost use Rattle.answers.specs.Streams.{FailsBy, Moves, Part, Writes, WritesOut, over};
 ghost use Rattle.runs.specs.{Playing.end_text, Playing.is_refused, Playing.line_by, Playing.stock_after, Wear.block_line};
 
 use crate::perform::perform;
@@ -135,16 +134,14 @@ impl Desk {
 
     /// Writes the lines that wait if there are many, so that there is room for another line.
     pub fn make_room<W: Write>(&mut self, writer: &mut Watched<W>) -> Result<(), OutputFailed>
-        ensures moved { OnOk result
-            (Moves (over W.contents writer.old writer.new)
-            (waiting_of self.new.lines) (waiting_of self.old.lines)) }
+        ensures moved { Moves (over W.contents writer.old writer.new)
+            (waiting_of self.new.lines) (waiting_of self.old.lines) }
+        ensures failed { FailsBy result (over W.contents writer.old writer.new) }
         ensures room { OnOk result (length (waiting_of self.new.lines) ≤ PIECE_BYTES) }
         ensures page { vec_len self.new.page ≡ vec_len self.old.page }
         ensures refused { self.new.refused ≡ self.old.refused }
-        ensures unfailed { OnOk result (failures_of writer.new ≡ failures_of writer.old) }
         ensures part { OnErr result
             (Writes Part (waiting_of self.old.lines) (over W.contents writer.old writer.new)) }
-        ensures failed { OnErr result (failures_of writer.new ≢ failures_of writer.old) }
     {
         self.lines.make_room(writer)
     }

@@ -7,7 +7,7 @@ use Rattle.runs.proofs.broom_log.tell_brooms.Goals as goal
 
 pub loop-k-preserved : goal.loop-k-preserved
 loop-k-preserved g c = (
-  c.in_ok-make_room.ensures.unfailed ∙ c.loop-k.invariant.0,
+  c.in_ok-make_room.ensures.failed ∙ c.loop-k.invariant.0,
   brooms_turn c.args.brooms.now c.loop-k.k c.index-brooms-k.result _ _ _ _ _ _ c.loop-k-test.true c.index-brooms-k.is c.loop-k.invariant.1
       c.in_ok-make_room.ensures.moved
       (c.broom.ensures.waiting ∙ ap (λ it. waiting_of c.make_room.new.self ++ broom_line it) c.counts.ensures),

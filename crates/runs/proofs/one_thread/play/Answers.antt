@@ -22,7 +22,7 @@ loop-i-preserved g c =
     c.command-command.ensures.at c.answer_logged.ensures.array c.answer_logged.ensures.stock c.answer_logged.ensures.lines in (
       c.answer_logged.ensures.geometry ∙ c.loop-i.invariant.0,
       c.answer_logged.ensures.page ∙ (c.make_room.ensures.page ∙ c.loop-i.invariant.1),
-      c.in_ok-make_room.ensures.unfailed ∙ c.loop-i.invariant.2,
+      c.in_ok-make_room.ensures.failed ∙ c.loop-i.invariant.2,
       played,
       c.answer_logged.ensures.wanted ∙ c.loop-i.invariant.4,
       log_turn geo (geometry_of c.loop-i.ftl) commands c.loop-i.i (stock_of c.loop-i.ftl) (stock_of c.answer_logged.new.ftl) c.answer_logged.new.log file
@@ -94,4 +94,4 @@ returns-clause-sent g c =
     let whole = text_whole c.args.answers geo commands _ _ old _ _ _ _ _ played c.in_ok-make_room-2.ensures.moved c.end.ensures.lines in
     WritesOut-rest (written_of c.args.answers geo commands) (waiting_of c.end.new.self.lines) (known c.args.writer.now)
     (known c.make_room-2.new.writer) (known c.hand_on.new.writer) c.hand_on.result
-    (c.in_ok-make_room-2.ensures.unfailed ∙ c.loop-i.invariant.2) whole c.hand_on.ensures.sent
+    (c.in_ok-make_room-2.ensures.failed ∙ c.loop-i.invariant.2) whole c.hand_on.ensures.sent

@@ -9,7 +9,7 @@ use Rattle.runs.proofs.wear.tell_wear.Goals as goal
 
 pub loop-block-preserved : goal.loop-block-preserved
 loop-block-preserved g c = (
-  c.in_ok-make_room.ensures.unfailed ∙ c.loop-block.invariant.0,
+  c.in_ok-make_room.ensures.failed ∙ c.loop-block.invariant.0,
   wear_turn (stock_of c.args.ftl.now) c.loop-block.block _ _ _ _ _ _ c.loop-block.invariant.1 c.in_ok-make_room.ensures.moved c.wear.ensures.lines,
 )
 

@@ -45,7 +45,7 @@ loop-i-preserved g c =
       at = subst (λ (l : List Cursor). AreAt rows l) (sym back) c.next_answer-answer.ensures.at;
       long = ap (length {A = Cursor}) back ∙ (c.next_answer-answer.auto.next ∙ count);
       page = c.put_answer.ensures.page ∙ (c.in_ok-make_room.ensures.page ∙ c.loop-i.invariant.page);
-      unfailed = c.in_ok-make_room.ensures.unfailed ∙ c.loop-i.invariant.unfailed;
+      unfailed = c.in_ok-make_room.ensures.failed ∙ c.loop-i.invariant.unfailed;
       text = delivery_turn i commands command (answers_by rows) _ _ _ _ _ _ _ c.loop-i.invariant.text c.in_ok-make_room.ensures.moved
           c.command-command.ensures.at answer c.put_answer.ensures.waiting;
     }
@@ -91,4 +91,4 @@ returns g c =
     let whole = delivery_whole c.loop-i.i commands rows (g.W.Write.contents (inner_of c.args.writer.now)) _ _ _ _ _
     (omega arith) c.loop-i.invariant.text c.in_ok-make_room-2.ensures.moved c.end.ensures.waiting in
     WritesOut-rest (text_of commands rows) (waiting_of c.end.new.self) (known c.args.writer.now) (known c.make_room-2.new.writer)
-    (known c.hand_on.new.writer) c.hand_on.result (c.in_ok-make_room-2.ensures.unfailed ∙ c.loop-i.invariant.unfailed) whole c.hand_on.ensures.sent
+    (known c.hand_on.new.writer) c.hand_on.result (c.in_ok-make_room-2.ensures.failed ∙ c.loop-i.invariant.unfailed) whole c.hand_on.ensures.sent

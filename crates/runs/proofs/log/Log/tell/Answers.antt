@@ -10,7 +10,7 @@ returns-in-Ok-clause-logged g c = λ before text more told logged.
     let new = stream_of g.V.Write.contents c.make_room.new.writer in
     tells_open c.in-Open.lines before old new c.args.line c.in-Some.it text more _ _
     (subst (λ (s : Log). IsLogged s (record { before = before; after = old }) text) c.in-Open.is logged)
-    c.in-Ok.ensures.unfailed c.in-Ok.ensures.moved c.collection.ensures.waiting
+    c.in-Ok.ensures.failed c.in-Ok.ensures.moved c.collection.ensures.waiting
     (told (subst IsOpen (sym c.in-Open.is) tt) ∙ ap (log_part c.args.line) c.in-Some.is)
 
 pub returns-in-Err-clause-logged : goal.returns-in-Err-clause-logged
