@@ -29,7 +29,7 @@ def modules(crate):
             yield tree.folder(crate) / f"specs/{line.split()[2]}.antt", internal
 
 
-def handed_out(crate):
+def exported_types(crate):
     """The types that a crate's root file exports, with their sentences."""
     names, _ = calls.exported(crate)
     types = (it for path in tree.sources(crate) for it in tree.TYPE.finditer(path.read_text()))
@@ -46,7 +46,7 @@ def part(crate, known):
             text += f"<details><summary>Internal: {path.name}. {tree.shown(title)}</summary>\n\n{table(rows)}</details>\n\n"
         else:
             text += f"**[`{path.name}`](../{tree.relative(path)})** {title}\n\n{table(rows)}"
-    types = handed_out(crate)
+    types = exported_types(crate)
     return text + (f"**Types**\n\n{table(types, 'Type')}" if types else "")
 
 
@@ -65,7 +65,7 @@ def made(known):
     about = SHOWN.format(listed(premises), listed(it for it in names if it not in everywhere), laws.counted(shown_as))
     page = tree.beginning("docs/DEFINITIONS.md") + about + "".join(part(name, known) for name in crates).rstrip("\n") + "\n"
     bare = [f"crates/{crate}/specs/{module}.antt: {name}" for (crate, module, name), its in known.items() if not its.sentence]
-    bare += [f"crates/{crate}: {name}" for crate in crates for name, sentence in handed_out(crate) if not sentence]
+    bare += [f"crates/{crate}: {name}" for crate in crates for name, sentence in exported_types(crate) if not sentence]
     return page, [*(f"{it} has no sentence above it" for it in bare), *laws.idle(premises, names, clauses), *laws.without(shown_as)]
 
 
