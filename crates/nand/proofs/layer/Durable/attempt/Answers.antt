@@ -8,7 +8,7 @@ use Rattle.durable.proofs.Promises.{completes_cut}
 use Rattle.nand.specs.Nand.{value_with}
 use Rattle.nand.specs.Numbers.{good_before, numbered}
 use Rattle.nand.specs.Opened.{IsOpenLayer, device_on, layer_sectors, reserve_of, update_of, used_blocks}
-use Rattle.nand.proofs.Programs.{adds_version, moves_so_far, none_new, none_spent, some_left, still_none, still_spent, tallies_once}
+use Rattle.nand.proofs.Programs.{adds_version, none_new, none_spent, still_none, still_spent}
 use Rattle.nand.proofs.Replacing.{blank_after, blank_there, in_use, reserve_there, stopped}
 use Rattle.nand.proofs.Steps.{adds, keeps, moved, same_number, same_order}
 use Rattle.nand.proofs.layer.Durable.attempt.Goals as goal
