@@ -1,6 +1,6 @@
 -- The versions that the commands of a call leave.
-use Rattle.std.proofs.Common.{◌≡◌, ◌⊎◌, ◌∙◌, inl, inr, ⊎_elim, ◌<◌, ◌≤◌, ◌+◌, ◌-◌, ◌*◌, ◌%◌, ◌^◌, ℕ, Bool, true, false}
-use Rattle.std.proofs.Common.{List, Option, None, Some, Result, Ok, Err, OnOk, refl, sym, ap, subst, arith}
+use Rattle.std.proofs.Common.{◌≡◌, ◌⊎◌, ◌∙◌, inl, inr, ⊎_elim, ◌≤◌, ◌+◌, ◌-◌, ◌*◌, ◌%◌, ◌^◌, ℕ, Bool, true, false}
+use Rattle.std.proofs.Common.{List, Result, Ok, Err, OnOk, refl, sym, ap, subst, arith}
 use Rattle.std.proofs.lemmas.Bool.{cases_eq, false≢true}
 use Rattle.geometry.specs.Sectors.{Sector}
 use Rattle.geometry.specs.declared.answer.Was.{Was}
@@ -9,9 +9,7 @@ use Rattle.durable.specs.declared.command.Command.{Command}
 use Rattle.durable.specs.declared.command.Command.TheVariants.{Program, Copy, Erase, Refused}
 use Rattle.durable.specs.declared.extent.Extent.{Extent}
 use Rattle.durable.specs.declared.memory.Core.{Core}
-use Rattle.durable.specs.Choice.{IsNextCommand, Spends, left_at}
-use Rattle.durable.specs.Collecting.{IsPageOn}
-use Rattle.geometry.specs.declared.page_addr.PageAddr.{PageAddr}
+use Rattle.durable.specs.Choice.{IsNextCommand, Spends}
 use Rattle.durable.specs.Commands.{Completes, is_program}
 use Rattle.durable.specs.Flash.{Flash, PageContents, Version, SetsPage}
 use Rattle.durable.specs.Updates.{Update}
@@ -19,7 +17,7 @@ use Rattle.durable.proofs.Cells.{erased_holds_none}
 use Rattle.nand.specs.declared.failure.Failure.{Failure}
 use Rattle.nand.specs.Nand.{tally_after}
 use Rattle.nand.specs.Numbers.{IsOrder, chip_block, numbered}
-use Rattle.nand.specs.Programs.{AddsVersion, HasSomewhere, TalliesMoves, TalliesOnce}
+use Rattle.nand.specs.Programs.{AddsVersion, HasSomewhere, TalliesMoves}
 use Rattle.nand.specs.declared.flash.Tally.{Tally}
 
 -- the flash has no version that it did not have before
@@ -158,40 +156,6 @@ still_spent before mid now Refused pages old new is spent counted spends = recor
   one = spent.one;
   opened = omega (arith, spent.opened, spends);
 }
-
--- a call needs a command more
-pub some_left : (blocks pages : ℕ) (next : Option PageAddr) → IsPageOn blocks pages next → 0 < left_at pages next
-some_left blocks pages None on = omega arith
-some_left blocks pages (Some to) on = omega (arith, (on to refl).1)
-
--- what an attempt has counted that has come to no end
-pub moves_so_far : {before now : Tally} {pages left : ℕ} → HasSpent before now pages left → 0 < left → TalliesMoves before now 1 pages
-moves_so_far {before} {now} {pages} {left} spent some = record {
-  copies = spent.copies;
-  erases = spent.erases;
-  copied = spent.copied;
-  erased = spent.erased;
-  few = omega (arith, spent.few, some);
-  one = spent.one;
-}
-
--- and with its program
-pub tallies_once : (before mid now : Tally) (m : Command) (pages left : ℕ) → is_program m ≡ true → HasSpent before mid pages left → 0 < left
-    → now ≡ tally_after m mid → TalliesOnce before now 1 pages
-tallies_once before mid now (Program at n) pages left is spent some counted = (
-  ap (λ (t : Tally). t.programs) counted ∙ ap (λ (k : ℕ). (k + 1) % 2 ^ 64) spent.programmed,
-  record {
-    copies = spent.copies;
-    erases = spent.erases;
-    copied = ap (λ (t : Tally). t.copies % 2 ^ 64) counted ∙ spent.copied;
-    erased = ap (λ (t : Tally). t.erases % 2 ^ 64) counted ∙ spent.erased;
-    few = omega (arith, spent.few, some);
-    one = spent.one;
-  },
-)
-tallies_once before mid now (Copy k from to) pages left is spent some counted = absurd (false≢true is)
-tallies_once before mid now (Erase b) pages left is spent some counted = absurd (false≢true is)
-tallies_once before mid now Refused pages left is spent some counted = absurd (false≢true is)
 
 -- a call that programs nothing, or once
 pub or_once : (P Q : Type 0) (result : Result (Unit {0}) Failure) → OnOk result Q → OnOk result (P ⊎ Q)
