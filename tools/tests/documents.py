@@ -20,7 +20,6 @@ NOT_RUN = {
     ("docs/BLOCK_DEVICE.md", f"{LIBRARY}mkdir -p /tmp/flash/disk"): "bindings/nbdkit/check runs the lines behind make",
     ("docs/BLOCK_DEVICE.md", "nbdkit -f"): "it runs until the power is cut: bindings/nbdkit/check tries that",
     ("docs/BLOCK_DEVICE.md", "nbdcopy 'nbd+unix:///stats"): "it needs a server that is running: bindings/nbdkit/check reads the export so",
-    ("docs/BLOCK_DEVICE.md", "modprobe nbd"): "it needs root and a kernel with NBD",
     ("docs/SIMULATING.md", "apt-get install fio"): "tools/check has installed these packages before the lines are run",
 }
 # The blocks that are run with fewer lines or a smaller device, since the program may be the one without proof.
