@@ -277,7 +277,7 @@ fn a_block_that_was_erased_often_rests(rt: HostRuntime) -> Result<(), Fail> {
     Ok(())
 }
 
-// Block 0 is bad and another one in reserve; the others tell the sectors whose pages they have.
+// Block 0 is bad: the blocks in use tell the sectors whose pages they have.
 #[test]
 fn each_block_tells_its_live_sectors(rt: HostRuntime) -> Result<(), Fail> {
     let mut worn = chip(rt.alloc(), 6, 2)?;
@@ -288,20 +288,17 @@ fn each_block_tells_its_live_sectors(rt: HostRuntime) -> Result<(), Fail> {
     for (sector, byte) in [(0, 1), (1, 2), (2, 3), (0, 4)] {
         assert!(rt; make(&rt, &mut layer, Call::Write(sector, byte), None).is_ok());
     }
-    let mut unused = 0;
-    let mut live = 0;
+    let mut unused = 0u32;
+    let mut live = 0u32;
     for block in 0..6 {
         match layer.live(block) {
-            Some(count) => live += count,
-            None => unused += 1,
+            Some(count) => live = live.saturating_add(count),
+            None => unused = unused.saturating_add(1),
         }
     }
     assert!(rt; layer.live(0).is_none() && layer.live(6).is_none());
-    expect(
-        &rt,
-        live == 3 && unused == 1 + layer.reserve(),
-        &(live, unused),
-    );
+    let spared = layer.reserve().saturating_add(1);
+    expect(&rt, live == 3 && unused == spared, &(live, unused));
     Ok(())
 }
 
