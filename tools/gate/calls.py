@@ -4,13 +4,10 @@ import re
 
 from gate import laws, tree
 
-LAWS = """## Laws of the definitions
-
+LAWS = """## Laws of the definitions\n
 A clause says no more than the definitions that it names. So each of these functions, which have no code, says where a definition holds
-and where it doesn't.
-
-| Law | What its clauses say | Definitions |
-|---|---|---|
+and where it doesn't.\n
+| Law | What its clauses say | Definitions |\n|---|---|---|
 """
 # A longer clause is left to the source.
 LONGEST = 200
@@ -58,17 +55,9 @@ def rows(function, path, text, known, told):
 
 
 def part(crate, known):
-    told, text = set(), ""
-    for call in public(crate):
-        text += "".join(f"| {' | '.join(cells)} |\n" for cells in rows(*call, known, told))
+    told = set()
+    text = "".join(f"| {' | '.join(cells)} |\n" for call in public(crate) for cells in rows(*call, known, told))
     return f"## `{crate}`\n\n| Call | Clause | What it says |\n|---|---|---|\n{text}\n" if text else ""
-
-
-def law(function, path, text, known):
-    """The row of a law."""
-    name, _, says = next(rows(function, path, text, known, set()))
-    cited = tree.cited(" ".join(it.text for it in tree.head_clauses(text, function)), tree.imports(text))
-    return f"| {name} | {says} | {', '.join(dict.fromkeys(f'`{it[2]}`' for it in cited if it in known))} |\n"
 
 
 def page(known):
@@ -78,5 +67,8 @@ def page(known):
     text = tree.beginning("docs/CALLS.md") + "".join(part(name, known) for name in used if name != "laws") + LAWS
     files = [path for name in used if (path := tree.folder(name) / "src/laws.rt").exists()]
     its = [*public("laws"), *((it, path, path.read_text()) for path in files for it in tree.functions(path.read_text()))]
-    text += "".join(law(*it, known) for it in its)
+    for function, path, its_text in its:
+        name, _, says = next(rows(function, path, its_text, known, set()))
+        cited = tree.cited(" ".join(it.text for it in tree.head_clauses(its_text, function)), tree.imports(its_text))
+        text += f"| {name} | {says} | {', '.join(dict.fromkeys(f'`{it[2]}`' for it in cited if it in known))} |\n"
     return text, [f"{name} has no sentence above it" for name in re.findall(r"^\| \[`([^`]*)`\]\(\S*\) \|(?:  \|)+$", text, re.M)]

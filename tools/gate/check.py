@@ -1,9 +1,7 @@
-"""check: proves, tests and tries everything that has to hold before a merge. The last line is `rt ci`'s count of what passed and failed.
-
-It begins with the checks of the sources and pages (BEFORE). Then `rt ci` proves everything, tries the wrong bodies of each crate that has no entry
-in .ci/refused for its present text, and runs the tests. The twins and wrong definitions of changed crates follow, the program and the library
-(AFTER), and what is built from them (ROWS). If CI=true it installs what the checks need of Debian, and ends with the package on a system without
-the toolchain. Otherwise what is missing is named, and nothing is begun."""
+"""check: proves, tests and tries everything that has to hold before a merge: the sources and pages (BEFORE), all proofs and tests, the wrong bodies of
+each crate without an entry in .ci/refused, its twins and wrong definitions, the program and the library (AFTER), and what is built from them (ROWS). If
+CI=true it installs what the checks need, and ends with the package on a system without the toolchain. Otherwise what is missing is named, and nothing
+is begun. The last line is `rt ci`'s count of what passed and failed."""
 
 import os
 import re
@@ -34,9 +32,8 @@ PACKAGES = re.compile(r"^ *(?:\.\./)?\.ci/needs (.*)|^PACKAGES = \(([^)]*)", re.
 
 def packages(is_ci):
     """The packages that the checks need. Each script lists its own; cargo may also come from elsewhere."""
-    scripts = ["bindings/check", "bindings/nbdkit/check", "examples/mtd/check", "bindings/tests/machines"]
-    scripts += ["packaging/installed", "packaging/package"] if is_ci else []
-    lists = ["".join(its) for script in scripts for its in PACKAGES.findall((tree.TOP / script).read_text())]
+    files = ["bindings/check", "bindings/nbdkit/check", "examples/mtd/check", "bindings/tests/machines", *["packaging/installed", "packaging/package"] * is_ci]
+    lists = ["".join(its) for file in files for its in PACKAGES.findall((tree.TOP / file).read_text())]
     words = {*" ".join(lists).replace('"', " ").split(), *of_tools.ALL}
     return sorted(words - ({"cargo", "rustc"} if shutil.which("cargo") and not is_ci else set()))
 

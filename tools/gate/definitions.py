@@ -1,7 +1,6 @@
-"""definitions [--write]: docs/DEFINITIONS.md, made from the comments above the public definitions of the crates' specs/ and above the types that a
-crate exports; and docs/CALLS.md, made by calls.py. Without --write it changes nothing, and fails if a page differs; if a definition or a public
-call has no comment; if only functions need a definition that nobody calls; or if one of a public clause has no law, no caller and no reason in
-laws.py."""
+"""definitions [--write]: docs/DEFINITIONS.md, made from the comments above the public definitions of specs/ and above the types that a crate exports;
+and docs/CALLS.md, made by calls.py. Without --write it changes nothing, and fails if a page differs; if a definition or a public call has no comment;
+if only functions need a definition that nobody calls; or if one of a public clause has no law, no caller and no reason in laws.py."""
 
 import re
 
@@ -50,10 +49,6 @@ def part(crate, known):
     return text + (f"**Types**\n\n{table(types, 'Type')}" if types else "")
 
 
-def listed(names):
-    return ", ".join(f"`{name}` of `{crate}`" for crate, _, name in names) or "none"
-
-
 def made(known):
     """The page, and what is wrong with the definitions."""
     names, clauses = {it: its.names for it, its in known.items()}, list(laws.named_by_clauses())
@@ -62,7 +57,8 @@ def made(known):
     promised, everywhere = (tree.reached(set().union(*(it.names for it in clauses if it.kind != kind)), names) for kind in ("requires", ""))
     premises = [it for it in names if it in everywhere - promised]
     crates = [name for name in tree.crates() if (tree.folder(name) / "specs/Lib.antt").exists()]
-    about = SHOWN.format(listed(premises), listed(it for it in names if it not in everywhere), laws.counted(shown_as))
+    lists = (", ".join(f"`{name}` of `{crate}`" for crate, _, name in its) or "none" for its in (premises, [it for it in names if it not in everywhere]))
+    about = SHOWN.format(*lists, laws.counted(shown_as))
     page = tree.beginning("docs/DEFINITIONS.md") + about + "".join(part(name, known) for name in crates).rstrip("\n") + "\n"
     bare = [f"crates/{crate}/specs/{module}.antt: {name}" for (crate, module, name), its in known.items() if not its.sentence]
     bare += [f"crates/{crate}: {name}" for crate in crates for name, sentence in exported_types(crate) if not sentence]

@@ -37,8 +37,7 @@ def named_by_clauses():
 def is_fact(text):
     """Whether this is the proof of a fact, a type of data, or the way it is stored: none can be true of one value and false of another."""
     if text.startswith("pub record "):
-        params = re.findall(r"[({][^:(){}]+:\s*([^(){}]+)[)}]", text.split(" where")[0])
-        return all(it.strip().startswith("Type") for it in params)
+        return all(it.strip().startswith("Type") for it in re.findall(r"[({][^:(){}]+:\s*([^(){}]+)[)}]", text.split(" where")[0]))
     if text.startswith("pub data "):
         return "→" not in text.split(" where")[0]
     return text.startswith("pub ") or re.search(r"(?<!\S): (.*)", text)[1].startswith(("Coded ", "Type "))
@@ -67,9 +66,8 @@ def counted(shown):
 
 def without(shown):
     """The definitions that should have a law and have none, and those that are listed in vain."""
-    lacking = [f"{name} of {crate}" for (crate, _, name), group in shown.items() if not group]
-    for it in (it for it in lacking if it not in WITHOUT):
-        yield f"{it} is named in a public clause, and has neither a law nor a caller: write a law in crates/laws"
+    lacking = {f"{name} of {crate}" for (crate, _, name), group in shown.items() if not group}
+    yield from (f"{it} is named in a public clause, and has neither a law nor a caller: write a law in crates/laws" for it in sorted(lacking - {*WITHOUT}))
     yield from (f"tools/gate/laws.py lists {it} in vain" for it in WITHOUT if it not in lacking)
 
 
@@ -83,6 +81,5 @@ def idle(premises, names, clauses):
     """The definitions of these that only functions need that nobody calls."""
     used = tree.crates()
     needs = [(tree.reached(it.names, names), it) for it in clauses if it.kind == "requires"]
-    for it in premises:
-        if not any(it in needed and is_called(clause.function.name, clause.crate, used) for needed, clause in needs):
-            yield f"only premises name {it[2]} of {it[0]}, and no function that needs it is called"
+    found = {it for it in premises for needed, clause in needs if it in needed and is_called(clause.function.name, clause.crate, used)}
+    yield from (f"only premises name {it[2]} of {it[0]}, and no function that needs it is called" for it in premises if it not in found)

@@ -9,20 +9,17 @@ from gate import tree
 COLUMNS, TERM, FUNCTION, FILE = 160, 60, 40, 800
 MEASURED = {".rt", ".antt", ".rs", ".c", ".h", ".cpp", ".py", ".sh"}
 # Tests whose rows are in their body.
-TABLES = {
-    "collection_and_wear_follow_the_worked_rows", "brooms_answer_as_the_rows_say", "drains_by_the_last_survey_answer_as_the_rows_say",
-    "hosts_answer_as_the_rows_say", "each_call_leaves_the_words_of_the_table",
-}  # fmt: skip
+TABLES = {"collection_and_wear_follow_the_worked_rows", "each_call_leaves_the_words_of_the_table"}
+TABLES |= {f"{its}_as_the_rows_say" for its in ("brooms_answer", "drains_by_the_last_survey_answer", "hosts_answer")}
 SIGNATURE = re.compile(r"( *)(?:pub |abbrev |unfoldable )*([^\s(){}\[\].,;:=]+) :(?: |$)")
 
 
 def sources():
     """The files that are measured, each with its text."""
     listed = subprocess.run(["git", "ls-files", "-co", "--exclude-standard", "-z"], cwd=tree.TOP, capture_output=True, text=True, check=True).stdout
-    for name in sorted(filter(None, listed.split("\0"))):
-        path = tree.TOP / name
-        if path.is_file() and (path.suffix in MEASURED or not (path.is_symlink() or path.suffix) and path.read_bytes().startswith(b"#!")):
-            yield name, path.read_text()
+    for path in (tree.TOP / name for name in sorted(filter(None, listed.split("\0"))) if (tree.TOP / name).is_file()):
+        if path.suffix in MEASURED or not (path.is_symlink() or path.suffix) and path.read_bytes().startswith(b"#!"):
+            yield tree.relative(path), path.read_text()
 
 
 def terms(lines):
@@ -42,11 +39,10 @@ def measured():
         lines = text.splitlines()
         yield "a file", name, len(lines), "lines", FILE
         yield from (("a line", f"{name}:{n}", len(line), "columns", COLUMNS) for n, line in enumerate(lines, 1))
-        if name.endswith(".antt") and "/proofs/" in name:
-            yield from (("a term", f"{name}:{n}: {term}", length, "lines", TERM) for term, n, length in terms(lines))
-        for it in tree.functions(text) if name.endswith(".rt") else ():
-            if it.name not in TABLES:
-                yield "a function", f"{name}:{text.count(chr(10), 0, it.start) + 1}: {it.name}", text.count("\n", it.body, it.end), "lines", FUNCTION
+        its = terms(lines) if name.endswith(".antt") and "/proofs/" in name else ()
+        yield from (("a term", f"{name}:{n}: {term}", length, "lines", TERM) for term, n, length in its)
+        for it in (it for it in (tree.functions(text) if name.endswith(".rt") else ()) if it.name not in TABLES):
+            yield "a function", f"{name}:{text.count(chr(10), 0, it.start) + 1}: {it.name}", text.count("\n", it.body, it.end), "lines", FUNCTION
 
 
 def main(_):

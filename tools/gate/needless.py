@@ -1,12 +1,11 @@
-"""needless CRATE.. | --all | --missing: removes the answers in proofs/ of these crates without which no goal stays open, and the lemmas and imports
-that nothing uses then. But the answer stays at a goal that docs/GALLERY.md names first for a wrong body of the function. In .ci/needed it records the
-answers that are left. `needless --check` fails if a recorded crate has others, and names the crates that were never tried."""
+"""needless CRATE.. | --all | --missing: removes the answers without which no goal stays open, and what only they use, but for the answer to a goal that
+docs/GALLERY.md names first for a wrong body. --check fails if a crate recorded in .ci/needed has others, and names the crates that were never tried."""
 
 import hashlib
 import re
 import sys
 
-from gate import gallery, record, tree
+from gate import gallery, record, said, tree
 from gate.wrong_definitions import part_of
 
 ANSWER = re.compile(r"^pub (\S+) : goal\.\S+$", re.M)
@@ -30,8 +29,8 @@ class Needed(record.Record):
         return [name for name in self.used if files(tree.folder(name)) and not any("#[test]" in path.read_text() for path in tree.sources(name))]
 
     def sum_of(self, name):
-        its = [(function, goal) for function, path in files(tree.folder(name)).items() for goal in ANSWER.findall(path.read_text())]
-        return hashlib.sha256(repr(its).encode()).hexdigest()
+        its = [(it, goal) for it, path in files(tree.folder(name)).items() for goal in ANSWER.findall(path.read_text())]
+        return hashlib.sha256(repr(sorted((said.OF_FUNCTION.sub("", f"{it}/Answers.antt"), goal) for it, goal in its)).encode()).hexdigest()
 
 
 def tried(room, name):
@@ -51,28 +50,19 @@ def tried(room, name):
     return opened, "" if "\nholes=" in said else said
 
 
-def of_edits(name):
-    """The goals that refuse the wrong bodies of a crate, each as the name of its function and its own."""
-    goals = gallery.goals_on_page()
-    for edit in tree.edits(name):
-        for place in gallery.places_of(edit):
-            yield from ((place and place.name, goal) for goal in re.findall(r"`([\w-]+)`", goals.get((name, gallery.in_words(edit.name)), ""))[:1])
-
-
-def is_needed(function, goal, needed):
-    """Whether a goal stays open without its answer. Of the clauses of an invariant the check may name the invariant alone, and an answer to all
-    clauses of a contract is needed if one of them stays open."""
-    wholes = {(other, clause.split("-clause-")[0]) for other, clause in needed}
-    return bool({(function, goal), (function, goal.split("-clause-")[0])} & needed) or (function, goal) in wholes
-
-
 def cut(name, needed):
     """Removes the answers of a crate that it doesn't need. Returns how many."""
-    gone, kept = 0, set(of_edits(name))
+    # The goals that refuse the wrong bodies of the crate, each as the name of its function and its own.
+    gone, goals = 0, gallery.goals_on_page()
+    refusals = ((it, re.findall(r"`([\w-]+)`", goals.get((name, gallery.in_words(it.name)), ""))[:1]) for it in tree.edits(name))
+    kept = {(place and place.name, goal) for it, refusal in refusals for place in gallery.places_of(it) for goal in refusal}
+    # Of the clauses of an invariant the check may name the invariant alone, and an answer to all clauses of a contract is needed if one stays open.
+    wholes = {(function, clause.split("-clause-")[0]) for function, clause in needed}
     for function, path in files(tree.folder(name)).items():
         text = path.read_text()
         goals = set(ANSWER.findall(text))
-        stay = {goal for goal in goals if is_needed(function, goal, needed) or {(function.split("/")[-1], goal), (None, goal)} & kept}
+        stay = {goal for goal in goals if (function, goal) in needed | wholes or (function, goal.split("-clause-")[0]) in needed}
+        stay |= {goal for goal in goals if {(function.split("/")[-1], goal), (None, goal)} & kept}
         gone += len(goals - stay)
         if stay and stay != goals:
             path.write_text(part_of(text, stay))

@@ -1,9 +1,9 @@
-"""promises: checks that what the pages name exists in the sources: calls with their clauses, the steps of the rule, words of code, items, files,
-links, versions of the toolchain, and files shown whole. A table of calls has each public one of its type or crate. A page names its reader in the
-first line, links the glossary where it first uses a word of it, and has no two headings with the same text. No two files of specs/ define the same
-name, but those that the glossary lists."""
+"""promises: checks that what the pages name exists in the sources: calls with their clauses, steps of the rule, words of code, items, files, links,
+versions, and files shown whole. A table of calls has each public one of its type or crate. A page names its reader in the first line, links the
+glossary where it uses a word of it, and has no heading twice. No two files of specs/ define the same name, but those that the glossary lists."""
 
 import re
+from collections import defaultdict
 from functools import cache
 
 from gate import calls, laws, record, tree
@@ -87,8 +87,7 @@ def wrong_steps(page, lines):
         yield from (f"{page}:{number}: {call} doesn't make it" for call in calls if call not in makes)
     for number, (plays, said) in rows(lines, "Play", "Tells"):
         yield from (f"{page}:{number}: {play} doesn't tell {said}" for play in plays if [tells.get(play)] != said)
-    if seen:
-        yield from (f"{page}: no row for the step {play}" for play in sorted(made.union(tells) - seen))
+    yield from (f"{page}: no row for the step {play}" for play in (sorted(made.union(tells) - seen) if seen else ()))
 
 
 def words_of_sources():
@@ -102,10 +101,9 @@ def words_of_sources():
 
 def twice_defined():
     """The names that two files of specs/ define and the glossary doesn't list, and those that it lists in vain."""
-    files = {}
-    for path in tree.TOP.glob("crates/*/specs/*.antt"):
-        for name in {it["name"] for it in tree.DEFINITION.finditer(path.read_text())}:
-            files.setdefault(name, []).append(tree.relative(path))
+    files = defaultdict(list)
+    for name, path in {(it["name"], path) for path in tree.TOP.glob("crates/*/specs/*.antt") for it in tree.DEFINITION.finditer(path.read_text())}:
+        files[name].append(tree.relative(path))
     twice = {name: sorted(its) for name, its in files.items() if len(its) > 1}
     listed = {name for _, [names] in rows(text_of("docs/GLOSSARY.md").splitlines(), "Defined twice") for name in names}
     yield from (f"{twice[name][1]}: {name} is also defined in {twice[name][0]}" for name in sorted(set(twice) - listed))
@@ -116,17 +114,14 @@ def leads(page, link):
     """Whether a link of a page leads to a file, and to a heading in it if it names one."""
     file, _, heading = link.partition("#")
     target = page.parent / file if file else page
-    if not heading or not target.is_file():
-        return target.exists() and not heading
-    titles = re.findall(r"^#+ (.*)", target.read_text(), re.M)
-    return heading in [re.sub(r"[^\w\- ]", "", title).strip().lower().replace(" ", "-") for title in titles]
+    titles = re.findall(r"^#+ (.*)", target.read_text(), re.M) if target.is_file() else ()
+    return heading in [re.sub(r"[^\w\- ]", "", title).strip().lower().replace(" ", "-") for title in titles] if heading else target.exists()
 
 
 def differing_copies(page):
     """The files that a page says to show whole, and shows otherwise."""
     for link, shown in re.findall(r"\]\(([^)]+)\), whole:\n\n```\w*\n(.*?)```", page.read_text(), re.S):
-        if (page.parent / link).read_text() != shown:
-            yield f"{tree.relative(page)}: {link} is different in its file"
+        yield from [f"{tree.relative(page)}: {link} is different in its file"] if (page.parent / link).read_text() != shown else []
     crates = tree.crate_lines().values()
     for lines in re.findall(r"\n```\n(geometry:\n.*?)```", page.read_text(), re.S):
         yield from (f"{tree.relative(page)}: crates.txt has no line `{line}`" for line in lines.splitlines() if line not in crates)
@@ -135,21 +130,16 @@ def differing_copies(page):
 def wrong_shape(page, text, prose):
     """The headings that a page has twice, and its words if it has too many."""
     titles = [line for line in prose if line.startswith("#")]
-    if not re.match(r"# .*\n\n(?:For |.* for )", text):
-        yield f"{page}: the first line doesn't name its reader"
+    yield from [] if re.match(r"# .*\n\n(?:For |.* for )", text) else [f"{page}: the first line doesn't name its reader"]
     yield from (f"{page}: there are two headings {title.lstrip('# ')}" for title in sorted(set(titles)) if titles.count(title) > 1)
-    if (words := len(text.split())) > MOST_WORDS.get(page, words):
-        yield f"{page}: {words} words, and at most {MOST_WORDS[page]} are wanted"
+    yield from [f"{page}: {words} words, and at most {most} are wanted"] if (words := len(text.split())) > (most := MOST_WORDS.get(page, words)) else []
 
 
 def without_glossary(page, prose):
     """The first line with a word of the glossary, if neither it nor an earlier line links the glossary."""
-    for number, line in enumerate(prose, 1):
-        if "GLOSSARY.md" in line:
-            return
-        if word := OF_GLOSSARY.search(line):
-            yield f"{page}:{number}: {word[0]} is a word of the glossary, which isn't linked yet"
-            return
+    number, line = next((it for it in enumerate(prose, 1) if "GLOSSARY.md" in it[1] or OF_GLOSSARY.search(it[1])), (0, "GLOSSARY.md"))
+    if "GLOSSARY.md" not in line:
+        yield f"{page}:{number}: {OF_GLOSSARY.search(line)[0]} is a word of the glossary, which isn't linked yet"
 
 
 @cache
@@ -162,13 +152,11 @@ def wrong_code(page, code, known):
     """What a page names in code quotes and isn't there: a file, an item of a crate or of a module, or on some pages any word."""
     places = [tree.TOP / code, tree.TOP / "crates" / code, tree.TOP / f"crates/{code}.antt"]
     is_path = re.fullmatch(r"[\w.]+(/[\w.-]+)+", code) and "NAME" not in code and "out" not in code.split("/")
-    if is_path and not any(place.exists() for place in places):
-        yield f"no file {code}"
-    for place, item in re.findall(r"(?<![\w:])([a-z]\w*)::(\w+)", code):
-        if words_in(place) and item not in words_in(place):
-            yield f"{place} has no {item}"
-    if page in PAGES:
-        yield from (f"{word} doesn't occur in the sources" for word in re.findall(r"_*[A-Za-z]\w+", code) if word not in known)
+    yield from [f"no file {code}"] if is_path and not any(place.exists() for place in places) else []
+    its = re.findall(r"(?<![\w:])([a-z]\w*)::(\w+)", code)
+    yield from (f"{place} has no {item}" for place, item in its if words_in(place) and item not in words_in(place))
+    words = re.findall(r"_*[A-Za-z]\w+", code) if page in PAGES else ()
+    yield from (f"{word} doesn't occur in the sources" for word in words if word not in known)
 
 
 def main(_):
@@ -185,6 +173,6 @@ def main(_):
             wrong += [f"{page}:{number}: nothing at {link}" for link in re.findall(r"\]\(([^):]+)\)", line) if not leads(path, link)]
         if page in PAGES:
             wrong += [*wrong_rows(page, prose, groups), *wrong_steps(page, prose)]
-        for it in sorted(recorded ^ set(VERSION.findall(text))) if page in ("README.md", "docs/PROVED.md") else ():
-            wrong += [f"{page}: {it} is {'in the record, and not on the page' if it in recorded else 'on the page, and not in the record'}"]
+        versions = sorted(recorded ^ set(VERSION.findall(text))) if page in ("README.md", "docs/PROVED.md") else ()
+        wrong += [f"{page}: {it} is {'in the record, and not on the page' if it in recorded else 'on the page, and not in the record'}" for it in versions]
     return tree.verdict(wrong, "each link leads somewhere, and each call, clause, step and word of code on the pages exists in the sources")

@@ -2,28 +2,17 @@
 
 import hashlib
 import os
+import re
 import subprocess
 import threading
 from concurrent.futures import ThreadPoolExecutor
 from contextlib import ExitStack
 
-from gate import tree
-
-# The beginning of a line that holds only a comment, by the suffix of the file.
-COMMENTS = {".rt": "//", ".antt": "--"}
-
+from gate import said, tree
 
 def version():
     """The line that `rt version` prints."""
     return subprocess.run(["rt", "version"], check=True, capture_output=True, text=True).stdout.strip()
-
-
-def meaning(path):
-    """The text of a file without empty lines and lines that hold only a comment, which no check reads."""
-    if path.suffix not in COMMENTS:
-        return path.read_bytes()
-    lines = (it for it in path.read_text().splitlines() if it.strip() and not it.lstrip().startswith(COMMENTS[path.suffix]))
-    return "\n".join(lines).encode()
 
 
 def files_of(name, *parts):
@@ -32,12 +21,10 @@ def files_of(name, *parts):
 
 
 def sum_of(parts):
-    """A sum of what some files and edits mean. An edit counts as a file of its own, whichever file it is in."""
-    total = hashlib.sha256()
-    for it in dict.fromkeys(parts):
-        name, text = (f"crates/{it.crate}/{it.kind}/{it.name}.edit", it.text.encode()) if isinstance(it, tree.Edit) else (tree.relative(it), meaning(it))
-        total.update(f"{name}\n".encode() + hashlib.sha256(text).digest())
-    return total.hexdigest()
+    """A sum of what some files and edits say. An edit counts as a file of its own, whichever file it is in and changes."""
+    edits = [it for it in parts if isinstance(it, tree.Edit)]
+    its = {(f"{it.crate}/{it.kind}/{it.name}.edit", re.sub(r"^file: .*\n", "", it.text, flags=re.M)) for it in edits}
+    return hashlib.sha256(repr(sorted(its | said.of({*parts} - {*edits}))).encode()).hexdigest()
 
 
 def in_copies(names, work):

@@ -15,16 +15,14 @@ from tempfile import TemporaryDirectory
 TOP = Path(__file__).resolve().parents[2]
 # The parts of a file of Rattle that tell which functions it has: the end of an item, the type that methods are of, and a function.
 PARTS = re.compile(
-    r"^(?:(?P<end>\})"
-    r"|(?P<kind>impl|pub trait|trait)\b(?:<[^>\n]*>)? (?P<type>[^{\n]*)"
-    r'|(?P<indent> *)(?P<public>pub )?(?:pub\(\w+\) )?(?:const |unsafe |extern "C" )*fn (?P<name>\w+))',
-    re.M,
-)
+    r"^(?:(?P<end>\})|(?P<kind>impl|pub trait|trait)\b(?:<[^>\n]*>)? (?P<type>[^{\n]*)"
+    r'|(?P<indent> *)(?P<public>pub )?(?:pub\(\w+\) )?(?:const |unsafe |extern "C" )*fn (?P<name>\w+))', re.M,
+)  # fmt: skip
 # An import, and how one of its items names the module that it is of.
 IMPORT = re.compile(r"^((?:pub |ghost )?use )([^\s{}]+)\.\{([^{}]*)\}(;?)$", re.M)
 WITHIN = re.compile(r"((?:\w+\.)*)(\S.*)")
-# How a file imports definitions: several of a module, one of it, or the module under another name.
-USE = re.compile(r"^\s*(?:ghost |pub )?use Rattle\.(\w+)\.specs\.(\w+)(?:\.\{([^}]*)\}|\.(\S+?))?(?: as (\w+))?;?\s*$", re.M)
+# The same in a definition or in code: its head, the path before the braces, what is in them, and what is behind them.
+IMPORTED = re.compile(r"^ *((?:pub(?:\(\w+\))? |ghost )*)use ([^;{}\n]*)(?:\{([^{}]*)\})?([^;{}\n]*);?(?:\n|\Z)", re.M)
 WORD = re.compile(r"[^\s(){}\[\],;.]+(?:\.[^\s(){}\[\],;.]+)*")
 # A public definition of specs/ and a type of src/, each with the comment above it.
 DEFINITION = re.compile(
@@ -36,11 +34,8 @@ CLAUSE = re.compile(r"(?P<comment>(?:^ *//(?!/).*\n)*)^\s*(?:pub )?(?P<kind>requ
 # An edit with its twin: its name, and its lines.
 EDIT = re.compile(r"edit: (\w+)\n((?:(?:(?:file|law|definition): .*\n)*old: .*\nnew:.*\ntwin:.*\n)+)\n*")
 # Each kind of edits, with the file of a crate that has them, and a change of its lines that leaves those of the kind.
-KINDS = {
-    "must-fail": ("wrong-bodies", r"^twin:.*\n", ""),
-    "twins": ("wrong-bodies", r"^new:.*\ntwin:", "new:"),
-    "wrong-definitions": ("wrong-definitions", "", ""),
-}  # fmt: skip
+KINDS = {"must-fail": ("wrong-bodies", r"^twin:.*\n", ""), "twins": ("wrong-bodies", r"^new:.*\ntwin:", "new:")}
+KINDS["wrong-definitions"] = ("wrong-definitions", "", "")
 # A function of a file: the type that it is a method of, or "", its name after that of the type, and the places of its head, its body and its end.
 Function = namedtuple("Function", "name type called of_trait public start body end")
 # A clause of a file, or a proof in its code, which has no kind: its places, its label, the comment above it, and its text.
@@ -144,16 +139,18 @@ def by_module(text):
     return IMPORT.sub(each, text)
 
 
+@cache
+def imported(text):
+    """What a file imports: of each thing the head of the import, its path, and the name that it has there."""
+    its = ((head, first, it.strip(), rest) for head, first, group, rest in IMPORTED.findall(text) for it in (group.split(",") if group else [""]))
+    paths = [(head, *f"{first}{it}{rest}".replace("::", ".").split(" as ")) for head, first, it, rest in its if it or first[-1] not in ".:"]
+    return [(head, path.strip(), (here or [path.split(".")[-1]])[0].strip()) for head, path, *here in paths]
+
+
 def imports(text):
-    """What a file imports, by the name that it has there: each definition as its crate, module and name, and each whole module without a name."""
-    names = {}
-    for crate, module, group, one, other in USE.findall(by_module(text)):
-        if not group and not one:
-            names[other] = crate, module
-        for it in filter(None, (word.strip() for word in (group or one).split(","))):
-            name, _, here = it.partition(" as ")
-            names[(here or other or name).strip()] = crate, module, name.strip()
-    return names
+    """The definitions that a file imports, by the name that each has there: its crate, module and name, or a whole module without a name."""
+    its = ((here, re.fullmatch(r"Rattle\.(\w+)\.specs\.(\w+)(?:\.(.*))?", path)) for _, path, here in imported(text))
+    return {here: tuple(filter(None, it.groups())) for here, it in its if it}
 
 
 def cited(text, names):

@@ -1,6 +1,5 @@
-"""twins CRATE.. | --all | --missing: shows that this machine's toolchain proves the twins of the wrong bodies of these crates, of all, or of those
-without an entry in .ci/proved-twins: those of different places of a crate in one copy of it, and those of the same place in further copies. `twins
---check` fails if a wrong body or a twin doesn't fit its file, and names the crates without an entry."""
+"""twins CRATE.. | --all | --missing: shows that the twins of the wrong bodies of these crates, of all, or of those without an entry in .ci/proved-twins
+are proved. `twins --check` fails if a wrong body or a twin doesn't fit its file, and names the crates without an entry."""
 
 import re
 
@@ -20,8 +19,8 @@ def together(edits):
     texts, left = {}, []
     for it in edits:
         more = tree.edited(texts, it)
-        if more is None and (wrong := misfits([it])):
-            raise SystemExit(wrong[0])
+        for wrong in misfits([it]) if more is None else ():
+            raise SystemExit(wrong)
         texts, left = (texts, [*left, it]) if more is None else (more, left)
     return texts, left
 

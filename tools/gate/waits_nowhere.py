@@ -1,7 +1,6 @@
-"""waits-nowhere: checks the text of the crates that a call of the shared device runs through: each loop is one of LOOPS, each call is of a
-function of these crates or one of CALLS, and no function calls itself, directly or through others of its crate. docs/PROVED.md says what this
-is for, and what it doesn't see. Two things it leaves to the toolchain: functions that call each other have `#[cycle]`, which is no listed call
-here; and one that calls itself has a measure in a folder `+NAME`, unless it goes down a value of a type that contains itself, which none may here."""
+"""waits-nowhere: checks the text of the crates that a call of the shared device runs through: each loop is one of LOOPS, each call is of a function of
+these crates or one of CALLS, and no function calls itself. docs/PROVED.md says what this is for, and what it doesn't see. The toolchain gives functions
+that call each other `#[cycle]`, and one that calls itself a measure in a folder `+NAME`, unless it goes down a type that contains itself; none is here."""
 
 import re
 from collections import Counter
@@ -10,45 +9,35 @@ from functools import cache
 from gate import tree
 
 CRATES = ("geometry", "flash_rule", "flash_table", "host", "broom", "erase_queue", "volume", "handles", "exports")
-# Each loop, as its file, its function, its head with the values that its bound has there, and why it ends after a number of turns that no
-# other thread can raise.
+# Each loop, as its head with the values that its bound has, why it ends after a number of turns that no other thread can raise, and where it is.
 LOOPS = """
-geometry/victim.rt | greedy | for i in 0..counts.len() | the blocks
-flash_table/open.rt | Flash::open | for _ in 0..hosts where hosts = flash.geometry.hosts() as usize | the hosts
-flash_table/open.rt | Flash::open | for i in 0..count where count = flash.geometry.brooms() | the brooms
-host/searching.rt | search | loop | the looks of a search: it looks again only after the page's block was collected, at most 2·blocks·endurance times
-host/searching.rt | read_page | for i in 0..flash.geometry().words() | the words of a page
-host/writing.rt | take_lowest | for block in 0..flash.geometry().blocks() | the blocks of a take
-host/writing.rt | fill | for i in 0..words where words = flash.geometry().words() | the words of a page
-broom/dead.rt | inspect | for sector in 0..flash.geometry().sectors() | the sectors
-broom/erasing.rt | wipe_all | for i in 0..geometry.pages() * (geometry.words() + 1) | the words of a block
-broom/ranking.rt | Ranking::make | for block in 0..counts.len() | the blocks
-broom/ranking.rt | Ranking::first | while self.next < self.keys.len() | the blocks that are ranked, each once for all calls
-broom/relocation.rt | copy_page | for i in 0..words where words = flash.geometry().words() | the words of a page
-broom/relocation.rt | relocate | for page in 0..victim.written | the pages of a block
-broom/restocking.rt | take_lowest | for block in 0..flash.geometry().blocks() | the blocks of a take
-broom/state.rt | count_blocks | for block in 0..flash.geometry().blocks() | the blocks
-broom/survey.rt | load_states | for block in 0..flash.geometry().blocks() | the blocks
-broom/survey.rt | count_pages | for sector in 0..flash.geometry().sectors() | the sectors
-erase_queue/queue.rt | fix_limit | for _ in 0..limit | the numbers of a queue
-erase_queue/queue.rt | EraseQueue::new | for _ in 0..brooms | the brooms
-volume/closing.rt | meet_each | for other in others.iter_mut() | the hosts
-volume/closing.rt | read_all | for sector in 0..count where count = flash.geometry().sectors() | the sectors
-volume/closing.rt | retire_all | while let Some(pass) = passes.next() | the hosts
-volume/opening.rt | fold_seats | while let Some(seat) = seats.next() | the brooms
-volume/opening.rt | fold_all | while let Some(broom) = brooms.pop() | the brooms
-volume/opening.rt | make_brooms | while let Some(seat) = seats.next() | the brooms
-exports/shared/opening.rt | close_all | for handle in handles.iter_mut() | the handles
-exports/shared/opening.rt | retire_passes | while let Some(pass) = passes.pop() | the hosts
-exports/shared/opening.rt | retire_brooms | while let Some(broom) = brooms.pop() | the brooms
-exports/shared/opening.rt | seat_hosts | while let Some(pass) = passes.pop() | the hosts
-exports/shared/opening.rt | seat_brooms | while let Some(broom) = brooms.pop() | the brooms
-exports/shared/opening.rt | are_closed | for handle in handles.iter() | the handles
+for i in 0..counts.len() :: the blocks :: geometry/victim.rt greedy
+for _ in 0..hosts where hosts = flash.geometry.hosts() as usize :: the hosts :: flash_table/open.rt Flash::open
+for i in 0..count where count = flash.geometry.brooms() :: the brooms :: flash_table/open.rt Flash::open
+loop :: the looks of a search: it looks again only after the page's block was collected, at most 2·blocks·endurance times :: host/searching.rt search
+for i in 0..flash.geometry().words() :: the words of a page :: host/searching.rt read_page
+for block in 0..flash.geometry().blocks() :: the blocks :: host/writing.rt take_lowest, broom/restocking.rt take_lowest
+for block in 0..flash.geometry().blocks() :: the blocks :: broom/state.rt count_blocks, broom/survey.rt load_states
+for i in 0..words where words = flash.geometry().words() :: the words of a page :: host/writing.rt fill, broom/relocation.rt copy_page
+for sector in 0..flash.geometry().sectors() :: the sectors :: broom/dead.rt inspect, broom/survey.rt count_pages
+for i in 0..geometry.pages() * (geometry.words() + 1) :: the words of a block :: broom/erasing.rt wipe_all
+for block in 0..counts.len() :: the blocks :: broom/ranking.rt Ranking::make
+while self.next < self.keys.len() :: the blocks that are ranked, each once for all calls :: broom/ranking.rt Ranking::first
+for page in 0..victim.written :: the pages of a block :: broom/relocation.rt relocate
+for _ in 0..limit :: the numbers of a queue :: erase_queue/queue.rt fix_limit
+for _ in 0..brooms :: the brooms :: erase_queue/queue.rt EraseQueue::new
+for other in others.iter_mut() :: the hosts :: volume/closing.rt meet_each
+for sector in 0..count where count = flash.geometry().sectors() :: the sectors :: volume/closing.rt read_all
+while let Some(pass) = passes.next() :: the hosts :: volume/closing.rt retire_all
+while let Some(seat) = seats.next() :: the brooms :: volume/opening.rt fold_seats, volume/opening.rt make_brooms
+while let Some(broom) = brooms.pop() :: the brooms :: volume/opening.rt fold_all, exports/shared/opening.rt retire_brooms, exports/shared/opening.rt seat_brooms
+for handle in handles.iter_mut() :: the handles :: exports/shared/opening.rt close_all
+while let Some(pass) = passes.pop() :: the hosts :: exports/shared/opening.rt retire_passes, exports/shared/opening.rt seat_hosts
+for handle in handles.iter() :: the handles :: exports/shared/opening.rt are_closed
 """.strip().splitlines()
 # The calls of other crates and of closures, each line with why they end. None of them takes a function or an iterator, or looks at a word without a step.
 CALLS = """
-atomic_table: one step on a word | load store swap compare_exchange fetch_add fetch_sub fetch_or
-atomic_table: one step on what two seats know | join_seat split_seat
+atomic_table: one step on a word, or on what two seats know | load store swap compare_exchange fetch_add fetch_sub fetch_or join_seat split_seat
 atomic_table: makes a table of these words | of_words
 crossbeam_queue: makes a queue, or a pass of one | ruled another capacity
 crossbeam_queue: may wait, and so takes the handle for that | push_as pop_as
@@ -114,11 +103,10 @@ class Source:
 
 def wrong_loops(files):
     """The loops that aren't listed, and those that are and aren't there."""
-    wanted = Counter(line.rpartition(" | ")[0] for line in LOOPS)
+    wanted = Counter(f"{it.replace(' ', ' | ')} | {head}" for head, _, places in (line.split(" :: ") for line in LOOPS) for it in places.split(", "))
     for file in files:
         for line, place in file.loops():
-            if not wanted[line]:
-                yield f"{file.at(place)}: a loop that isn't listed: {line}"
+            yield from [] if wanted[line] else [f"{file.at(place)}: a loop that isn't listed: {line}"]
             wanted[line] -= 1
     yield from (f"tools/gate/waits_nowhere.py: no loop {line}" for line, count in wanted.items() if count > 0)
 
@@ -129,8 +117,8 @@ def wrong_calls(files):
     known = {it.name for file in files for it in file.functions} | others
     for file in files:
         for path, name, macro, place in calls(file.code):
-            if name not in (MACROS if macro else others if path.startswith("std::") else known - ITERATORS if path == "." else known):
-                yield f"{file.at(place)}: a call that isn't listed: {path}{name}{'!' if macro else ''}"
+            is_known = name in (MACROS if macro else others if path.startswith("std::") else known - ITERATORS if path == "." else known)
+            yield from [] if is_known else [f"{file.at(place)}: a call that isn't listed: {path}{name}{'!' if macro else ''}"]
 
 
 def wrong_cycles(files):
@@ -152,4 +140,4 @@ def main(_):
     files = [Source(path) for crate in CRATES for path in tree.sources(crate)]
     unreadable = (f"{tree.relative(it.path)}: this check can't read `{found[0]}`" for it in files if (found := UNREADABLE.search(it.text)))
     wrong = [*unreadable, *wrong_loops(files), *wrong_calls(files), *wrong_cycles(files)]
-    return tree.verdict(wrong, f"no call of the shared device has a loop but the {len(LOOPS)} listed ones, an unlisted call, or one of itself")
+    return tree.verdict(wrong, f"no call of the shared device has a loop but listed ones, an unlisted call, or one of itself")

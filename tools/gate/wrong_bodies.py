@@ -1,7 +1,6 @@
-"""wrong-bodies CRATE.. | --all: tries the wrong bodies of these crates, or of all, with this machine's toolchain: `rt ci` in a copy that has these
-crates and those below them. Each crate whose wrong bodies are all refused gets an entry in .ci/refused, and docs/GALLERY.md gets the goals that the
-refusals name. With --all it then proves all twins. `wrong-bodies --write CRATE..` only writes them as files of crates/CRATE/must-fail/, which git
-ignores, and removes those of other crates: `rt must-fail CRATE` tries them."""
+"""wrong-bodies CRATE.. | --all: tries the wrong bodies of these crates, or of all, by `rt ci` in a copy that has these crates and those below them. Each
+crate whose wrong bodies are all refused gets an entry in .ci/refused, and docs/GALLERY.md gets the goals that the refusals name. With --all it then
+proves all twins. `wrong-bodies --write CRATE..` only writes them to crates/CRATE/must-fail/, which git ignores, for `rt must-fail CRATE`."""
 
 import re
 import shutil

@@ -1,7 +1,6 @@
 """wrong-definitions CRATE.. | --all | --missing | --check: shows that laws refuse the wrong definitions of these crates, of all, or of those without
-an entry in .ci/refused-definitions. The prover reads the law that an edit names with a copy of the definition made wrong, in one text or in several,
-and with one only written otherwise (its twin); what stands between them is copied too. The clause has to stay open with the wrong one, and the whole
-law has to be proved with the twin. --check names the crates without an entry, and fails if an edit fits no definition or names no law."""
+an entry in .ci/refused-definitions. The prover reads the law that an edit names with a copy of the definition made wrong, and with one only written
+otherwise (its twin): the clause has to stay open, and then be proved. --check names crates without an entry, and edits that fit no definition or law."""
 
 import re
 import runpy
@@ -48,10 +47,8 @@ def sources():
 def place_of(edit, texts):
     """The file of an edit's definition, and where its text begins and ends, or None if the old text isn't in it exactly once."""
     head = re.compile(rf"^(?:abbrev |unfoldable )?pub (?:record |data )?{re.escape(edit.definition)} .*?(?=^\n|\Z)", re.M | re.S)
-    for it in (it for it in texts if it[:2] == (edit.crate, "specs")):
-        if found := head.search(texts[it]):
-            return (it, *found.span()) if all(found[0].count(old) == 1 for old in edit.old) else None
-    return None
+    it, found = next(((it, its) for it in texts if it[:2] == (edit.crate, "specs") and (its := head.search(texts[it]))), (None, None))
+    return (it, *found.span()) if found and all(found[0].count(old) == 1 for old in edit.old) else None
 
 
 def law_of(edit):
@@ -68,10 +65,8 @@ def law_of(edit):
 def misfits(all_edits, texts):
     """What is wrong with these edits."""
     for it in all_edits:
-        if place_of(it, texts) is None:
-            yield f"{it.place} changes a text that isn't in {it.definition} of {it.crate} exactly once"
-        if law_of(it) is None:
-            yield f"{it.place} names {it.law} {it.clause}, which is no clause of a law"
+        yield from [] if place_of(it, texts) else [f"{it.place} changes a text that isn't in {it.definition} of {it.crate} exactly once"]
+        yield from [] if law_of(it) else [f"{it.place} names {it.law} {it.clause}, which is no clause of a law"]
 
 
 def part_of(text, wanted):
@@ -142,13 +137,10 @@ def fault_of(edit, said):
     refusals = [it for it in lines if re.search(rf"proofs/wrong/{edit.wrong}/|src/wrong/{edit.wrong}\.rt:|::wrong::{edit.wrong}::", it)]
     if unread := [it for it in lines if re.search(rf"(?:specs/|src/wrong/)(?:{edit.wrong}|{edit.twin})[_.].*: error", it)]:
         return f"can't be read: {unread[0]}"
-    if edit.wrong in well:
-        return f"NOT REFUSED by {edit.law}"
-    if not any(re.search(rf"returns-clause-{edit.clause}\b", it) for it in refusals):
-        return f"is refused, but not by the clause {edit.clause} of {edit.law}"
-    if edit.twin not in well:
-        return ": ".join(["has a twin that is not proved", *(it for it in lines if f"proofs/wrong/{edit.twin}/" in it)][:2])
-    return ""
+    if edit.wrong in well or not any(re.search(rf"returns-clause-{edit.clause}\b", it) for it in refusals):
+        return f"NOT REFUSED by {edit.law}" if edit.wrong in well else f"is refused, but not by the clause {edit.clause} of {edit.law}"
+    twins = ["has a twin that is not proved", *(it for it in lines if f"proofs/wrong/{edit.twin}/" in it)]
+    return "" if edit.twin in well else ": ".join(twins[:2])
 
 
 def refused(names):

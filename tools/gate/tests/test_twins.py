@@ -27,7 +27,7 @@ class Twins(Small):
         self.assertIn("still to prove: the twins of low, high", self.run_main(twins, "--check"))
         self.run_main(twins, "--all")
         self.assertNotIn("still to prove", self.run_main(twins, "--check"))
-        self.write("crates/low/specs/Low.antt", "-- changed\n")
+        self.write("crates/low/specs/Low.antt", "changed : ℕ\nchanged = 1\n")
         self.assertIn("still to prove: the twins of low, high", self.run_main(twins, "--check"))
 
     def test_only_what_is_missing_is_proved(self):

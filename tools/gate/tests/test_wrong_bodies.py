@@ -75,7 +75,7 @@ class Refused(Small):
 
     def test_a_changed_text_is_tried_with_the_version_at_hand(self):
         self.version(NEW)
-        self.write("crates/high/src/lib.rt", "mod changed;\n")
+        self.write("crates/high/src/lib.rt", "const CHANGED: u8 = 1;\n")
         self.assertEqual(self.gate()[1], ["high", "uses"])
         self.assertEqual(self.entries(), [("high", NEW), ("low", OLD), ("uses", OLD)])
         self.assertEqual(wrong_bodies.refused().versions(), {"uses": [OLD], "low": [OLD], "high": [NEW]})
@@ -89,7 +89,7 @@ class Refused(Small):
         self.write("crates/low/src/lib.rt", "/// Other words,\n  // on more lines.\n")
         self.assertEqual(self.gate()[1], ["uses"])
         self.assertEqual(self.record(), before)
-        self.write("crates/low/src/lib.rt", "mod changed; // low\n")
+        self.write("crates/low/src/lib.rt", "const CHANGED: u8 = 1; // low\n")
         self.assertEqual(self.gate()[1], ["low", "uses"])
 
     def test_all_adds_its_entries_and_takes_none_of_another_version_away(self):
