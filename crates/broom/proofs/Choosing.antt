@@ -5,7 +5,7 @@ use Rattle.std.proofs.lemmas.List.{get_or_past, length-map, FromFn.get_or-map-ra
 use Rattle.geometry.proofs.{Choosing.greedy_of-closed, Histories.Begins-refl}
 use mathlib.Core.Logic.{dite}
 use native.Mathlib.Decide.{dec_lt}
-use Rattle.geometry.specs.{Geometry.blocks_of, Limits.Numbers, declared.pin_word.PinWord.PinWord}
+use Rattle.geometry.specs.{Geometry.blocks_of, Limits.Numbers, declared.words.PinWord.PinWord}
 use Rattle.geometry.specs.{Greedy.greedy_of, Greedy.IsClosed, History.Call, History.Begins}
 use Rattle.flash_rule.specs.{declared.facts.Name.Name, declared.facts.Work.Work, declared.facts.Source.Source, declared.view.View.View, Views.AreOfHosts}
 use Rattle.flash_table.specs.declared.{flash.Flash.Flash, broom_seat.BroomBlocks.BroomBlocks, broom_seat.BroomSeat.BroomSeat}

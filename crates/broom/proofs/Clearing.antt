@@ -2,7 +2,7 @@
 use Rattle.std.proofs.Common.{◌≡◌, ℕ, ◌+◌, ◌-◌, ◌<◌, ◌≤◌, Bool, true, false, MatchBool, ◌⊎◌, inl, inr, ⊎_elim, List, [], ◌∷◌, ◌++◌, length, append-nil}
 use Rattle.std.proofs.Common.{append_assoc, Option, None, Some, sym, refl, ap, ◌∙◌, subst, arith}
 use Rattle.geometry.specs.{Geometry.pages_of, Limits.Numbers}
-use Rattle.geometry.specs.{MapWords.FitsMap, MapWords.map_word, declared.map_word.MapWord.MapWord}
+use Rattle.geometry.specs.{Words.FitsMap, Words.map_word, declared.words.MapWord.MapWord}
 use Rattle.geometry.proofs.Histories.{Begins-refl}
 use Rattle.flash_rule.specs.declared.{facts.Owned.Owned, facts.Work.Work, facts.Source.Source, view.View.View}
 use Rattle.flash_rule.specs.{Views.AreOfHosts, Plays.next_page, BroomPlays.Moved}

@@ -5,7 +5,7 @@ use Rattle.std.proofs.Common.{arith, length-append}
 use Rattle.std.proofs.{Math.ListN.get_or, Math.ListN.get_or-append, lemmas.List.get_or-append_right}
 use mathlib.Core.Logic.{dite}
 use native.Mathlib.Decide.{ℕ_discrete}
-use Rattle.geometry.specs.{Geometry.pages_of, Geometry.words_of, declared.map_word.MapWord.MapWord, Limits.Numbers}
+use Rattle.geometry.specs.{Geometry.pages_of, Geometry.words_of, declared.words.MapWord.MapWord, Limits.Numbers}
 use Rattle.geometry.proofs.Histories.{Begins-refl, Begins-push}
 use Rattle.flash_rule.specs.declared.{facts.Owned.Owned, facts.Work.Work, facts.Source.Source, view.View.View}
 use Rattle.flash_rule.specs.{Views.AreOfHosts, Views.owned_at, Views.with_owned, World.data_word, Rule.IsValue}

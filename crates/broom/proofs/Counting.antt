@@ -7,9 +7,9 @@ use Rattle.std.proofs.lemmas.List.{map-append, length-map, get_or-map, get_or_pa
 use Rattle.std.proofs.lemmas.List.{Elements.All-nil, Elements.All-push, FromFn.fill_by_all}
 use mathlib.Core.Logic.{dite}
 use native.Mathlib.Decide.{ℕ_discrete}
-use Rattle.geometry.specs.{History.Begins, Limits.Numbers, MapWords.FitsMap, MapWords.map_word}
-use Rattle.geometry.specs.declared.{map_word.MapWord.MapWord, pin_word.PinWord.PinWord}
-use Rattle.geometry.proofs.{Histories.Begins-refl, Histories.Begins-trans, PinBits.map_same}
+use Rattle.geometry.specs.{History.Begins, Limits.Numbers, Words.FitsMap, Words.map_word}
+use Rattle.geometry.specs.declared.words.{MapWord.MapWord, PinWord.PinWord}
+use Rattle.geometry.proofs.{Histories.Begins-refl, Histories.Begins-trans, WordBits.map_same}
 use Rattle.flash_rule.specs.{declared.view.View.View, World.sector_word, Views.AreOfHosts, BroomPlays.Named}
 use Rattle.flash_rule.proofs.Owning.{none_some}
 use Rattle.flash_table.specs.declared.{flash.Flash.Flash, broom_seat.BroomBlocks.BroomBlocks, broom_seat.BroomSeat.BroomSeat}

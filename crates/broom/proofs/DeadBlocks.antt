@@ -4,8 +4,8 @@ use Rattle.std.specs.Prelude.{slice_index}
 use mathlib.Core.Logic.{dite}
 use native.Mathlib.Decide.{ℕ_discrete}
 use Rattle.flash_rule.proofs.Points.{phase_or_not}
-use Rattle.geometry.specs.PinWords.{FitsPin, pin_word}
-use Rattle.geometry.specs.declared.pin_word.{PinWord.PinWord, Phase.TheVariants.Closed, Phase.TheVariants.Drained, Phase.TheVariants.Victim}
+use Rattle.geometry.specs.Words.{FitsPin, pin_word}
+use Rattle.geometry.specs.declared.words.{PinWord.PinWord, Phase.TheVariants.Closed, Phase.TheVariants.Drained, Phase.TheVariants.Victim}
 use Rattle.flash_rule.specs.{declared.view.View.View, declared.facts.Owned.Owned, Views.AreOfHosts, Views.without, Views.with_owned}
 use Rattle.flash_rule.specs.BroomPlays.{inspected_in, owned_as, Loaded}
 use Rattle.flash_table.specs.declared.{flash.Flash.Flash, broom_seat.Reclaiming.TheVariants.Nothing, broom_seat.Reclaiming.TheVariants.Draining}

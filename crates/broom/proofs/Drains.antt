@@ -2,9 +2,9 @@
 use Rattle.std.proofs.Common.{◌≡◌, ℕ, ◌+◌, ◌<◌, false, List, [], ◌∷◌, ◌++◌, length, Option, None, sym, refl, ap, ◌∙◌, subst, arith}
 use Rattle.std.proofs.Common.{append-nil, append_assoc, get_or, set}
 use Rattle.std.proofs.lemmas.List.{get_or-map}
-use Rattle.geometry.specs.{Geometry.blocks_of, Geometry.pages_of, PinWords.pin_word}
+use Rattle.geometry.specs.{Geometry.blocks_of, Geometry.pages_of, Words.pin_word}
 use Rattle.geometry.specs.{Greedy.IsClosed, Limits.Numbers, History.Begins, History.Call}
-use Rattle.geometry.specs.declared.pin_word.{Phase.TheVariants.Drained, PinWord.PinWord}
+use Rattle.geometry.specs.declared.words.{Phase.TheVariants.Drained, PinWord.PinWord}
 use Rattle.geometry.proofs.Histories.{Begins-trans}
 use Rattle.flash_rule.specs.declared.{facts.Cycle.Cycle, facts.Owned.Owned, facts.Source.Source, view.View.View}
 use Rattle.flash_rule.specs.{Views.AreOfHosts, BroomPlays.IsLastLoaded}
@@ -16,8 +16,7 @@ use Rattle.broom.specs.declared.{broom.Broom.Broom, answer.Drain.Drain}
 use Rattle.broom.specs.{Surveying.Chosen, Survey.generation_in, Survey.written_in, Survey.looks_of}
 use Rattle.broom.specs.Emptying.{Emptied, HasEmptied, filled_by, given_up, looks_in}
 use Rattle.broom.specs.Ready.{IsRested, IsReady, IsMarked, view_of_broom, blocks_of_broom}
-use Rattle.broom.specs.Told.{Surveyed, DidDrain, DrainTold, LostClaim, DidDrainAgain, LostAgain, MarkedTold, Unmarks, SurveyLeft}
-use Rattle.broom.specs.Told.{victim_in, block_in}
+use Rattle.broom.specs.Told.{Surveyed, DidDrain, DrainTold, LostClaim, DidDrainAgain, LostAgain, MarkedTold, Unmarks, SurveyLeft, victim_in, block_in}
 use Rattle.broom.specs.Relocating.{Sweeps, Relocated}
 use Rattle.broom.proofs.{Marking.last_of-loaded, Counting.generation_at, Choosing.closed_low, Emptying.emptied_same}
 use Rattle.broom.specs.declared.answer.Drain.TheVariants as drain

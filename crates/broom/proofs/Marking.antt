@@ -5,10 +5,10 @@ use Rattle.std.proofs.lemmas.Option.{get_or_from_slice_get, slice_get-get_or, sl
 use Rattle.std.proofs.lemmas.List.{get_or-map, length-map, get_or-set_same, get_or-set_other}
 use mathlib.Core.Logic.{dite}
 use native.Mathlib.Decide.{ℕ_discrete}
-use Rattle.geometry.specs.{Greedy.IsClosed, Limits.Numbers, PinWords.FitsPin, PinWords.pin_word}
-use Rattle.geometry.proofs.PinBits.{pin_same}
-use Rattle.geometry.specs.declared.pin_word.{Phase.Phase, PinWord.PinWord}
-use Rattle.geometry.specs.declared.pin_word.Phase.TheVariants.{Free, Open, Closed, Victim, Drained, Erasing, Retired}
+use Rattle.geometry.specs.{Greedy.IsClosed, Limits.Numbers, Words.FitsPin, Words.pin_word}
+use Rattle.geometry.proofs.WordBits.{pin_same}
+use Rattle.geometry.specs.declared.words.{Phase.Phase, PinWord.PinWord}
+use Rattle.geometry.specs.declared.words.Phase.TheVariants.{Free, Open, Closed, Victim, Drained, Erasing, Retired}
 use Rattle.flash_rule.specs.{declared.view.View.View, BroomPlays.IsLastLoaded}
 use Rattle.broom.specs.{Survey.is_closed, Survey.closed_of, Survey.loads_of, Ready.last_of, Ready.unless_later, Ready.AreMarked, Surveying.StatesLoaded}
 use Rattle.broom.proofs.{Loading.StandsOnce, Loading.enumerate_once, Choosing.closed_low}

@@ -4,9 +4,9 @@ use Rattle.std.proofs.Common.{append-nil, arith}
 use Rattle.std.proofs.lemmas.List.{append-nil}
 use mathlib.Core.Logic.{dite}
 use native.Mathlib.Decide.{ℕ_discrete}
-use Rattle.geometry.specs.{Geometry.endurance_of, Limits.Numbers, PinWords.FitsPin, PinWords.pin_word}
-use Rattle.geometry.specs.declared.pin_word.{Phase.TheVariants.Drained, Phase.TheVariants.Erasing, Phase.TheVariants.Retired, PinWord.PinWord}
-use Rattle.geometry.proofs.PinBits.{pin_same}
+use Rattle.geometry.specs.{Geometry.endurance_of, Limits.Numbers, Words.FitsPin, Words.pin_word}
+use Rattle.geometry.specs.declared.words.{Phase.TheVariants.Drained, Phase.TheVariants.Erasing, Phase.TheVariants.Retired, PinWord.PinWord}
+use Rattle.geometry.proofs.WordBits.{pin_same}
 use Rattle.flash_rule.specs.{declared.facts.Owned.Owned, declared.view.View.View, Ceded.freed_as}
 use Rattle.flash_rule.specs.{Views.owned_at, Views.without, Views.with_owned, Views.AreOfHosts, BroomPlays.Loaded, BroomPlays.owned_as, BroomPlays.cycle_of}
 use Rattle.flash_rule.proofs.Owning.{none_some, some_same}

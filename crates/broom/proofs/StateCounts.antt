@@ -5,8 +5,8 @@ use Rattle.std.specs.List.{enumerate_from}
 use Rattle.std.proofs.lemmas.List.{map-append, length-map, length-append, get_or-set_other, Elements.All-nil, Elements.All-push}
 use Rattle.std.proofs.Math.Nat.{mul-le-mul_right}
 use Rattle.std.proofs.lemmas.{List.Sums.count_by-le-length, List.Sums.sum_by-append, List.Sums.sum_by-le, Option.slice_get_within}
-use Rattle.geometry.specs.{Geometry.blocks_of, Greedy.IsClosed, Limits.Numbers, PinWords.phase_bits, PinWords.pin_word}
-use Rattle.geometry.specs.declared.pin_word.{Phase.Phase, PinWord.PinWord}
+use Rattle.geometry.specs.{Geometry.blocks_of, Greedy.IsClosed, Limits.Numbers, Words.phase_bits, Words.pin_word}
+use Rattle.geometry.specs.declared.words.{Phase.Phase, PinWord.PinWord}
 use Rattle.flash_rule.specs.declared.view.View.{View}
 use Rattle.flash_table.specs.{declared.flash.Flash.Flash, Flash.geometry_of, Flash.device}
 use Rattle.broom.specs.declared.{block_counts.BlockCounts.BlockCounts, broom.Broom.Broom}
@@ -15,7 +15,7 @@ use Rattle.broom.specs.Loading.{HasState, KeepsMarks, StateLoaded, counts_in, er
 use Rattle.broom.specs.Ready.{IsInRange, IsReady, view_of_broom, blocks_of_broom, marks_of}
 use Rattle.broom.specs.Told.{counts_kept, states_kept}
 use Rattle.broom.proofs.{Loading.enumerate_more, Loading.loaded_changes, Marking.still_marked}
-use Rattle.geometry.specs.declared.pin_word.Phase.TheVariants as phase
+use Rattle.geometry.specs.declared.words.Phase.TheVariants as phase
 
 -- ---- counts
 sum_more : {X : Type 0} (f : X → ℕ) (xs : List X) (x : X) → sum_by f (xs ++ x ∷ []) ≡ sum_by f xs + f x

@@ -1,8 +1,8 @@
 -- The steps of a broom that drains its victim, put together.
 use Rattle.std.proofs.Common.{◌≡◌, ℕ, ◌+◌, ◌<◌, ◌≤◌, List, ◌++◌, ◌∷◌, [], Option, None, Some, IfSome, ne_eqb, append-nil, sym, refl, ap, ◌∙◌, subst, arith}
-use Rattle.geometry.specs.{History.Begins, History.Call, Limits.Numbers, MapWords.FitsMap, MapWords.map_word}
-use Rattle.geometry.specs.declared.{map_word.MapWord.MapWord, pin_word.Phase.TheVariants.Victim}
-use Rattle.geometry.proofs.{Histories.Begins-refl, Histories.Begins-push, Histories.Begins-trans, PinBits.map_same}
+use Rattle.geometry.specs.{History.Begins, History.Call, Limits.Numbers, Words.FitsMap, Words.map_word}
+use Rattle.geometry.specs.declared.words.{MapWord.MapWord, Phase.TheVariants.Victim}
+use Rattle.geometry.proofs.{Histories.Begins-refl, Histories.Begins-push, Histories.Begins-trans, WordBits.map_same}
 use Rattle.flash_rule.specs.declared.{facts.Source.Source, view.View.View}
 use Rattle.flash_rule.specs.{Views.AreOfHosts, Rule.IsValue, World.sector_word, BroomPlays.GotStamp, BroomPlays.Named}
 use Rattle.flash_table.specs.{declared.flash.Flash.Flash, Owning.reclaimed_as, Flash.IsBroomOf, Flash.broom_view, Flash.own_blocks, Flash.geometry_of}

@@ -1,6 +1,6 @@
 -- A broom that meets another one, or stands by a page: what goes along with the notes, and what each knows in the end.
 use Rattle.std.proofs.Common.{◌≡◌, ℕ, true, List, [], ◌∷◌, ◌++◌, Option, Some, None, sym, refl, ap, ◌∙◌, subst, arith}
-use Rattle.geometry.specs.{History.held, History.Begins, MapWords.map_word, declared.map_word.MapWord.MapWord}
+use Rattle.geometry.specs.{History.held, History.Begins, Words.map_word, declared.words.MapWord.MapWord}
 use Rattle.flash_rule.specs.declared.{carried.Carried.Carried, view.View.View}
 use Rattle.flash_rule.specs.declared.facts.{Name.Name, Name.TheVariants.Broom as ABroom, Role.Role, Role.TheVariants.Player}
 use Rattle.flash_rule.specs.{Views.is_pass, Plays.Met, Plays.Spared, World.sector_word, BroomPlays.Named}

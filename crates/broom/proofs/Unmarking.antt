@@ -1,6 +1,6 @@
 -- A broom that unmarks a block, loads its state and rests again is ready as before.
 use Rattle.std.proofs.Common.{◌≡◌, ℕ, ◌<◌, Bool, false, List, [], ◌∷◌, ◌++◌, length, set, sym, ap, ◌∙◌, subst, arith, length-set}
-use Rattle.geometry.specs.{Geometry.blocks_of, declared.pin_word.PinWord.PinWord}
+use Rattle.geometry.specs.{Geometry.blocks_of, declared.words.PinWord.PinWord}
 use Rattle.flash_table.specs.{declared.flash.Flash.Flash, Flash.geometry_of, Flash.device}
 use Rattle.broom.specs.{declared.broom.Broom.Broom, declared.ranking.Ranking.Ranking, Ranking.Ranks}
 use Rattle.broom.specs.Ready.{AreMarked, IsReady, IsRested, view_of_broom}

@@ -1,9 +1,9 @@
 -- Internal: the counts of blocks' states, one more at a time.
 use Rattle.std.specs.Prelude.{ℕ, ◌+◌, ◌==◌, ◌<◌, if◌then◌else◌}
-use Rattle.geometry.specs.PinWords.{phase_bits}
-use Rattle.geometry.specs.declared.pin_word.Phase.{Phase}
-use Rattle.geometry.specs.declared.pin_word.Phase.TheVariants as phase
-use Rattle.geometry.specs.declared.pin_word.PinWord.{PinWord}
+use Rattle.geometry.specs.Words.{phase_bits}
+use Rattle.geometry.specs.declared.words.Phase.{Phase}
+use Rattle.geometry.specs.declared.words.Phase.TheVariants as phase
+use Rattle.geometry.specs.declared.words.PinWord.{PinWord}
 use Rattle.broom.specs.declared.block_counts.BlockCounts.{BlockCounts}
 use Rattle.broom.specs.Loading.{erases_in}
 

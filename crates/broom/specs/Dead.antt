@@ -1,10 +1,9 @@
 -- What a drain of a block without live pages records in what its broom knows, before and after.
 use Rattle.std.specs.Prelude.{◌≡◌, ℕ, ◌<◌, ◌≤◌, ◌⊎◌, Bool, List, [], ◌∷◌, ◌++◌, MatchBool, slice_index}
-use Rattle.geometry.specs.MapWords.{map_word, FitsMap}
-use Rattle.geometry.specs.PinWords.{FitsPin, pin_word}
-use Rattle.geometry.specs.declared.map_word.MapWord.{MapWord}
-use Rattle.geometry.specs.declared.pin_word.PinWord.{PinWord}
-use Rattle.geometry.specs.declared.pin_word.Phase.TheVariants.{Closed, Drained}
+use Rattle.geometry.specs.Words.{map_word, FitsMap, FitsPin, pin_word}
+use Rattle.geometry.specs.declared.words.MapWord.{MapWord}
+use Rattle.geometry.specs.declared.words.PinWord.{PinWord}
+use Rattle.geometry.specs.declared.words.Phase.TheVariants.{Closed, Drained}
 use Rattle.flash_rule.specs.declared.view.View.{View}
 use Rattle.flash_rule.specs.BroomPlays.{inspected_in, owned_as}
 use Rattle.broom.specs.declared.broom.Broom.{Broom}

@@ -1,9 +1,9 @@
 -- What a broom leaves of the room that it copies to, when it has emptied its victim.
 use Rattle.std.specs.Prelude.{◌≡◌, ℕ, ◌+◌, ◌-◌, ◌<◌, ◌≤◌, ◌==◌, Bool, true, false, List, [], ◌∷◌, ◌++◌, Option, None, Some, length, map}
 use Rattle.std.specs.List.{range_with_len}
-use Rattle.geometry.specs.MapWords.{map_word}
-use Rattle.geometry.specs.declared.pin_word.Phase.TheVariants.{Closed, Drained}
-use Rattle.geometry.specs.declared.map_word.MapWord.{MapWord}
+use Rattle.geometry.specs.Words.{map_word}
+use Rattle.geometry.specs.declared.words.Phase.TheVariants.{Closed, Drained}
+use Rattle.geometry.specs.declared.words.MapWord.{MapWord}
 use Rattle.flash_rule.specs.declared.facts.Owned.{Owned}
 use Rattle.flash_rule.specs.declared.facts.Work.{Work}
 use Rattle.flash_rule.specs.declared.view.View.{View}

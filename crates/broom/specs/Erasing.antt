@@ -1,8 +1,8 @@
 -- What an erase records in what its broom knows, before and after.
 use Rattle.std.specs.Prelude.{◌≡◌, ℕ, ◌+◌, ◌<◌, true, false, List, [], ◌∷◌, ◌++◌, None, Some}
-use Rattle.geometry.specs.PinWords.{FitsPin, pin_word}
-use Rattle.geometry.specs.declared.pin_word.Phase.TheVariants.{Drained, Erasing, Retired}
-use Rattle.geometry.specs.declared.pin_word.PinWord.{PinWord}
+use Rattle.geometry.specs.Words.{FitsPin, pin_word}
+use Rattle.geometry.specs.declared.words.Phase.TheVariants.{Drained, Erasing, Retired}
+use Rattle.geometry.specs.declared.words.PinWord.{PinWord}
 use Rattle.flash_rule.specs.declared.facts.Owned.{Owned}
 use Rattle.flash_rule.specs.declared.view.View.{View}
 use Rattle.flash_rule.specs.Ceded.{freed_as}

@@ -2,10 +2,10 @@
 use Rattle.std.specs.Prelude.{◌≡◌, ℕ, ◌⊎◌, ◌+◌, ◌==◌, if◌then◌else◌, All, List, ◌++◌, Some, count_by, length, slice_get, sum_by}
 use Rattle.geometry.specs.Greedy.{IsClosed}
 use Rattle.geometry.specs.Limits.{Numbers}
-use Rattle.geometry.specs.PinWords.{phase_bits, pin_word}
-use Rattle.geometry.specs.declared.pin_word.Phase.{Phase}
-use Rattle.geometry.specs.declared.pin_word.Phase.TheVariants as phase
-use Rattle.geometry.specs.declared.pin_word.PinWord.{PinWord}
+use Rattle.geometry.specs.Words.{phase_bits, pin_word}
+use Rattle.geometry.specs.declared.words.Phase.{Phase}
+use Rattle.geometry.specs.declared.words.Phase.TheVariants as phase
+use Rattle.geometry.specs.declared.words.PinWord.{PinWord}
 use Rattle.flash_rule.specs.BroomPlays.{Loaded}
 use Rattle.broom.specs.declared.broom.Broom.{Broom}
 use Rattle.broom.specs.declared.block_counts.BlockCounts.{BlockCounts}

@@ -2,7 +2,7 @@
 use Rattle.std.specs.Prelude.{◌≡◌, ℕ, ◌<◌, true, List, [], ◌∷◌, ◌++◌, Option, None, Some, slice_get}
 use Rattle.geometry.specs.Geometry.{blocks_of, pages_of}
 use Rattle.geometry.specs.History.{held, Begins}
-use Rattle.geometry.specs.declared.map_word.MapWord.{MapWord}
+use Rattle.geometry.specs.declared.words.MapWord.{MapWord}
 use Rattle.geometry.specs.declared.page_addr.PageAddr.{PageAddr}
 use Rattle.flash_rule.specs.declared.facts.Cycle.{Cycle}
 use Rattle.flash_rule.specs.declared.facts.Pin.TheVariants.{Accepted}

@@ -3,12 +3,11 @@ use Rattle.std.specs.Prelude.{◌≡◌, ℕ, ◌==◌, ◌&&◌, Bool, true, fa
 use Rattle.std.specs.List.{enumerate_from, range_with_len}
 use Rattle.geometry.specs.Greedy.{greedy_of}
 use Rattle.geometry.specs.Limits.{Numbers}
-use Rattle.geometry.specs.MapWords.{FitsMap}
-use Rattle.geometry.specs.PinWords.{FitsPin, pin_word}
-use Rattle.geometry.specs.declared.map_word.MapWord.{MapWord}
-use Rattle.geometry.specs.declared.pin_word.Phase.{Phase}
-use Rattle.geometry.specs.declared.pin_word.Phase.TheVariants.{Free, Open, Closed, Victim, Drained, Erasing, Retired}
-use Rattle.geometry.specs.declared.pin_word.PinWord.{PinWord}
+use Rattle.geometry.specs.Words.{FitsMap, FitsPin, pin_word}
+use Rattle.geometry.specs.declared.words.MapWord.{MapWord}
+use Rattle.geometry.specs.declared.words.Phase.{Phase}
+use Rattle.geometry.specs.declared.words.Phase.TheVariants.{Free, Open, Closed, Victim, Drained, Erasing, Retired}
+use Rattle.geometry.specs.declared.words.PinWord.{PinWord}
 use Rattle.flash_rule.specs.World.{sector_word}
 
 -- What a broom found: the state of each block, and for each sector the page that its map word named, or none

@@ -4,7 +4,7 @@ ghost use Rattle.geometry.specs.Geometry.{blocks_of};
 ghost use Rattle.flash_table.specs.Flash.{geometry_of, device};
 ghost use Rattle.broom.specs.Ready.{IsReady, IsInRange};
 ghost use Rattle.broom.specs.Handing.{HandsNothing};
-ghost use Rattle.geometry.specs.declared.pin_word.PinWord.{PinWord};
+ghost use Rattle.geometry.specs.declared.words.PinWord.{PinWord};
 ghost use Rattle.broom.specs.Loading.{AllLoaded, StateLoaded, counts_in};
 
 use crate::block_counts::BlockCounts;

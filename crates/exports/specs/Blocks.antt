@@ -2,9 +2,9 @@
 use Rattle.std.specs.Prelude.{◌≡◌, ℕ, ◌==◌, ◌&&◌, if◌then◌else◌, nat_le, Bool}
 use Rattle.geometry.specs.Geometry.{blocks_of, brooms_of}
 use Rattle.geometry.specs.declared.geometry.Geometry.{Geometry}
-use Rattle.geometry.specs.declared.pin_word.Phase.{Phase}
-use Rattle.geometry.specs.declared.pin_word.Phase.TheVariants as phase
-use Rattle.geometry.specs.declared.pin_word.PinWord.{PinWord}
+use Rattle.geometry.specs.declared.words.Phase.{Phase}
+use Rattle.geometry.specs.declared.words.Phase.TheVariants as phase
+use Rattle.geometry.specs.declared.words.PinWord.{PinWord}
 use Rattle.broom.specs.Loading.{StateLoaded, erases_in}
 use Rattle.broom.specs.declared.block_counts.BlockCounts.{BlockCounts}
 use Rattle.broom.specs.declared.broom.Broom.{Broom}

@@ -4,8 +4,8 @@ use Rattle.geometry.specs.declared.answer.Got.{Got}
 use Rattle.geometry.specs.declared.answer.Got.TheVariants as got
 use Rattle.geometry.specs.declared.answer.Was.{Was}
 use Rattle.geometry.specs.declared.answer.Was.TheVariants as was
-use Rattle.geometry.specs.declared.fault.GeometryFault.{GeometryFault}
-use Rattle.geometry.specs.declared.fault.GeometryFault.TheVariants as fault
+use Rattle.geometry.specs.declared.limits.GeometryFault.{GeometryFault}
+use Rattle.geometry.specs.declared.limits.GeometryFault.TheVariants as fault
 use Rattle.broom.specs.declared.answer.Drain.{Drain}
 use Rattle.broom.specs.declared.answer.Drain.TheVariants as drain
 use Rattle.broom.specs.declared.answer.Erase.{Erase}

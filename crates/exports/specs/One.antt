@@ -8,7 +8,7 @@ use Rattle.geometry.specs.Sectors.{Sector, sector_at, was_of}
 use Rattle.geometry.specs.History.{Call, Write, WriteNew, Trim, step}
 use Rattle.geometry.specs.declared.answer.Was.{Was}
 use Rattle.geometry.specs.declared.answer.Was.TheVariants as was
-use Rattle.geometry.specs.declared.fault.GeometryFault.{GeometryFault}
+use Rattle.geometry.specs.declared.limits.GeometryFault.{GeometryFault}
 use Rattle.ftl_one.specs.declared.one_ftl.OneFtl.{OneFtl}
 use Rattle.ftl_one.specs.OneFtl.{geometry_of, array_of, stock_of}
 use Rattle.ftl_one.specs.Stock.{Stock, Block, next, opening, live_of, is_retired}

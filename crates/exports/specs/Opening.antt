@@ -2,7 +2,7 @@
 use Rattle.std.specs.Prelude.{◌≡◌, ℕ, ◌<◌, ◌==◌, Bool, nat_le, if◌then◌else◌, List, length, slice_index_or, Option, None, Some}
 use Rattle.geometry.specs.Geometry.{numbers_of as numbers_in}
 use Rattle.geometry.specs.Limits.{Numbers, first_fault}
-use Rattle.geometry.specs.declared.fault.GeometryFault.{GeometryFault}
+use Rattle.geometry.specs.declared.limits.GeometryFault.{GeometryFault}
 use Rattle.flash_table.specs.declared.pass.Pass.{Pass}
 use Rattle.flash_table.specs.Flash.{view_of, device, first_view}
 use Rattle.broom.specs.declared.broom.Broom.{Broom}

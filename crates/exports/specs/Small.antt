@@ -2,8 +2,8 @@
 use Rattle.std.specs.Prelude.{◌≡◌, ℕ, List, replicate}
 use Rattle.geometry.specs.declared.geometry.Geometry.{Geometry}
 use Rattle.geometry.specs.Geometry.{blocks_of, sectors_of, words_of}
-use Rattle.geometry.specs.declared.pin_word.Phase.{Phase}
-use Rattle.geometry.specs.declared.pin_word.PinWord.{PinWord}
+use Rattle.geometry.specs.declared.words.Phase.{Phase}
+use Rattle.geometry.specs.declared.words.PinWord.{PinWord}
 use Rattle.exports.specs.declared.reports.CountsReport.{CountsReport}
 
 -- a device of three blocks and two sectors, with one word in a page

@@ -11,10 +11,9 @@ ghost use Rattle.geometry.specs.declared.answer.Was.{Was};
 ghost use Rattle.flash_table.specs.Steps.{HasCalled, HasNumber};
 ghost use Rattle.host.specs.Told.{Refused, Wrote, WroteNew};
 ghost use Rattle.volume.specs.Correct.{Answer, Asked, Does, Replaced};
-ghost use Rattle.geometry.specs.declared.fault.GeometryFault.TheVariants as fault;
+ghost use Rattle.geometry.specs.declared.limits.GeometryFault.TheVariants as fault;
 ghost use Rattle.geometry.specs.declared.geometry.Geometry.{Geometry};
-ghost use Rattle.geometry.specs.Geometry.{luns_of, blocks_of, pages_of, words_of, sectors_of, endurance_of, hosts_of, brooms_of};
-ghost use Rattle.geometry.specs.Geometry.{numbers_of as numbers_in};
+ghost use Rattle.geometry.specs.Geometry.{luns_of, blocks_of, pages_of, words_of, sectors_of, endurance_of, hosts_of, brooms_of, numbers_of as numbers_in};
 ghost use Rattle.geometry.specs.History.{Write, WriteNew, Trim};
 ghost use Rattle.geometry.specs.Limits.{Numbers, first_fault};
 ghost use Rattle.geometry.specs.Sectors.{sector_at};
@@ -34,9 +33,9 @@ ghost use Rattle.broom.specs.Told.{KeepsSurvey, NextTold, counts_kept, states_ke
 ghost use Rattle.broom.specs.declared.block_counts.BlockCounts.{BlockCounts};
 ghost use Rattle.flash_rule.specs.BroomPlays.{Loaded};
 ghost use Rattle.geometry.specs.Greedy.{IsClosed};
-ghost use Rattle.geometry.specs.PinWords.{pin_word};
-ghost use Rattle.geometry.specs.declared.pin_word.Phase.TheVariants as phase;
-ghost use Rattle.geometry.specs.declared.pin_word.PinWord.{PinWord};
+ghost use Rattle.geometry.specs.Words.{pin_word};
+ghost use Rattle.geometry.specs.declared.words.Phase.TheVariants as phase;
+ghost use Rattle.geometry.specs.declared.words.PinWord.{PinWord};
 ghost use Rattle.exports.specs.Blocks.{BlockReported, block_code, counts_code, counts_report, phase_number, state_report};
 ghost use Rattle.exports.specs.declared.reports.StateReport.{StateReport};
 ghost use Rattle.volume.specs.Brooms.{IsFresh};
@@ -69,7 +68,7 @@ ghost use Rattle.exports.specs.Shared.{Drains, numbers_code, numbers_report, IsS
 ghost use Rattle.exports.specs.Small.{IsSmall, worn_block, worn, zeros};
 ghost use Rattle.exports.specs.Tallies.{empty_tally, erased_by, in_a_word, moved_by, tally_of, with_drain, with_erase};
 ghost use Rattle.flash_rule.specs.declared.facts.Cycle.{Cycle};
-ghost use Rattle.geometry.specs.declared.map_word.MapWord.{MapWord};
+ghost use Rattle.geometry.specs.declared.words.MapWord.{MapWord};
 ghost use Rattle.exports.specs.declared.codes.TheConstants.{DONE, CLOSED, WRONG_KIND};
 
 /// What a call leaves of a handle: a closed one is closed, and an open one is open, with a seat of which the call says something.

@@ -1,6 +1,6 @@
 //! A device that threads share: the calls of C. Each is a call of the device, on the seat of its handle.
 ghost use Rattle.std.specs.Prelude.{◌≡◌, ◌≢◌, ◌<◌, ◌≤◌, ℕ, List, None, Some, is_some, length};
-ghost use Rattle.flash_table.specs.Flash.{view_of, opened_of};
+ghost use Rattle.flash_table.specs.Flash.{view_of, opened_of, device};
 ghost use Rattle.host.specs.Told.{Searched};
 ghost use Rattle.broom.specs.Told.{KeepsSurvey, Unmarks};
 ghost use Rattle.broom.specs.Erasing.{EraseTold};
@@ -9,8 +9,7 @@ ghost use Rattle.broom.specs.declared.turns.Choice.TheVariants as choice;
 ghost use Rattle.broom.specs.Restocking.{RestockTold};
 ghost use Rattle.broom.specs.Loading.{AllLoaded, counts_in};
 ghost use Rattle.broom.specs.Ready.{blocks_of_broom};
-ghost use Rattle.geometry.specs.declared.pin_word.PinWord.{PinWord};
-ghost use Rattle.flash_table.specs.Flash.{device};
+ghost use Rattle.geometry.specs.declared.words.PinWord.{PinWord};
 ghost use Rattle.host.specs.Holding.{pass_of, page_of};
 ghost use Rattle.volume.specs.Volume.{flash_of};
 ghost use Rattle.volume.specs.Undisturbed.{IsUndisturbed};

@@ -5,7 +5,7 @@ use Rattle.flash_rule.proofs.Words.{ℕ_discrete, either, step, keeps, stepped, 
 use Rattle.flash_rule.proofs.Words.{is_player, World, Fits, sector_word, blank_word, Lawful, Ruled, Sitter, Named, CanGetStamp, GotStamp, CanMove}
 use Rattle.flash_rule.proofs.Words.{Moved, wiper, CanInspect, PinWord, Inspected, is_broom, inspect_told}
 use Rattle.flash_rule.proofs.{Inspecting.same_end, Inspecting.inspects, Points.player_of, Owning.some_same, Owning.one_entry, Owning.Seated}
-use Rattle.geometry.proofs.PinBits.{pin_same}
+use Rattle.geometry.proofs.WordBits.{pin_same}
 use Rattle.flash_rule.proofs.{Places.fits_page, Places.page_within, Places.page_same, Ruling.Does, Ruling.Found, Ruling.ruled_kept, Ruling.ruled_map}
 use Rattle.flash_rule.proofs.BroomSteps.{looks, stamp_low, gets_stamp, gets_source, source_low, names_source, mover, stays, moves_page, move_told_here}
 use Rattle.flash_rule.proofs.Wiping.{row_of, wiped_index, wipe_world, wipes_word, erased_low}

@@ -8,7 +8,7 @@ use Rattle.flash_rule.proofs.{Owning.none_some, Owning.nothing, Places.row_withi
 use Rattle.flash_rule.proofs.Splitting.{kind_fresh, knowledge_fresh, holding_unnamed}
 use Rattle.std.specs.Prelude.{nat_lt}
 use Rattle.atomic_table.specs.Table.{opening}
-use Rattle.geometry.{proofs.Histories.held_at_first, specs.Limits.IsWithinLimits, specs.PinWords.phase_bits}
+use Rattle.geometry.{proofs.Histories.held_at_first, specs.Limits.IsWithinLimits, specs.Words.phase_bits}
 use Rattle.flash_rule.specs.Seats.{dealer, opening_words}
 use Rattle.std.proofs.lemmas.{Bool.Decides.nat_tests, List.get_or_append_left, List.get_or-append-add, List.get_or-replicate}
 

@@ -10,7 +10,7 @@ use Rattle.flash_rule.proofs.Still.{stays_onward, sum_set, ages_bounded, pass_nu
 use Rattle.flash_rule.proofs.Frames.{counted, knowledge_kept, owner_kept, state_fits}
 use Rattle.flash_rule.proofs.OwnSteps.{deeds, moved, pin_moves, block_turned, pin_turned_nameable}
 use Rattle.flash_rule.proofs.Owning.{source_with, work_with, Seated, view_of}
-use Rattle.geometry.proofs.PinBits.{takes_off, reads}
+use Rattle.geometry.proofs.WordBits.{takes_off, reads}
 
 module _ {z : Numbers} {g : World} {vs : List View} {id : ℕ} {v : View} (sat : Seated z g vs id v) (b readers : ℕ)
     (pin : Pin) (known : List ℕ) (pass : is_pass v.role ≡ true) (low : b < z.blocks) where

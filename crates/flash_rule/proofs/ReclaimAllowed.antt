@@ -11,7 +11,7 @@ use Rattle.flash_rule.proofs.Ruling.{Does, Found, ruled_as, ruled_still, same_bl
 use Rattle.flash_rule.proofs.Reclaiming.{unowned, notes, claims, claimer, condemns, condemner, condemn_deeds, drains_block, drained_state, retires}
 use Rattle.flash_rule.proofs.Reclaiming.{retired_state, frees, freed_state, keeps_block, kept_state, erasing_low, erasing_written, is_erasing}
 use Rattle.flash_rule.specs.BroomPlays.{Loaded, state_told}
-use Rattle.geometry.proofs.PinBits as bits
+use Rattle.geometry.proofs.WordBits as bits
 
 module _ (z : Numbers) (slots id : ℕ) (me : Sitter) where
   numbers_now : {g : World} {vs : List View} → Seated z g vs id me.0 → is_broom me.0.role ≡ true → me.0.numbers ≡ z

@@ -13,9 +13,9 @@ use Rattle.flash_rule.proofs.Ruling.{Does, Found, ruled_kept, ruled_map, ruled_a
 use Rattle.flash_rule.proofs.PageSteps.{puts_word, put_world, gets_accepted, spared}
 use Rattle.flash_rule.proofs.MapSteps.{placed, placer, Lawful_after, pass_same, word_empty, word_named, trims, writes, writes_new, leaves}
 use Rattle.std.specs.Int.Bits.{bit_or}
-use Rattle.geometry.specs.declared.{answer.Was.Was, map_word.TheConstants.UNMAPPED, answer.Was.TheVariants.Empty, answer.Was.TheVariants.Written}
+use Rattle.geometry.specs.declared.{answer.Was.Was, words.TheConstants.UNMAPPED, answer.Was.TheVariants.Empty, answer.Was.TheVariants.Written}
 use Rattle.flash_rule.specs.Plays.{CanPut, look_told, write_told, new_told, trim_told, put_told, get_told, Called}
-use Rattle.geometry.proofs.PinBits.{next_phase, counts, takes_free, takes_taken}
+use Rattle.geometry.proofs.WordBits.{next_phase, counts, takes_free, takes_taken}
 
 module _ (z : Numbers) (slots id : ℕ) (me : Sitter) where
   look_any : {g : World} {vs : List View} (sat : Seated z g vs id me.0) (s : ℕ) → is_pass me.0.role ≡ true → is_unpinned me.0.pin ≡ true → s < z.sectors

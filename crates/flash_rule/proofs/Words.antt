@@ -7,9 +7,9 @@ pub use native.Mathlib.Decide.{dec_lt, ℕ_discrete}
 pub use lib.ListN.{get_elem?}
 pub use Rattle.atomic_table.proofs.Lists.{at_longer, at_set, set_again, set_else}
 pub use Rattle.geometry.specs.History.{Begins, Call, Trim, Write, WriteNew, held}
-pub use Rattle.geometry.{specs.Limits.Numbers, proofs.Histories.Begins-refl, proofs.PinBits.adds, proofs.PinBits.map_same}
-pub use Rattle.geometry.specs.PinWords.{FitsPin, freed_added, kept_added, pin_word}
-pub use Rattle.geometry.specs.declared.{map_word.MapWord.MapWord, pin_word.PinWord.PinWord, pin_word.Phase.Phase}
+pub use Rattle.geometry.{specs.Limits.Numbers, proofs.Histories.Begins-refl, proofs.WordBits.adds, proofs.WordBits.map_same}
+pub use Rattle.geometry.specs.Words.{FitsPin, freed_added, kept_added, pin_word, FitsMap, map_word, page_index, pin_index}
+pub use Rattle.geometry.specs.declared.words.{MapWord.MapWord, PinWord.PinWord, Phase.Phase}
 pub use Rattle.flash_rule.specs.declared.facts.{Owned.Owned, Cycle.Cycle, Role.Role, Pin.Pin, Source.Source, Inspection.Inspection, Name.Name, Work.Work}
 pub use Rattle.flash_rule.specs.declared.{facts.Name.TheVariants.Broom, facts.Name.TheVariants.Pass, view.View.View, carried.Carried.Carried}
 pub use Rattle.flash_rule.specs.declared.facts.Role.TheVariants.{Dealer, Gone, Note, Player}
@@ -26,13 +26,12 @@ pub use Rattle.flash_rule.specs.Onward.{ListsOnward, Onward, PinOnward, Untouche
 pub use Rattle.std.{proofs.Math.ListN.get_or, specs.Prelude.if◌then◌else◌}
 pub use prog.Atomic.{either}
 pub use Rattle.atomic_table.specs.Table.{Act, Allows, Splits, State, Valid, carried_after, keeps, step, stepped}
-pub use Rattle.geometry.specs.{MapWords.FitsMap, MapWords.map_word, TableOrder.page_index, TableOrder.pin_index}
 pub use Rattle.flash_rule.specs.BroomPlays.{CanInspect, Inspected, is_page_of, inspect_told, inspected_in, CanClaim, CanCondemn, CanDrain, CanGetStamp, CanMove}
 pub use Rattle.flash_rule.specs.BroomPlays.{CanRenew, CanRetire, Claimed, Condemned, GotStamp, IsErasing, Moved, Named, claim_told, condemn_told, cycle_of}
 pub use Rattle.flash_rule.specs.BroomPlays.{drain_told, freed_told, kept_told, owned_as, retired_told, wiper}
 pub use Rattle.flash_rule.specs.{Seats.Ruled, Seats.gone, Seats.spare, Seats.spares, Forced.Forces}
 pub use Rattle.flash_rule.specs.Plays.{CanClose, CanCount, CanPlace, IsOn, Looked, Met, Pinned, Placed, Sitter, Tested, Took, close_told, count_told}
 pub use Rattle.flash_rule.specs.Plays.{is_unpinned, next_page, pin_told, take_told, test_told, unpin_told, words_in}
-pub use Rattle.geometry.specs.declared.pin_word.Phase.TheVariants.{Closed, Drained, Erasing, Free, Open, Retired, Victim}
+pub use Rattle.geometry.specs.declared.words.Phase.TheVariants.{Closed, Drained, Erasing, Free, Open, Retired, Victim}
 pub use Rattle.std.proofs.lemmas.List.{get_or-set_other, get_or-set_same, length-replicate, Elements.All-nil}
-pub use Rattle.geometry.specs.declared.pin_word.TheConstants.{NEXT_PHASE, PAGE_WRITTEN, READER, TAKEN}
+pub use Rattle.geometry.specs.declared.words.TheConstants.{NEXT_PHASE, PAGE_WRITTEN, READER, TAKEN}

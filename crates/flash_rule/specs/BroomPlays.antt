@@ -3,13 +3,11 @@
 use Rattle.std.specs.Prelude.{◌≡◌, ℕ, ◌+◌, ◌*◌, ◌<◌, ◌≤◌, ◌==◌, ◌&&◌, ◌⊎◌, Bool, false, true, if◌then◌else◌, List, [], ◌∷◌, ◌++◌, Option, None, Some, slice_get}
 use Rattle.atomic_table.specs.Table.{Step}
 use Rattle.geometry.specs.History.{held, Begins}
-use Rattle.geometry.specs.MapWords.{map_word, FitsMap}
-use Rattle.geometry.specs.PinWords.{pin_word, FitsPin}
-use Rattle.geometry.specs.TableOrder.{pin_index, page_index}
-use Rattle.geometry.specs.declared.map_word.MapWord.{MapWord}
-use Rattle.geometry.specs.declared.pin_word.PinWord.{PinWord}
-use Rattle.geometry.specs.declared.pin_word.Phase.{Phase}
-use Rattle.geometry.specs.declared.pin_word.Phase.TheVariants.{Open, Closed, Victim, Drained, Erasing, Retired}
+use Rattle.geometry.specs.Words.{map_word, FitsMap, pin_word, FitsPin, pin_index, page_index}
+use Rattle.geometry.specs.declared.words.MapWord.{MapWord}
+use Rattle.geometry.specs.declared.words.PinWord.{PinWord}
+use Rattle.geometry.specs.declared.words.Phase.{Phase}
+use Rattle.geometry.specs.declared.words.Phase.TheVariants.{Open, Closed, Victim, Drained, Erasing, Retired}
 use Rattle.flash_rule.specs.declared.facts.Owned.{Owned}
 use Rattle.flash_rule.specs.declared.facts.Source.{Source}
 use Rattle.flash_rule.specs.declared.facts.Inspection.{Inspection}

@@ -6,11 +6,10 @@ use mathlib.Core.Option.{some, none}
 use lib.ListN.{get_elem?}
 use Rattle.atomic_table.specs.Table.{State, step, Allows}
 use Rattle.geometry.specs.Limits.{Numbers}
-use Rattle.geometry.specs.PinWords.{pin_word, freed_added, kept_added}
-use Rattle.geometry.specs.TableOrder.{pin_index}
-use Rattle.geometry.specs.declared.map_word.MapWord.{MapWord}
-use Rattle.geometry.specs.declared.pin_word.PinWord.{PinWord}
-use Rattle.geometry.specs.declared.pin_word.TheConstants.{READER, PAGE_WRITTEN, NEXT_PHASE, TAKEN}
+use Rattle.geometry.specs.Words.{pin_word, freed_added, kept_added, pin_index}
+use Rattle.geometry.specs.declared.words.MapWord.{MapWord}
+use Rattle.geometry.specs.declared.words.PinWord.{PinWord}
+use Rattle.geometry.specs.declared.words.TheConstants.{READER, PAGE_WRITTEN, NEXT_PHASE, TAKEN}
 use Rattle.flash_rule.specs.declared.facts.Owned.{Owned}
 use Rattle.flash_rule.specs.declared.facts.Pin.TheVariants.{Candidate}
 use Rattle.flash_rule.specs.declared.facts.Work.{Work}

@@ -4,13 +4,11 @@ use Rattle.std.specs.Prelude.{None, Some, if◌then◌else◌, length, slice_get
 use Rattle.atomic_table.specs.Table.{Step, Me}
 use Rattle.geometry.specs.History.{Call, Write, WriteNew, Trim, held, was, Begins}
 use Rattle.geometry.specs.declared.answer.Was.{Was}
-use Rattle.geometry.specs.MapWords.{map_word, FitsMap}
-use Rattle.geometry.specs.PinWords.{pin_word, FitsPin}
-use Rattle.geometry.specs.TableOrder.{pin_index, page_index}
-use Rattle.geometry.specs.declared.map_word.MapWord.{MapWord}
-use Rattle.geometry.specs.declared.map_word.TheConstants.{UNMAPPED}
-use Rattle.geometry.specs.declared.pin_word.PinWord.{PinWord}
-use Rattle.geometry.specs.declared.pin_word.Phase.TheVariants.{Free, Open, Closed}
+use Rattle.geometry.specs.Words.{map_word, FitsMap, pin_word, FitsPin, pin_index, page_index}
+use Rattle.geometry.specs.declared.words.MapWord.{MapWord}
+use Rattle.geometry.specs.declared.words.TheConstants.{UNMAPPED}
+use Rattle.geometry.specs.declared.words.PinWord.{PinWord}
+use Rattle.geometry.specs.declared.words.Phase.TheVariants.{Free, Open, Closed}
 use Rattle.flash_rule.specs.declared.facts.Name.TheVariants.{Pass}
 use Rattle.flash_rule.specs.declared.facts.Role.TheVariants.{Player}
 use Rattle.flash_rule.specs.declared.facts.Owned.{Owned}

@@ -5,10 +5,10 @@ use lib.ListN.{get_elem?}
 use Rattle.geometry.specs.History.{held, Begins}
 use Rattle.geometry.specs.Limits.{Numbers, IsWithinLimits}
 use Rattle.geometry.specs.declared.limits.TheConstants.{WORD_BYTES}
-use Rattle.geometry.specs.declared.map_word.MapWord.{MapWord}
-use Rattle.geometry.specs.PinWords.{pin_word, FitsPin}
-use Rattle.geometry.specs.declared.pin_word.PinWord.{PinWord}
-use Rattle.geometry.specs.declared.pin_word.Phase.TheVariants.{Free, Open, Closed, Victim, Erasing}
+use Rattle.geometry.specs.declared.words.MapWord.{MapWord}
+use Rattle.geometry.specs.Words.{pin_word, FitsPin}
+use Rattle.geometry.specs.declared.words.PinWord.{PinWord}
+use Rattle.geometry.specs.declared.words.Phase.TheVariants.{Free, Open, Closed, Victim, Erasing}
 use Rattle.flash_rule.specs.declared.facts.Name.{Name}
 use Rattle.flash_rule.specs.declared.facts.Name.TheVariants.{Pass, Broom}
 use Rattle.flash_rule.specs.declared.facts.Role.{Role}

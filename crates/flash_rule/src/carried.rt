@@ -2,7 +2,7 @@
 ghost use Rattle.std.specs.Prelude.{List};
 ghost use base.Fml.{ftrue};
 ghost use Rattle.geometry.specs.History.{Call};
-ghost use Rattle.geometry.specs.declared.map_word.MapWord.{MapWord};
+ghost use Rattle.geometry.specs.declared.words.MapWord.{MapWord};
 ghost use Rattle.flash_rule.specs.Codes.{calls_coded};
 ghost use Rattle.flash_rule.specs.declared.facts.Name.{Name};
 ghost use Rattle.flash_rule.specs.declared.facts.Cycle.{Cycle};

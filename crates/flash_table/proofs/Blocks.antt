@@ -2,7 +2,7 @@
 use Rattle.std.proofs.Common.{◌≡◌, ℕ, List, [], ◌∷◌, ◌++◌, Option, None, Some, sym, refl, ap, ◌∙◌, subst}
 use mathlib.Core.Logic.{dite}
 use native.Mathlib.Decide.{ℕ_discrete}
-use Rattle.geometry.specs.declared.pin_word.Phase.TheVariants.{Open, Victim, Erasing}
+use Rattle.geometry.specs.declared.words.Phase.TheVariants.{Open, Victim, Erasing}
 use Rattle.flash_rule.specs.{declared.facts.Owned.Owned, Views.owned_at, Views.without, Views.with_owned}
 use Rattle.flash_rule.proofs.Owning.{some_same, none_some}
 use Rattle.flash_table.specs.declared.pass.OpenBlock.{OpenBlock}

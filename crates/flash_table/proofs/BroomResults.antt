@@ -11,10 +11,10 @@ use mathlib.Core.Option.{none}
 use mathlib.Core.Logic.{dite}
 use native.Mathlib.Decide.{ℕ_discrete, dec_lt}
 use Rattle.atomic_table.specs.Table.{step}
-use Rattle.geometry.specs.{Limits.Numbers, MapWords.map_word, MapWords.FitsMap}
-use Rattle.geometry.specs.declared.{map_word.MapWord.MapWord, map_word.TheConstants.MAPPED, pin_word.PinWord.PinWord, pin_word.TheConstants.NEXT_PHASE}
-use Rattle.geometry.specs.{PinWords.pin_word, PinWords.FitsPin, TableOrder.pin_index, TableOrder.page_index}
-use Rattle.geometry.specs.declared.pin_word.Phase.TheVariants.{Closed, Victim, Drained}
+use Rattle.geometry.specs.{Limits.Numbers, Words.map_word, Words.FitsMap}
+use Rattle.geometry.specs.declared.words.{MapWord.MapWord, TheConstants.MAPPED, PinWord.PinWord, TheConstants.NEXT_PHASE}
+use Rattle.geometry.specs.Words.{pin_word, FitsPin, pin_index, page_index}
+use Rattle.geometry.specs.declared.words.Phase.TheVariants.{Closed, Victim, Drained}
 use Rattle.flash_rule.specs.declared.{facts.Owned.Owned, facts.Source.Source, view.View.View}
 use Rattle.flash_rule.specs.{Views.is_broom, Plays.Sitter, World.data_word, World.sector_word}
 use Rattle.flash_table.specs.declared.broom_seat.{BroomSeat.BroomSeat, Reclaiming.Reclaiming, ReclaimedBlock.ReclaimedBlock}

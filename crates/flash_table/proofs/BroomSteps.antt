@@ -3,8 +3,8 @@ use Rattle.std.proofs.Common.{◌≡◌, ℕ, ◌+◌, ◌%◌, ◌^◌, ◌<◌
 use prog.Atomic.{either}
 use mathlib.Core.Option.{none}
 use Rattle.atomic_table.specs.{Table.step, declared.shared.Seat.Seat}
-use Rattle.geometry.specs.{MapWords.map_word, PinWords.pin_word, TableOrder.pin_index, TableOrder.page_index}
-use Rattle.geometry.specs.declared.{map_word.MapWord.MapWord, pin_word.PinWord.PinWord, pin_word.TheConstants.NEXT_PHASE}
+use Rattle.geometry.specs.Words.{map_word, pin_word, pin_index, page_index}
+use Rattle.geometry.specs.declared.words.{MapWord.MapWord, PinWord.PinWord, TheConstants.NEXT_PHASE}
 use Rattle.flash_rule.specs.{declared.facts.Owned.Owned, declared.facts.Source.Source, declared.view.View.View, Views.is_broom}
 use Rattle.flash_rule.specs.BroomPlays.{CanGetStamp, CanMove, CanClaim, CanDrain, CanInspect, broom_look_told, stamp_told, inspect_told, source_told, move_told}
 use Rattle.flash_rule.specs.BroomPlays.{state_told, claim_told, drain_told}

@@ -2,8 +2,8 @@
 use Rattle.std.proofs.Common.{◌≡◌, ℕ, ◌+◌, ◌*◌, ◌<◌, sym, refl, ap, ◌∙◌, subst, arith}
 use mathlib.Core.Option.{none}
 use Rattle.atomic_table.specs.Table.{step}
-use Rattle.geometry.specs.{Limits.Numbers, Limits.table_words_of, PinWords.pin_word, TableOrder.pin_index, TableOrder.page_index}
-use Rattle.geometry.specs.declared.pin_word.{PinWord.PinWord, TheConstants.NEXT_PHASE, Phase.TheVariants.Erasing}
+use Rattle.geometry.specs.{Limits.Numbers, Limits.table_words_of, Words.pin_word, Words.pin_index, Words.page_index}
+use Rattle.geometry.specs.declared.words.{PinWord.PinWord, TheConstants.NEXT_PHASE, Phase.TheVariants.Erasing}
 use Rattle.flash_rule.specs.{Views.with_owned, Plays.Sitter, World.blank_word}
 use Rattle.flash_rule.specs.BroomPlays.{CanCondemn, Condemned, IsErasing, CanWipe, CanRenew, CanRetire, condemn_told, wipe_told, freed_told, kept_told}
 use Rattle.flash_rule.specs.BroomPlays.{retired_told}

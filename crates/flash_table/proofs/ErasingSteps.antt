@@ -3,8 +3,8 @@ use Rattle.std.proofs.Common.{◌≡◌, ℕ, ◌+◌, ◌%◌, ◌^◌, ◌==�
 use prog.Atomic.{either}
 use mathlib.Core.Option.{none}
 use Rattle.atomic_table.specs.{Table.step, declared.shared.Seat.Seat}
-use Rattle.geometry.specs.{PinWords.pin_word, PinWords.freed_added, PinWords.kept_added, TableOrder.pin_index, TableOrder.page_index}
-use Rattle.geometry.specs.declared.pin_word.{PinWord.PinWord, TheConstants.NEXT_PHASE}
+use Rattle.geometry.specs.Words.{pin_word, freed_added, kept_added, pin_index, page_index}
+use Rattle.geometry.specs.declared.words.{PinWord.PinWord, TheConstants.NEXT_PHASE}
 use Rattle.flash_rule.specs.{declared.facts.Owned.Owned, declared.view.View.View, Views.is_broom, World.blank_word}
 use Rattle.flash_rule.specs.BroomPlays.{CanCondemn, CanWipe, CanRenew, CanRetire, condemn_told, wipe_told, freed_told, kept_told, retired_told}
 use Rattle.flash_rule.proofs.ReclaimAllowed.{condemn_allowed, freed_allowed, kept_allowed, retired_allowed}

@@ -1,19 +1,19 @@
 -- What a step's play makes of a pass, and of any seat with an open block.
 use Rattle.flash_table.proofs.Permissions.{whose, IsSeatOf, slots_of}
 use Rattle.std.proofs.Common.{◌≡◌, ℕ, ◌+◌, ◌<◌, Bool, true, false, List, [], ◌∷◌, ◌++◌, Option, Some, None, sym, refl, ap, ◌∙◌, subst, arith}
-use Rattle.geometry.specs.{PinWords.FitsPin, PinWords.pin_word, Limits.Numbers, Geometry.blocks_of, Geometry.pages_of, MapWords.map_word, MapWords.FitsMap}
-use Rattle.geometry.specs.declared.pin_word.{PinWord.PinWord, TheConstants.NEXT_PHASE, TheConstants.PAGE_WRITTEN, TheConstants.READER}
+use Rattle.geometry.specs.{Words.FitsPin, Words.pin_word, Limits.Numbers, Geometry.blocks_of, Geometry.pages_of, Words.map_word, Words.FitsMap}
+use Rattle.geometry.specs.declared.words.{PinWord.PinWord, TheConstants.NEXT_PHASE, TheConstants.PAGE_WRITTEN, TheConstants.READER}
 use Rattle.flash_rule.specs.declared.facts.{Owned.Owned, Work.Work, Pin.TheVariants.Candidate, Pin.TheVariants.Accepted}
 use Rattle.flash_rule.specs.{declared.view.View.View, World.data_word, World.Intact, Views.is_pass, Views.owned_at, Views.with_owned, Views.without}
 use Rattle.std.specs.Bool.{MatchBool}
 use mathlib.Core.Option.{none}
 use Rattle.atomic_table.specs.{Table.step, declared.shared.Seat.Seat}
-use Rattle.geometry.specs.declared.{geometry.Geometry.Geometry, map_word.MapWord.MapWord, map_word.TheConstants.UNMAPPED}
-use Rattle.geometry.specs.{History.Write, History.WriteNew, History.Trim, TableOrder.pin_index, TableOrder.page_index}
+use Rattle.geometry.specs.declared.{geometry.Geometry.Geometry, words.MapWord.MapWord, words.TheConstants.UNMAPPED}
+use Rattle.geometry.specs.{History.Write, History.WriteNew, History.Trim, Words.pin_index, Words.page_index}
 use Rattle.flash_rule.specs.Plays.{Sitter, Placed, CanPlace, CanCount, CanClose, write_told, new_told, trim_told}
 use Rattle.flash_rule.specs.Plays.{count_told, close_told, Pinned, pin_told, get_told}
 use Rattle.flash_rule.proofs.{Still.pass_of, Points.eq_self, Owning.some_same}
-use Rattle.geometry.proofs.PinBits.{pin_same}
+use Rattle.geometry.proofs.WordBits.{pin_same}
 use Rattle.flash_table.specs.declared.{flash.Flash.Flash, pass.Pass.Pass, pass.OpenBlock.OpenBlock}
 use Rattle.flash_table.specs.Owning.{owned_of, owned_list, closed_as, closed_list}
 use Rattle.flash_table.specs.{GivingUp.closed_pass, GivingUp.left_closed, Steps.CanGiveUp, Steps.IsFilled}

@@ -4,9 +4,9 @@ use Rattle.std.specs.Int.Bits.{bit_or}
 use mathlib.Core.Option.{none}
 use prog.Atomic.{either}
 use Rattle.atomic_table.specs.{Table.step, declared.shared.Seat.Seat}
-use Rattle.geometry.specs.{Limits.Numbers, Limits.table_words_of, MapWords.FitsMap, MapWords.map_word, TableOrder.pin_index, TableOrder.page_index}
-use Rattle.geometry.specs.declared.map_word.{MapWord.MapWord, TheConstants.UNMAPPED}
-use Rattle.geometry.specs.declared.pin_word.TheConstants.{TAKEN, NEXT_PHASE, PAGE_WRITTEN, READER}
+use Rattle.geometry.specs.{Limits.Numbers, Limits.table_words_of, Words.FitsMap, Words.map_word, Words.pin_index, Words.page_index}
+use Rattle.geometry.specs.declared.words.{MapWord.MapWord, TheConstants.UNMAPPED}
+use Rattle.geometry.specs.declared.words.TheConstants.{TAKEN, NEXT_PHASE, PAGE_WRITTEN, READER}
 use Rattle.flash_rule.specs.declared.facts.{Owned.Owned, Work.Work, Name.Name, Role.TheVariants.Player, Pin.TheVariants.Candidate, Pin.TheVariants.Accepted}
 use Rattle.flash_rule.specs.{Views.is_pass, declared.carried.Carried.Carried, declared.view.View.View}
 use Rattle.flash_rule.specs.Plays.{CanPlace, CanPut, CanCount, CanClose, words_in, is_unpinned, look_told, write_told, new_told, trim_told, test_told}

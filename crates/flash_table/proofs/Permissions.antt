@@ -2,7 +2,7 @@
 -- computes.
 use Rattle.std.proofs.Common.{◌≡◌, ℕ, ◌<◌, true, [], sym, refl, ap, subst, arith}
 use Rattle.atomic_table.specs.{Table.Allows, Table.Splits, Table.Joins, declared.shared.Seat.Seat}
-use Rattle.geometry.specs.{Geometry.numbers_of, TableOrder.pin_index, Limits.Numbers, Limits.table_words_of}
+use Rattle.geometry.specs.{Geometry.numbers_of, Words.pin_index, Limits.Numbers, Limits.table_words_of}
 use Rattle.flash_rule.specs.{declared.facts.Role.Role, declared.view.View.View, Views.is_player, Plays.Sitter, Seats.Ruled, Seats.gone}
 use Rattle.flash_rule.proofs.{Places.pin_within, Still.pass_of}
 use Rattle.flash_table.specs.declared.{flash.Flash.Flash, pass.Pass.Pass, pass.Note.Note, broom_seat.BroomSeat.BroomSeat}

@@ -3,9 +3,9 @@ use Rattle.std.proofs.Common.{◌≡◌, ℕ, ◌+◌, ◌<◌, ◌∷◌, Optio
 use Rattle.std.specs.Prelude.{MatchOption}
 use mathlib.Core.Option.{none}
 use Rattle.atomic_table.specs.Table.{step}
-use Rattle.geometry.specs.{Limits.Numbers, TableOrder.pin_index, PinWords.FitsPin, PinWords.pin_word}
-use Rattle.geometry.specs.declared.pin_word.{PinWord.PinWord, TheConstants.TAKEN, Phase.TheVariants.Free}
-use Rattle.geometry.proofs.PinBits.{pin_same}
+use Rattle.geometry.specs.{Limits.Numbers, Words.pin_index, Words.FitsPin, Words.pin_word}
+use Rattle.geometry.specs.declared.words.{PinWord.PinWord, TheConstants.TAKEN, Phase.TheVariants.Free}
+use Rattle.geometry.proofs.WordBits.{pin_same}
 use Rattle.flash_rule.specs.{declared.view.View.View, Plays.Sitter, Plays.Tested, Plays.Took, Plays.take_told, Plays.test_told}
 use Rattle.flash_table.specs.{Owning.owned_of, Spares.fresh_block, Taking.FoundTaken, Taking.TookFree}
 use Rattle.flash_table.proofs.Rows.{stays_without}

@@ -1,9 +1,9 @@
 -- What the calls of a broom that erases a block need, and what they record.
 use Rattle.std.specs.Prelude.{◌≡◌, ℕ, ◌+◌, ◌*◌, ◌<◌, ◌≤◌, [], ◌∷◌, ◌++◌, Bool, MatchBool}
 use Rattle.geometry.specs.Limits.{Numbers}
-use Rattle.geometry.specs.PinWords.{pin_word, FitsPin}
-use Rattle.geometry.specs.declared.pin_word.PinWord.{PinWord}
-use Rattle.geometry.specs.declared.pin_word.Phase.TheVariants.{Drained, Erasing}
+use Rattle.geometry.specs.Words.{pin_word, FitsPin}
+use Rattle.geometry.specs.declared.words.PinWord.{PinWord}
+use Rattle.geometry.specs.declared.words.Phase.TheVariants.{Drained, Erasing}
 use Rattle.flash_rule.specs.declared.view.View.{View}
 use Rattle.flash_rule.specs.Views.{with_owned}
 use Rattle.flash_rule.specs.BroomPlays.{IsLastLoaded, owned_as, cycle_of}

@@ -1,6 +1,6 @@
 -- What the view of a seat becomes when it gives up a block, or all of its blocks.
 use Rattle.std.specs.Prelude.{[], ◌∷◌, ◌++◌, Option, None}
-use Rattle.geometry.specs.declared.pin_word.Phase.TheVariants.{Drained, Erasing, Retired}
+use Rattle.geometry.specs.declared.words.Phase.TheVariants.{Drained, Erasing, Retired}
 use Rattle.flash_rule.specs.declared.view.View.{View}
 use Rattle.flash_rule.specs.Views.{without}
 use Rattle.flash_rule.specs.Ceded.{freed_as}

@@ -1,7 +1,7 @@
 -- What a look at the next sector of an inspection records.
 use Rattle.std.specs.Prelude.{◌≡◌, ℕ, ◌+◌, Bool, [], ◌∷◌, ◌++◌, Some, MatchBool}
-use Rattle.geometry.specs.MapWords.{map_word, FitsMap}
-use Rattle.geometry.specs.declared.map_word.MapWord.{MapWord}
+use Rattle.geometry.specs.Words.{map_word, FitsMap}
+use Rattle.geometry.specs.declared.words.MapWord.{MapWord}
 use Rattle.flash_rule.specs.declared.view.View.{View}
 
 -- The sector has a page in this generation of the block, and its look is listed; nothing else has changed

@@ -1,8 +1,8 @@
 -- The plain data of a seat, and the blocks that it owns.
 use Rattle.std.specs.Prelude.{◌≡◌, ℕ, List, [], ◌∷◌, ◌++◌, Option, None, Some}
 use Rattle.std.proofs.Props.{props}
-use Rattle.geometry.specs.declared.pin_word.Phase.{Phase}
-use Rattle.geometry.specs.declared.pin_word.Phase.TheVariants.{Open, Closed, Victim, Erasing}
+use Rattle.geometry.specs.declared.words.Phase.{Phase}
+use Rattle.geometry.specs.declared.words.Phase.TheVariants.{Open, Closed, Victim, Erasing}
 use Rattle.flash_rule.specs.declared.facts.Owned.{Owned}
 use Rattle.flash_rule.specs.Views.{owned_at}
 use Rattle.flash_table.specs.declared.pass.OpenBlock.{OpenBlock}

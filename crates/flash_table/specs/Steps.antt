@@ -1,12 +1,11 @@
 -- What the steps of a seat need, and what they leave, in terms of its own blocks.
 use Rattle.std.specs.Prelude.{◌≡◌, ℕ, ◌+◌, ◌<◌, ◌≤◌, Bool, List, [], ◌∷◌, ◌++◌, Option, None, Some, MatchBool, length}
 use Rattle.geometry.specs.Geometry.{blocks_of, pages_of}
-use Rattle.geometry.specs.MapWords.{map_word}
-use Rattle.geometry.specs.PinWords.{FitsPin, pin_word}
+use Rattle.geometry.specs.Words.{map_word, FitsPin, pin_word}
 use Rattle.geometry.specs.declared.geometry.Geometry.{Geometry}
-use Rattle.geometry.specs.declared.map_word.MapWord.{MapWord}
-use Rattle.geometry.specs.declared.pin_word.PinWord.{PinWord}
-use Rattle.geometry.specs.declared.pin_word.Phase.TheVariants as phase
+use Rattle.geometry.specs.declared.words.MapWord.{MapWord}
+use Rattle.geometry.specs.declared.words.PinWord.{PinWord}
+use Rattle.geometry.specs.declared.words.Phase.TheVariants as phase
 use Rattle.flash_rule.specs.declared.carried.Carried.{Carried}
 use Rattle.flash_rule.specs.declared.facts.Name.{Name}
 use Rattle.flash_rule.specs.declared.facts.Name.TheVariants.{Pass as APass}

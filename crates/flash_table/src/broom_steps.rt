@@ -1,7 +1,7 @@
 //! The steps by which a broom fills and closes the block that it copies live pages to, one atomic operation each.
 ghost use Rattle.std.specs.Prelude.{◌≡◌, ◌+◌, ◌<◌, [], ◌∷◌, ◌++◌, Some, None};
 ghost use Rattle.geometry.specs.Geometry.{numbers_of};
-ghost use Rattle.geometry.specs.TableOrder.{page_index};
+ghost use Rattle.geometry.specs.Words.{page_index};
 ghost use Rattle.flash_rule.specs.declared.facts.Work.{Work};
 ghost use Rattle.flash_rule.specs.Views.{with_owned};
 ghost use Rattle.flash_rule.specs.Plays.{CanCount};

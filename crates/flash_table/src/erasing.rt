@@ -1,7 +1,7 @@
 //! The steps by which a broom erases a block, one atomic operation each.
 ghost use Rattle.std.specs.Prelude.{◌≡◌, ◌+◌, ◌<◌, Some, None};
 ghost use Rattle.geometry.specs.Geometry.{blocks_of};
-ghost use Rattle.geometry.specs.TableOrder.{page_index};
+ghost use Rattle.geometry.specs.Words.{page_index};
 ghost use Rattle.flash_rule.specs.Views.{with_owned};
 ghost use Rattle.flash_table.specs.Owning.{owned_of};
 ghost use Rattle.flash_table.specs.GivingUp.{left_free, left_retired};

@@ -1,8 +1,8 @@
 //! The step by which a broom sees that a sector has no page in a block.
 ghost use Rattle.std.specs.Prelude.{◌≡◌, ◌<◌, Some, Option};
 ghost use Rattle.geometry.specs.Geometry.{sectors_of};
-ghost use Rattle.geometry.specs.MapWords.{FitsMap};
-ghost use Rattle.geometry.specs.declared.map_word.MapWord.{MapWord};
+ghost use Rattle.geometry.specs.Words.{FitsMap};
+ghost use Rattle.geometry.specs.declared.words.MapWord.{MapWord};
 ghost use Rattle.flash_rule.specs.World.{sector_word};
 ghost use Rattle.flash_rule.specs.BroomPlays.{CanInspect, is_page_of};
 ghost use Rattle.flash_table.specs.Flash.{IsBroomOf, broom_view, own_blocks, geometry_of};

@@ -1,8 +1,8 @@
 //! The steps by which a pass reads: it pins a block, reads the page and takes the pin off.
 ghost use Rattle.std.specs.Prelude.{◌≡◌, ℕ, ◌<◌, List, MatchBool, Some};
 ghost use Rattle.geometry.specs.Geometry.{numbers_of, blocks_of, pages_of, words_of};
-ghost use Rattle.geometry.specs.TableOrder.{page_index};
-ghost use Rattle.geometry.specs.declared.pin_word.PinWord.{PinWord};
+ghost use Rattle.geometry.specs.Words.{page_index};
+ghost use Rattle.geometry.specs.declared.words.PinWord.{PinWord};
 ghost use Rattle.flash_rule.specs.declared.facts.Pin.TheVariants as pin;
 ghost use Rattle.flash_rule.specs.World.{data_word, is_intact};
 ghost use Rattle.flash_rule.specs.Plays.{IsOn};

@@ -1,8 +1,8 @@
 //! The steps by which a broom loads the state of a block, claims it and is done with draining it, one atomic operation each.
 ghost use Rattle.std.specs.Prelude.{◌≡◌, ◌<◌, ◌≤◌, ◌⊎◌, [], ◌∷◌, ◌++◌, MatchBool};
 ghost use Rattle.geometry.specs.Geometry.{blocks_of, pages_of, endurance_of};
-ghost use Rattle.geometry.specs.PinWords.{FitsPin, pin_word};
-ghost use Rattle.geometry.specs.declared.pin_word.Phase.TheVariants as phase;
+ghost use Rattle.geometry.specs.Words.{FitsPin, pin_word};
+ghost use Rattle.geometry.specs.declared.words.Phase.TheVariants as phase;
 ghost use Rattle.flash_rule.specs.BroomPlays.{Loaded, IsLastLoaded};
 ghost use Rattle.flash_table.specs.GivingUp.{left_drained};
 ghost use Rattle.flash_table.specs.Flash.{IsBroomOf, broom_view, own_blocks, geometry_of};

@@ -1,8 +1,7 @@
 //! The steps by which a broom looks at sectors and copies live pages out of its victim, one atomic operation each.
 ghost use Rattle.std.specs.Prelude.{◌≡◌, ℕ, ◌<◌, List, IfSome, Some};
 ghost use Rattle.geometry.specs.Geometry.{numbers_of, blocks_of, pages_of, words_of, sectors_of};
-ghost use Rattle.geometry.specs.TableOrder.{page_index};
-ghost use Rattle.geometry.specs.MapWords.{FitsMap};
+ghost use Rattle.geometry.specs.Words.{page_index, FitsMap};
 ghost use Rattle.flash_rule.specs.declared.facts.Source.{Source};
 ghost use Rattle.flash_rule.specs.World.{sector_word, data_word};
 ghost use Rattle.flash_rule.specs.BroomPlays.{Named, CanMove};

@@ -1,8 +1,7 @@
 //! The steps of a pass, one atomic operation each, except a take.
 ghost use Rattle.std.specs.Prelude.{◌≡◌, ℕ, ◌+◌, ◌<◌, List, [], ◌∷◌, ◌++◌, true, IfSome, Some, None};
 ghost use Rattle.geometry.specs.Geometry.{numbers_of, sectors_of, blocks_of};
-ghost use Rattle.geometry.specs.TableOrder.{page_index};
-ghost use Rattle.geometry.specs.MapWords.{FitsMap};
+ghost use Rattle.geometry.specs.Words.{page_index, FitsMap};
 ghost use Rattle.geometry.specs.History.{Write, WriteNew, Trim};
 ghost use Rattle.flash_rule.specs.declared.facts.Work.{Work};
 ghost use Rattle.flash_rule.specs.World.{sector_word};

@@ -1,8 +1,8 @@
 //! How a pass and a broom take a block.
 ghost use Rattle.std.specs.Prelude.{◌≡◌, ◌<◌, true, IfSome, IfNone, MatchOption};
-ghost use Rattle.geometry.specs.PinWords.{FitsPin, pin_word};
-ghost use Rattle.geometry.specs.declared.pin_word.PinWord.{PinWord};
-ghost use Rattle.geometry.specs.declared.pin_word.Phase.TheVariants as phase;
+ghost use Rattle.geometry.specs.Words.{FitsPin, pin_word};
+ghost use Rattle.geometry.specs.declared.words.PinWord.{PinWord};
+ghost use Rattle.geometry.specs.declared.words.Phase.TheVariants as phase;
 ghost use Rattle.geometry.specs.Geometry.{blocks_of};
 ghost use Rattle.flash_rule.specs.Views.{is_player};
 ghost use Rattle.flash_table.specs.Flash.{device, geometry_of};

@@ -1,4 +1,3 @@
 pub mod Histories
-mod PageWords
-pub mod PinBits
+pub mod WordBits
 pub mod Choosing

@@ -3,9 +3,5 @@ pub mod Sectors
 pub mod History
 pub mod Limits
 pub mod Geometry
-pub mod PageBytes
-pub mod MapWords
-pub mod PinWords
-pub mod TableOrder
+pub mod Words
 pub mod Greedy
-pub mod Faults

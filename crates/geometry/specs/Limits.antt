@@ -1,8 +1,9 @@
--- The limits of a device, and the first of them that its numbers break.
-use Rattle.std.specs.Prelude.{◌≡◌, ℕ, ◌+◌, ◌-◌, ◌*◌, ◌%◌, ◌≤◌, ◌<◌, ◌==◌, Bool, not, ◌&&◌, ◌||◌, nat_lt}
-use Rattle.std.specs.Prelude.{nat_le, List, [], ◌∷◌, Option, None, Some, if◌then◌else◌}
-use Rattle.geometry.specs.declared.fault.GeometryFault.{GeometryFault}
-use Rattle.geometry.specs.declared.fault.GeometryFault.TheVariants.{Luns, Blocks, Pages, Words, Sectors, Endurance, Passes, TooManyWords, TooFewBlocks}
+-- The limits of a device, the first of them that its numbers break, and the names of these faults.
+use Rattle.std.specs.Prelude.{◌≡◌, ℕ, ◌+◌, ◌-◌, ◌*◌, ◌%◌, ◌≤◌, ◌<◌, ◌==◌, Bool, not, ◌&&◌, ◌||◌, nat_lt, nat_le, List, [], ◌∷◌, Option, None, Some}
+use Rattle.std.specs.Prelude.{if◌then◌else◌, codes}
+use Rattle.geometry.specs.declared.limits.GeometryFault.TheVariants as fault
+use Rattle.geometry.specs.declared.limits.GeometryFault.{GeometryFault}
+use Rattle.geometry.specs.declared.limits.GeometryFault.TheVariants.{Luns, Blocks, Pages, Words, Sectors, Endurance, Passes, TooManyWords, TooFewBlocks}
 
 -- the numbers that make a device
 pub record Numbers : Type 0 where
@@ -81,3 +82,15 @@ pub record IsWithinLimits (n : Numbers) : Type 0 where
   pub one_thread : n.hosts ≡ 0 → n.sectors < (n.blocks - 1) * n.pages
   pub shared_blocks : 0 < n.hosts → n.hosts + 2 * n.brooms < n.blocks
   pub shared_space : 0 < n.hosts → n.sectors ≤ (n.blocks - (n.hosts + 2 * n.brooms)) * n.pages
+
+-- the name of a fault, as it is printed
+abbrev pub fault_name : GeometryFault → List ℕ
+fault_name fault.Luns = codes "Luns"
+fault_name fault.Blocks = codes "Blocks"
+fault_name fault.Pages = codes "Pages"
+fault_name fault.Words = codes "Words"
+fault_name fault.Sectors = codes "Sectors"
+fault_name fault.Endurance = codes "Endurance"
+fault_name fault.Passes = codes "Passes"
+fault_name fault.TooManyWords = codes "TooManyWords"
+fault_name fault.TooFewBlocks = codes "TooFewBlocks"

@@ -1,9 +1,8 @@
 ghost use Rattle.std.specs.Prelude.{◌≡◌, ◌/◌, ◌≤◌, ◌<◌, ◌*◌, IfOk, IfErr, None, Some};
 
-use crate::fault::GeometryFault;
 use crate::limits::{
-    MAX_BLOCKS, MAX_BROOMS, MAX_ENDURANCE, MAX_HOSTS, MAX_LUNS, MAX_PAGES, MAX_SECTORS,
-    MAX_TABLE_WORDS, MAX_WORDS, MIN_BLOCKS, WORD_BYTES,
+    GeometryFault, MAX_BLOCKS, MAX_BROOMS, MAX_ENDURANCE, MAX_HOSTS, MAX_LUNS, MAX_PAGES,
+    MAX_SECTORS, MAX_TABLE_WORDS, MAX_WORDS, MIN_BLOCKS, WORD_BYTES,
 };
 
 /// The numbers that make a device, by their names. A device without hosts is for one thread, and has no brooms.

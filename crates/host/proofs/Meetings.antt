@@ -1,7 +1,7 @@
 -- Two passes that meet: what goes along with their notes, and what each of them knows in the end.
 use Rattle.std.proofs.Common.{◌≡◌, ℕ, ◌+◌, ◌++◌, true, false, List, [], Option, Some, None, is_some, sym, refl, ap, ◌∙◌, subst}
 use Rattle.std.proofs.lemmas.List.{append-nil}
-use Rattle.geometry.specs.{History.Begins, declared.map_word.MapWord.MapWord}
+use Rattle.geometry.specs.{History.Begins, declared.words.MapWord.MapWord}
 use Rattle.flash_rule.specs.declared.facts.{Name.Name, Owned.Owned, Role.Role, Role.TheVariants.Player}
 use Rattle.flash_rule.specs.{declared.carried.Carried.Carried, declared.view.View.View, Views.is_pass, Plays.Met, Plays.Looked, Plays.Disjoint, Plays.Spared}
 use Rattle.flash_rule.specs.Seats.{name_of, carried, lender, lent_note, host_of, giver, given_note, home}

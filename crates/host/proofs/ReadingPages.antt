@@ -1,6 +1,6 @@
 -- A page that is pinned, word by word.
 use Rattle.std.proofs.Common.{◌≡◌, ℕ, ◌^◌, ◌<◌, ◌∙◌, List, length, get_or, ap, sym, subst}
-use Rattle.geometry.specs.{Geometry.words_of, Geometry.page_bytes_of, PageBytes.word_of, declared.map_word.MapWord.MapWord}
+use Rattle.geometry.specs.{Geometry.words_of, Geometry.page_bytes_of, Words.word_of, declared.words.MapWord.MapWord}
 use Rattle.flash_rule.specs.{declared.view.View.View, World.data_word}
 use Rattle.flash_rule.proofs.Values.{value_same}
 use Rattle.flash_table.specs.declared.{flash.Flash.Flash, pass.Pass.Pass}

@@ -1,7 +1,7 @@
 -- The looks of a search: each but the last one is followed by a stray pin, by which the pass learns that a block is older than it knew.
 use Rattle.std.proofs.Common.{◌≡◌, ℕ, ◌+◌, ◌-◌, ◌*◌, ◌<◌, ◌≤◌, ◌∙◌, List, true, None, Some, sym, ap, subst, refl, arith}
-use Rattle.geometry.specs.{History.Call, History.Begins, History.held, MapWords.FitsMap, MapWords.map_word, Limits.Numbers, declared.map_word.MapWord.MapWord}
-use Rattle.geometry.proofs.{Histories.Begins-refl, Histories.Begins-trans, PinBits.map_same}
+use Rattle.geometry.specs.{History.Call, History.Begins, History.held, Words.FitsMap, Words.map_word, Limits.Numbers, declared.words.MapWord.MapWord}
+use Rattle.geometry.proofs.{Histories.Begins-refl, Histories.Begins-trans, WordBits.map_same}
 use Rattle.flash_rule.specs.declared.{facts.Name.TheVariants.Pass as APass, facts.Role.TheVariants.Player, facts.Owned.Owned, view.View.View}
 use Rattle.flash_rule.specs.declared.facts.Pin.{Pin, TheVariants.Clear, TheVariants.Candidate, TheVariants.Accepted}
 use Rattle.flash_rule.specs.{Views.AreOfHosts, Views.calls_of, Views.sum_of, Views.owned_at, Rule.IsValue, Plays.Looked, Plays.is_unpinned}

@@ -6,7 +6,7 @@ use mathlib.Core.Logic.{dite}
 use native.Mathlib.Decide.{ℕ_discrete}
 use Rattle.geometry.specs.Geometry.{blocks_of, pages_of, endurance_of}
 use Rattle.geometry.specs.{History.Call, History.Begins, History.was, Limits.Numbers}
-use Rattle.geometry.specs.declared.{answer.Was.Was, map_word.MapWord.MapWord, pin_word.Phase.TheVariants.Open, pin_word.Phase.TheVariants.Closed}
+use Rattle.geometry.specs.declared.{answer.Was.Was, words.MapWord.MapWord, words.Phase.TheVariants.Open, words.Phase.TheVariants.Closed}
 use Rattle.flash_rule.specs.{declared.facts.Owned.Owned, declared.facts.Work.Work, declared.view.View.View, Views.AreOfHosts, Views.owned_at, Views.calls_of}
 use Rattle.flash_rule.specs.Plays.{Called, CanPlace, IsSettled, next_page, is_unpinned}
 use Rattle.flash_rule.proofs.{Owning.some_same, Owning.none_some, Still.pass_of}

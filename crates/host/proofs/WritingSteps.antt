@@ -5,7 +5,7 @@ use Rattle.std.proofs.{Math.ListN.get_or, Math.ListN.get_or-append, lemmas.List.
 use Rattle.std.specs.List.{range_with_len}
 use mathlib.Core.Logic.{dite}
 use native.Mathlib.Decide.{ℕ_discrete}
-use Rattle.geometry.specs.{Geometry.pages_of, Geometry.words_of, Geometry.page_bytes_of, Limits.Numbers, PageBytes.word_of, declared.map_word.MapWord.MapWord}
+use Rattle.geometry.specs.{Geometry.pages_of, Geometry.words_of, Geometry.page_bytes_of, Limits.Numbers, Words.word_of, declared.words.MapWord.MapWord}
 use Rattle.flash_rule.specs.{declared.facts.Owned.Owned, declared.facts.Work.Work, declared.view.View.View, Views.owned_at, World.data_word}
 use Rattle.flash_rule.specs.Plays.{CanPut, CanCount, IsSettled, SettledBut, words_in, next_page}
 use Rattle.flash_rule.proofs.{Owning.some_same, PageSteps.words_none, PageSteps.words_here}

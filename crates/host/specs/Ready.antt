@@ -1,7 +1,7 @@
 -- A pass between two calls of its host.
 use Rattle.std.specs.Prelude.{◌≡◌, ℕ, ◌<◌, List, true, None, Some}
 use Rattle.geometry.specs.Geometry.{blocks_of, pages_of, endurance_of, sectors_of}
-use Rattle.geometry.specs.declared.map_word.MapWord.{MapWord}
+use Rattle.geometry.specs.declared.words.MapWord.{MapWord}
 use Rattle.flash_rule.specs.declared.facts.Pin.TheVariants.{Accepted}
 use Rattle.flash_rule.specs.declared.facts.Name.TheVariants.{Pass as APass}
 use Rattle.flash_rule.specs.declared.facts.Role.TheVariants.{Player}

@@ -1,7 +1,7 @@
 -- The rows of a survey.
 use Rattle.std.proofs.{Common.◌≡◌, Common.length, Common.sym, Common.◌∙◌, lemmas.List.length-map, lemmas.List.FromFn.length-map-range_with_len}
 use Rattle.broom.specs.Survey.{Survey, closed_of, counts_of, is_closed, live_pages}
-use Rattle.geometry.specs.declared.pin_word.PinWord.{PinWord}
+use Rattle.geometry.specs.declared.words.PinWord.{PinWord}
 
 -- there are as many counts as blocks
 pub as_long : (s : Survey) → length (counts_of s) ≡ length (closed_of s.states)

@@ -1,7 +1,7 @@
 -- Surveys, calls and counts of brooms, as the laws of brooms name them.
 use Rattle.std.specs.Prelude.{◌≡◌, ◌≤◌, ℕ, List, [], ◌∷◌, ◌++◌, None, Some, true, false, slice_index}
-use Rattle.geometry.specs.{Greedy.IsClosed, declared.map_word.MapWord.MapWord, declared.pin_word.Phase.Phase, declared.pin_word.PinWord.PinWord}
-use Rattle.geometry.specs.declared.pin_word.Phase.TheVariants as phase
+use Rattle.geometry.specs.{Greedy.IsClosed, declared.words.MapWord.MapWord, declared.words.Phase.Phase, declared.words.PinWord.PinWord}
+use Rattle.geometry.specs.declared.words.Phase.TheVariants as phase
 use Rattle.flash_rule.specs.declared.{facts.Cycle.Cycle, view.View.View}
 use Rattle.broom.specs.{declared.answer.Drain.Drain, declared.broom.Broom.Broom, Ready.blocks_of_broom, Ready.view_of_broom, Told.Surveyed}
 use Rattle.broom.specs.Survey.{Survey, closed_of, counts_of}

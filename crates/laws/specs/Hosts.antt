@@ -1,6 +1,6 @@
 -- What a write leaves, as the laws of hosts name it.
 use Rattle.std.specs.Prelude.{◌≡◌, [], ◌∷◌, ◌++◌}
-use Rattle.geometry.specs.declared.map_word.MapWord.{MapWord}
+use Rattle.geometry.specs.declared.words.MapWord.{MapWord}
 use Rattle.flash_rule.specs.declared.view.View.{View}
 
 -- a pass has made no call, programmed no page and taken no block

@@ -1,6 +1,6 @@
 -- States and pages, as the laws of a device's numbers and words name them.
 use Rattle.std.specs.Prelude.{ℕ, List, ◌∷◌, ◌++◌, replicate}
-use Rattle.geometry.specs.declared.pin_word.{Phase.Phase, PinWord.PinWord}
+use Rattle.geometry.specs.declared.words.{Phase.Phase, PinWord.PinWord}
 
 -- a block with this many readers, in this phase, with this many pages written, in this generation
 abbrev pub a_state : ℕ → Phase → ℕ → ℕ → PinWord

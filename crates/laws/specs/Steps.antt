@@ -1,6 +1,6 @@
 -- What players did, as the laws of steps name it.
 use Rattle.std.specs.Prelude.{◌≡◌, ℕ, Some, slice_get}
-use Rattle.geometry.specs.{History.held, declared.map_word.MapWord.MapWord}
+use Rattle.geometry.specs.{History.held, declared.words.MapWord.MapWord}
 use Rattle.flash_rule.specs.declared.{carried.Carried.Carried, facts.Cycle.Cycle, view.View.View}
 
 -- a sector holds after all that the second view has seen what it held after all that the first one has

@@ -1,6 +1,6 @@
 -- Blocks as their owners have them, as the laws of a table's steps name them.
 use Rattle.std.specs.Prelude.{ℕ, Some}
-use Rattle.geometry.specs.declared.pin_word.Phase.{Phase}
+use Rattle.geometry.specs.declared.words.Phase.{Phase}
 use Rattle.flash_rule.specs.declared.facts.{Cycle.Cycle, Inspection.Inspection, Owned.Owned}
 use Rattle.flash_table.specs.declared.{broom_seat.BroomBlocks.BroomBlocks, broom_seat.ReclaimedBlock.ReclaimedBlock, pass.OpenBlock.OpenBlock}
 use Rattle.flash_table.specs.declared.broom_seat.Reclaiming.TheVariants as reclaiming

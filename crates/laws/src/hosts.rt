@@ -1,6 +1,6 @@
 ghost use Rattle.std.specs.Prelude.{◌≡◌, ◌+◌, ◌*◌, ◌<◌, ◌≤◌, ℕ, List, [], ◌∷◌, ◌++◌, None, Some};
 ghost use Rattle.std.specs.List.{range_with_len};
-ghost use Rattle.geometry.specs.{History.Begins, History.Write, History.held, declared.answer.Was.Was, declared.map_word.MapWord.MapWord};
+ghost use Rattle.geometry.specs.{History.Begins, History.Write, History.held, declared.answer.Was.Was, declared.words.MapWord.MapWord};
 ghost use Rattle.flash_rule.specs.{Plays.Disjoint, Views.sum_of, World.sector_word, declared.facts.Owned.Owned, declared.view.View.View};
 ghost use Rattle.broom.specs.Meeting.{BroomsMet, HasHeard, StoodTold};
 ghost use Rattle.host.specs.Told.{MetHolding, MetTold, Refused, Searched, Wrote};

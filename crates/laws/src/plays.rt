@@ -13,10 +13,10 @@ ghost use Rattle.flash_rule.specs.declared.facts.Name.TheVariants as name;
 ghost use Rattle.flash_rule.specs.declared.facts.Pin.TheVariants as pin;
 ghost use Rattle.flash_rule.specs.declared.facts.Role.TheVariants as seat;
 ghost use Rattle.geometry.specs.History.{Begins, Trim, Write, WriteNew, held};
-ghost use Rattle.geometry.specs.{Limits.numbers, MapWords.FitsMap, MapWords.map_word};
-ghost use Rattle.geometry.specs.{PinWords.FitsPin, PinWords.pin_word, TableOrder.page_index, TableOrder.pin_index, declared.map_word.MapWord.MapWord};
-ghost use Rattle.geometry.specs.declared.{map_word.TheConstants.UNMAPPED, pin_word.PinWord.PinWord};
-ghost use Rattle.geometry.specs.declared.pin_word.Phase.TheVariants as phase;
+ghost use Rattle.geometry.specs.{Limits.numbers, Words.FitsMap, Words.map_word};
+ghost use Rattle.geometry.specs.{Words.FitsPin, Words.pin_word, Words.page_index, Words.pin_index, declared.words.MapWord.MapWord};
+ghost use Rattle.geometry.specs.declared.words.{TheConstants.UNMAPPED, PinWord.PinWord};
+ghost use Rattle.geometry.specs.declared.words.Phase.TheVariants as phase;
 ghost use Rattle.laws.specs.{Tables.an_inspection, Tables.an_owned, Brooms.a_page};
 
 pub(crate) mod played_rounds;

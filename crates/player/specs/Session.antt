@@ -4,7 +4,7 @@ use Rattle.std.specs.{Prelude.Result, Prelude.Ok, Prelude.Err, Io.KnownBytes.IsA
 use Rattle.clap.specs.{Words.IsAmong, Words.Text, Words.kind_of, declared.error.Error.Error, declared.error.kind.ErrorKind.ErrorKind}
 use Rattle.clap.specs.declared.error.kind.ErrorKind.TheVariants as kind
 use Rattle.geometry.specs.{Geometry.hosts_of, Geometry.numbers_of, Limits.first_fault, declared.geometry.Geometry.Geometry}
-use Rattle.geometry.specs.declared.fault.GeometryFault.{GeometryFault}
+use Rattle.geometry.specs.declared.limits.GeometryFault.{GeometryFault}
 use Rattle.trace.specs.declared.fault.TraceFaultKind.{TraceFaultKind}
 use Rattle.streams.specs.declared.{named_file.OpenFault.OpenFault, watched.Watched.Watched}
 use Rattle.streams.specs.Watched.{inner_of}

@@ -1,7 +1,7 @@
 -- What a pass that plays lines does: each is answered at a history, one after another.
 use Rattle.std.specs.Prelude.{◌≡◌, ℕ, zero, suc, ◌+◌, ◌<◌, ◌≤◌, Bool, true, false, if◌then◌else◌, List, [], ◌∷◌, ◌++◌, length}
 use Rattle.std.specs.List.{range_with_len}
-use Rattle.geometry.specs.{History.Call, History.held, History.Begins, declared.map_word.MapWord.MapWord}
+use Rattle.geometry.specs.{History.Call, History.held, History.Begins, declared.words.MapWord.MapWord}
 use Rattle.flash_rule.specs.declared.view.View.{View}
 use Rattle.trace.specs.declared.commands.{Command.Command, Op.Op}
 use Rattle.trace.specs.declared.commands.Op.TheVariants as op

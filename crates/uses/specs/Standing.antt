@@ -1,6 +1,6 @@
 -- What a hold and a broom know of each other.
 use Rattle.std.specs.Prelude.{◌≡◌, ℕ, List, Some, slice_get}
-use Rattle.geometry.specs.declared.map_word.MapWord.{MapWord}
+use Rattle.geometry.specs.declared.words.MapWord.{MapWord}
 use Rattle.flash_rule.specs.declared.facts.Cycle.{Cycle}
 
 -- none of these erases is that of the page's block in the page's generation

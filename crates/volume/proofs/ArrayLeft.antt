@@ -1,9 +1,9 @@
 -- Each call of a broom leaves the array of sectors to the hosts.
 use Rattle.std.proofs.Common.{◌≡◌, ℕ, All, true, false, List, [], ◌∷◌, ◌++◌, inl, inr, refl, sym, ap, ◌∙◌, subst, append_assoc, append-nil}
 use Rattle.std.proofs.lemmas.List.Elements.{All-head, All-tail}
-use Rattle.geometry.specs.{History.Call, History.Write, History.WriteNew, History.Trim, History.held, History.Begins, PinWords.pin_word}
+use Rattle.geometry.specs.{History.Call, History.Write, History.WriteNew, History.Trim, History.held, History.Begins, Words.pin_word}
 use Rattle.geometry.proofs.Histories.{Begins-refl, Begins-trans, held_by_new, held_by_trim, held_by_write}
-use Rattle.geometry.specs.declared.pin_word.PinWord.{PinWord}
+use Rattle.geometry.specs.declared.words.PinWord.{PinWord}
 use Rattle.flash_rule.specs.{Views.AreOfHosts, declared.view.View.View}
 use Rattle.broom.specs.{declared.broom.Broom.Broom, declared.answer.Drain.Drain, declared.answer.Erase.Erase, Erasing.EraseTold, Meeting.BroomsMet}
 use Rattle.broom.{specs.Dead.DeadBySurvey, specs.Dead.DeadTold, specs.Dead.InspectedTold, proofs.Loading.loaded_changes}

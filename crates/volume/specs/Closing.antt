@@ -1,7 +1,7 @@
 -- What the sectors are with which a device is closed.
 use Rattle.std.specs.Prelude.{◌≡◌, ℕ, ◌+◌, ◌<◌, ◌++◌, List, Option, Vec, map, option_map, length, [], None, Some, slice_get}
 use Rattle.std.specs.Global.{Global}
-use Rattle.geometry.specs.{Limits.Numbers, History.Call, History.after, History.held, History.Begins, declared.pin_word.Phase.TheVariants.Closed as ClosedPhase}
+use Rattle.geometry.specs.{Limits.Numbers, History.Call, History.after, History.held, History.Begins, declared.words.Phase.TheVariants.Closed as ClosedPhase}
 use Rattle.geometry.specs.Sectors.{Sector, sector_at}
 use Rattle.flash_rule.specs.declared.{facts.Name.TheVariants.Pass as APass, facts.Role.TheVariants.Player, facts.Owned.Owned, view.View.View}
 use Rattle.flash_rule.specs.Views.{AreOfHosts, calls_of}

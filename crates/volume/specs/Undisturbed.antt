@@ -1,7 +1,7 @@
 -- What holds of a page from when a pass has pinned it until it is released, whatever other threads do during it: its block is not erased,
 -- and none of its programmed pages is programmed again.
 use Rattle.std.specs.Prelude.{◌≡◌, ℕ, ◌<◌, List, Option, Some, IfSome, slice_get}
-use Rattle.geometry.specs.declared.map_word.MapWord.{MapWord}
+use Rattle.geometry.specs.declared.words.MapWord.{MapWord}
 use Rattle.flash_rule.specs.{declared.carried.Carried.Carried, declared.facts.Cycle.Cycle, Plays.Disjoint, Plays.Once}
 use Rattle.flash_table.specs.{declared.flash.Flash.Flash, Flash.view_of}
 use Rattle.host.specs.{declared.holding.Held.Held, Holding.Holds, Holding.pass_of, Holding.page_of}

@@ -29,7 +29,7 @@ impl Volume {
     ghost use Rattle.geometry.specs.History as call;
     ghost use Rattle.geometry.specs.History.{held};
     ghost use Rattle.geometry.specs.Sectors.{Answers};
-    ghost use Rattle.geometry.specs.declared.pin_word.PinWord.{PinWord};
+    ghost use Rattle.geometry.specs.declared.words.PinWord.{PinWord};
     ghost use Rattle.flash_rule.specs.declared.facts.Pin.TheVariants as pin;
     ghost use Rattle.flash_rule.specs.World.{data_word};
     ghost use Rattle.flash_rule.specs.Seats.{carried};

@@ -1,7 +1,7 @@
 -- How many pages a drain programmed for copies: as many as its broom had room for before it, without those that it has room for after it.
 use Rattle.std.proofs.Common.{◌≡◌, ℕ, ◌-◌, List, [], ◌++◌, length, refl, sym, ap, subst, append-nil, arith}
 use Rattle.std.proofs.lemmas.List.{length-append}
-use Rattle.geometry.specs.declared.map_word.MapWord.{MapWord}
+use Rattle.geometry.specs.declared.words.MapWord.{MapWord}
 use Rattle.flash_rule.specs.declared.view.View.{View}
 use Rattle.flash_table.specs.declared.broom_seat.BroomBlocks.{BroomBlocks}
 use Rattle.broom.specs.{declared.broom.Broom.Broom, declared.answer.Drain.Drain, Handing.DrainNextOneTold, Handing.DrainOneTold, Handing.IsElse}

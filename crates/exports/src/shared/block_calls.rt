@@ -1,6 +1,6 @@
 //! What a broom reports of the blocks of its device.
 ghost use Rattle.std.specs.Prelude.{◌≡◌, ◌≢◌, List, is_some};
-ghost use Rattle.geometry.specs.declared.pin_word.PinWord.{PinWord};
+ghost use Rattle.geometry.specs.declared.words.PinWord.{PinWord};
 ghost use Rattle.flash_table.specs.Flash.{device};
 ghost use Rattle.volume.specs.Volume.{flash_of};
 ghost use Rattle.broom.specs.Handing.{HandsNothing};

@@ -1,5 +1,5 @@
 ghost use Rattle.std.specs.Prelude.{◌≡◌, ℕ, List, [], ◌∷◌};
-ghost use Rattle.geometry.specs.{History.Call, History.Trim, History.Begins, Limits.Numbers, declared.map_word.MapWord.MapWord};
+ghost use Rattle.geometry.specs.{History.Call, History.Trim, History.Begins, Limits.Numbers, declared.words.MapWord.MapWord};
 ghost use Rattle.flash_rule.specs.{Plays.Disjoint, Plays.Once, Views.AreOfHosts, Views.calls_of};
 
 /// A history begins itself and each longer one whose first calls are its own.

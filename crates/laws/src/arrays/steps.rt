@@ -1,6 +1,6 @@
 ghost use Rattle.std.specs.Prelude.{◌≡◌, ◌+◌, ◌<◌, ℕ, Bool, List, [], ◌∷◌, ◌++◌, is_some};
 ghost use Rattle.geometry.specs.{History.Call, History.Begins, History.held, History.was, Sectors.Answers, declared.answer.Got.Got, declared.answer.Was.Was};
-ghost use Rattle.geometry.specs.declared.map_word.MapWord.{MapWord};
+ghost use Rattle.geometry.specs.declared.words.MapWord.{MapWord};
 ghost use Rattle.geometry.specs.History as call;
 ghost use Rattle.flash_rule.specs.{declared.carried.Carried.Carried, declared.view.View.View, Plays.Spared, Views.calls_of};
 ghost use Rattle.flash_table.specs.{declared.flash.Flash.Flash, Flash.view_of};

@@ -15,9 +15,9 @@ ghost use Rattle.flash_rule.specs.{BroomPlays.inspected_in, BroomPlays.owned_as,
 ghost use Rattle.flash_rule.specs.declared.view.View.{View};
 ghost use Rattle.flash_table.specs.{Erasing.words_in_block, Owning.owned_of};
 ghost use Rattle.flash_table.specs.declared.{broom_seat.BroomBlocks.BroomBlocks, broom_seat.ReclaimedBlock.ReclaimedBlock, pass.OpenBlock.OpenBlock};
-ghost use Rattle.geometry.specs.{History.Begins, MapWords.map_word, PinWords.FitsPin, PinWords.pin_word, declared.map_word.MapWord.MapWord};
-ghost use Rattle.geometry.specs.declared.pin_word.PinWord.{PinWord};
-ghost use Rattle.geometry.specs.declared.pin_word.Phase.TheVariants as phase;
+ghost use Rattle.geometry.specs.{History.Begins, Words.map_word, Words.FitsPin, Words.pin_word, declared.words.MapWord.MapWord};
+ghost use Rattle.geometry.specs.declared.words.PinWord.{PinWord};
+ghost use Rattle.geometry.specs.declared.words.Phase.TheVariants as phase;
 ghost use Rattle.laws.specs.Brooms.{HasNone, HasSpare};
 
 /// What an erase of a block records, by its result: the block, its state as loaded, what was listed and given up, and what the broom has then.

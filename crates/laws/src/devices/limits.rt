@@ -1,12 +1,12 @@
 //! Laws of a device's numbers and of the words of its table.
 ghost use Rattle.std.specs.Prelude.{◌≡◌, ◌+◌, [], ◌∷◌, ◌++◌, Some, None, true, false, replicate};
 ghost use Rattle.geometry.specs.{Geometry.blocks_of, Geometry.luns_of, Geometry.lun_of, Geometry.numbers_in, Greedy.IsGreedy};
-ghost use Rattle.geometry.specs.{History.Trim, History.Write, History.WriteNew, History.step, MapWords.FitsMap, MapWords.IsPageOf, MapWords.map_word};
-ghost use Rattle.geometry.specs.{Limits.IsWithinLimits, Limits.numbers, Limits.first_fault, Limits.table_words_of, PageBytes.word_of, PageBytes.with_word};
-ghost use Rattle.geometry.specs.PinWords.{FitsPin, IsStateOf, freed_added, kept_added, pin_word};
-ghost use Rattle.geometry.specs.{TableOrder.page_index, TableOrder.pin_index, declared.geometry.Geometry.Geometry};
-ghost use Rattle.geometry.specs.declared.fault.GeometryFault.TheVariants as fault;
-ghost use Rattle.geometry.specs.declared.pin_word.Phase.TheVariants as phase;
+ghost use Rattle.geometry.specs.{History.Trim, History.Write, History.WriteNew, History.step, Words.FitsMap, Words.IsPageOf, Words.map_word};
+ghost use Rattle.geometry.specs.{Limits.IsWithinLimits, Limits.numbers, Limits.first_fault, Limits.table_words_of, Words.word_of, Words.with_word};
+ghost use Rattle.geometry.specs.Words.{FitsPin, IsStateOf, freed_added, kept_added, pin_word};
+ghost use Rattle.geometry.specs.{Words.page_index, Words.pin_index, declared.geometry.Geometry.Geometry};
+ghost use Rattle.geometry.specs.declared.limits.GeometryFault.TheVariants as fault;
+ghost use Rattle.geometry.specs.declared.words.Phase.TheVariants as phase;
 ghost use Rattle.laws.specs.{Brooms.a_page, Limits.a_state, Limits.two_words};
 
 /// Which fault the numbers of a device have: each bound is one that a number may reach, and none that it may pass.

@@ -14,7 +14,7 @@ ghost use Rattle.flash_rule.specs.declared.facts.Role.TheVariants as seat;
 ghost use Rattle.flash_table.specs.Flash.{IsPassOf, broom_view, device, first_blocks, first_broom, own_blocks, view_of, geometry_of};
 ghost use Rattle.flash_table.specs.{Steps.HasNumber, declared.broom_seat.BroomSeat.BroomSeat, declared.flash.Flash.Flash, declared.pass.Pass.Pass};
 ghost use Rattle.geometry.specs.{Geometry.blocks_of, Geometry.pages_of, Geometry.sectors_of, Limits.Numbers, Sectors.Sector, declared.answer.Was.Was};
-ghost use Rattle.geometry.specs.{History.Call, History.Begins, History.WriteNew, History.after, History.held, declared.map_word.MapWord.MapWord};
+ghost use Rattle.geometry.specs.{History.Call, History.Begins, History.WriteNew, History.after, History.held, declared.words.MapWord.MapWord};
 ghost use Rattle.geometry.specs.declared.answer.Was.TheVariants as was;
 ghost use Rattle.host.specs.Holding.{Found, Holds, IsSpared, addr_of, page_in, page_of, pass_of};
 ghost use Rattle.host.specs.{Told.WroteNew, Told.was_found, declared.holding.Held.Held};

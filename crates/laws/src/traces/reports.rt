@@ -16,11 +16,11 @@ ghost use Rattle.flash_table.specs.declared.broom_seat.Reclaiming.TheVariants as
 ghost use Rattle.ftl_one.specs.{Blocks.blocks_in, Stock.Stock, Stock.next, Store.entries_of, Store.erases_of, declared.store.Store.Store};
 ghost use Rattle.ftl_one.specs.declared.role.Role.TheVariants as role;
 ghost use Rattle.geometry.specs.Geometry.{blocks_of, hosts_of, pages_of};
-ghost use Rattle.geometry.specs.{Faults.fault_name, History.Trim, PinWords.phase_bits, Sectors.was_of};
+ghost use Rattle.geometry.specs.{Limits.fault_name, History.Trim, Words.phase_bits, Sectors.was_of};
 ghost use Rattle.geometry.specs.declared.geometry.Geometry.{Geometry};
 ghost use Rattle.geometry.specs.declared.answer.Was.TheVariants as was;
-ghost use Rattle.geometry.specs.declared.fault.GeometryFault.TheVariants as geometry_fault;
-ghost use Rattle.geometry.specs.declared.pin_word.Phase.TheVariants as phase;
+ghost use Rattle.geometry.specs.declared.limits.GeometryFault.TheVariants as geometry_fault;
+ghost use Rattle.geometry.specs.declared.words.Phase.TheVariants as phase;
 ghost use Rattle.player.specs.{Session.status_of, Telling.file_name, Telling.file_text};
 ghost use Rattle.player.specs.declared.run_files.FileStop.TheVariants as file_stop;
 ghost use Rattle.player.specs.declared.run_files.RunFile.TheVariants as run_file;

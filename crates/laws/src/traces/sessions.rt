@@ -3,7 +3,7 @@ ghost use Rattle.answers.specs.{Answers.end_text, Outcome.ExplainsRun, declared.
 ghost use Rattle.answers.specs.Streams.{Passage, Stream, stream_of, Part, Whole, Writes, Tells};
 ghost use Rattle.answers.specs.declared.delivery.OutputFailed.{OutputFailed};
 ghost use Rattle.clap.specs.{Words.IsAmong, Words.Text, Words.first_of, Words.kind_of, Words.one_of, declared.error.Error.Error};
-ghost use Rattle.geometry.specs.{Geometry.hosts_of, Geometry.numbers_of, declared.fault.GeometryFault.GeometryFault, declared.geometry.Geometry.Geometry};
+ghost use Rattle.geometry.specs.{Geometry.hosts_of, Geometry.numbers_of, declared.limits.GeometryFault.GeometryFault, declared.geometry.Geometry.Geometry};
 ghost use Rattle.geometry.specs.Limits.{first_fault, numbers};
 ghost use Rattle.player.specs.CommandLine.{AreOptionsOf, IsNumberIn, faults_given, numbers_given, rows_given, rows_named};
 ghost use Rattle.player.specs.Session.{AsksClap, HasFailedToOpen, MovesNothing, IsLogBy, IsOpenedAs, IsRefused, IsRefusedAs, IsTextFor, portion_left_by};

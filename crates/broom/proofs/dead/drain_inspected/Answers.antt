@@ -1,5 +1,5 @@
 use Rattle.std.proofs.Common.{◌≡◌, refl, ap, ◌∙◌, rules}
-use Rattle.geometry.specs.declared.pin_word.Phase.TheVariants.{Closed, Victim}
+use Rattle.geometry.specs.declared.words.Phase.TheVariants.{Closed, Victim}
 use Rattle.flash_rule.specs.{declared.view.View.View, Views.with_owned, BroomPlays.owned_as}
 use Rattle.flash_table.specs.declared.broom_seat.{BroomBlocks.BroomBlocks, ReclaimedBlock.ReclaimedBlock}
 use Rattle.flash_table.specs.Flash.{broom_view, own_blocks}

@@ -1,6 +1,6 @@
 use Rattle.std.proofs.Common.{◌≡◌, inl, refl, ap, arith}
 use Rattle.flash_rule.specs.{declared.view.View.View, BroomPlays.owned_as, Views.without, Views.with_owned}
-use Rattle.geometry.specs.declared.pin_word.Phase.TheVariants.{Victim}
+use Rattle.geometry.specs.declared.words.Phase.TheVariants.{Victim}
 use Rattle.flash_table.specs.Flash.{IsBroomOf, broom_view, own_blocks}
 use Rattle.broom.specs.{Ready.IsRested, Ready.view_of_broom, Relocating.Sweeps, Told.DidDrainAgain}
 use Rattle.broom.proofs.{Unmarking.ready_unseen, Choosing.rested_lost}

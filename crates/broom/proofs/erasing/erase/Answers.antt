@@ -1,7 +1,7 @@
 use Rattle.std.proofs.Common.{rules, ◌≡◌, ℕ, Bool, true, false, [], ◌∷◌, ◌++◌, MatchBool, refl, sym, ap, ◌∙◌, arith}
 use Rattle.flash_rule.specs.declared.view.View.{View}
 use Rattle.flash_table.specs.declared.broom_seat.{BroomBlocks.BroomBlocks, Reclaiming.TheVariants.Nothing}
-use Rattle.geometry.specs.{PinWords.pin_word, Limits.Numbers, Geometry.endurance_of, declared.pin_word.Phase.TheVariants.Drained}
+use Rattle.geometry.specs.{Words.pin_word, Limits.Numbers, Geometry.endurance_of, declared.words.Phase.TheVariants.Drained}
 use Rattle.flash_table.specs.Flash.{broom_view, own_blocks, geometry_of}
 use Rattle.broom.specs.Erasing.{DidKeep, DidFree}
 use Rattle.broom.proofs.Renewing.{loaded_stale, loaded_busy, loaded_changed, rested_loaded, WasWiped, was_wiped, its, did_retire, did_renew, told_erased}

@@ -1,5 +1,5 @@
 use Rattle.std.proofs.Common.{◌≡◌, ℕ, ◌+◌, ◌<◌, MatchBool, Some, sym, refl, ap, ◌∙◌, subst}
-use Rattle.geometry.specs.{Geometry.pages_of, Limits.Numbers, MapWords.FitsMap, MapWords.map_word}
+use Rattle.geometry.specs.{Geometry.pages_of, Limits.Numbers, Words.FitsMap, Words.map_word}
 use Rattle.flash_rule.specs.{declared.facts.Source.Source, declared.view.View.View, Rule.IsValue, BroomPlays.Moved}
 use Rattle.flash_table.specs.declared.{broom_seat.BroomBlocks.BroomBlocks, broom_seat.ReclaimedBlock.ReclaimedBlock, pass.OpenBlock.OpenBlock}
 use Rattle.flash_table.specs.Flash.{broom_view, own_blocks, geometry_of}

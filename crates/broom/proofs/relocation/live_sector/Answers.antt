@@ -1,5 +1,5 @@
 use Rattle.std.proofs.Common.{◌≡◌, ◌+◌, None, Some, sym, ap, ◌∙◌, subst, arith}
-use Rattle.geometry.specs.{Geometry.pages_of, Geometry.sectors_of, Limits.Numbers, MapWords.FitsMap}
+use Rattle.geometry.specs.{Geometry.pages_of, Geometry.sectors_of, Limits.Numbers, Words.FitsMap}
 use Rattle.flash_rule.specs.declared.view.View.{View}
 use Rattle.flash_table.specs.{Flash.broom_view, Flash.geometry_of, declared.broom_seat.ReclaimedBlock.ReclaimedBlock}
 use Rattle.broom.specs.{Emptying.victim_page, Relocating.Sweeps, Relocating.Relocated}

@@ -1,7 +1,7 @@
 use Rattle.std.proofs.Common.{◌≡◌, ℕ, List, Bool, length, sym, ap, ◌∙◌, subst, arith}
 use Rattle.std.specs.Vec.{with_items}
 use Rattle.std.proofs.lemmas.List.{with_items_is}
-use Rattle.geometry.specs.{Geometry.blocks_of, declared.pin_word.PinWord.PinWord}
+use Rattle.geometry.specs.{Geometry.blocks_of, declared.words.PinWord.PinWord}
 use Rattle.flash_rule.specs.declared.view.View.{View}
 use Rattle.flash_table.specs.Flash.{broom_view, geometry_of, device}
 use Rattle.broom.specs.{declared.broom.Broom.Broom, Surveying.PagesCounted, Ready.IsReady, Ready.AreMarked, Ready.view_of_broom}

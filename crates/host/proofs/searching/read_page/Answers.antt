@@ -1,7 +1,7 @@
 use Rattle.std.proofs.Common.{◌≡◌, ◌∙◌, ap, sym, arith, rules, subst}
 use mathlib.Core.Logic.{dite}
 use native.Mathlib.Decide.{ℕ_discrete}
-use Rattle.geometry.specs.{Geometry.words_of, PageBytes.word_of}
+use Rattle.geometry.specs.{Geometry.words_of, Words.word_of}
 use Rattle.flash_rule.specs.{declared.view.View.View, declared.facts.Pin.TheVariants.Accepted, World.data_word, Plays.Spared}
 use Rattle.flash_table.specs.Flash.{geometry_of, view_of}
 use Rattle.host.proofs.ReadingPages.{pinned_same, value_read}

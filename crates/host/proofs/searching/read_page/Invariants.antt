@@ -1,5 +1,5 @@
 use Rattle.std.proofs.Common.{◌≡◌, ℕ, ◌<◌, ◌^◌, List, Some, get_or}
-use Rattle.geometry.specs.PageBytes.{word_of}
+use Rattle.geometry.specs.Words.{word_of}
 use Rattle.flash_rule.specs.{declared.carried.Carried.Carried, Plays.Spared, World.data_word}
 use Rattle.flash_table.specs.Flash.{IsPassOf, view_of, opened_of}
 use Rattle.host.specs.Ready.{IsPinned}

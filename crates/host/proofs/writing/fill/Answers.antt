@@ -1,5 +1,5 @@
 use Rattle.std.proofs.Common.{◌≡◌, ◌<◌, Some, sym, ap, ◌∙◌, subst, arith}
-use Rattle.geometry.specs.{Geometry.numbers_of, Geometry.blocks_of, Geometry.pages_of, Geometry.words_of, declared.map_word.MapWord.MapWord}
+use Rattle.geometry.specs.{Geometry.numbers_of, Geometry.blocks_of, Geometry.pages_of, Geometry.words_of, declared.words.MapWord.MapWord}
 use Rattle.flash_rule.specs.Plays.{next_page}
 use Rattle.flash_table.specs.{Owning.owned_of, declared.pass.OpenBlock.OpenBlock, Flash.view_of, Flash.opened_of, Flash.geometry_of}
 use Rattle.flash_table.proofs.PassResults.{same_block, starts_same}

@@ -1,6 +1,6 @@
 use Rattle.std.proofs.Common.{◌≡◌, Some, None}
 use Rattle.laws.specs.Tables.{an_owned}
-use Rattle.geometry.specs.declared.pin_word.Phase.TheVariants as phase
+use Rattle.geometry.specs.declared.words.Phase.TheVariants as phase
 use Rattle.laws.proofs.tables.blocks_of_a_seat.Goals as goal
 
 pub returns-clause-others : goal.returns-clause-others

@@ -1,7 +1,7 @@
 use Rattle.std.proofs.Common.{◌≡◌, ◌++◌, ℕ, List, [], ◌∷◌, Some, refl, sym, ap, ◌∙◌, arith}
 use Rattle.std.specs.Prelude.{slice_get}
 use Rattle.flash_rule.specs.{declared.view.View.View, BroomPlays.IsLastLoaded}
-use Rattle.geometry.specs.PinWords.{pin_word}
+use Rattle.geometry.specs.Words.{pin_word}
 use Rattle.laws.proofs.tables.erases_of_a_seat.Goals as goal
 
 empty_no_part : (earlier later : List (ℕ × ℕ)) (x : ℕ × ℕ) → [] ≡ earlier ++ x ∷ later → ⊥

@@ -1,6 +1,6 @@
 use Rattle.std.proofs.Common.{◌++◌, [], ◌∷◌, Some, refl, ap, ◌∙◌}
 use Rattle.flash_rule.specs.{declared.view.View.View, Plays.words_in}
-use Rattle.geometry.specs.declared.pin_word.Phase.TheVariants as phase
+use Rattle.geometry.specs.declared.words.Phase.TheVariants as phase
 use Rattle.laws.specs.{Brooms.a_page, Tables.an_open, Tables.an_owned}
 use Rattle.laws.proofs.tables.words_of_an_open_block.Goals as goal
 

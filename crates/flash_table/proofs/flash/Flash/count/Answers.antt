@@ -1,7 +1,7 @@
 use Rattle.flash_table.proofs.{Permissions.whose, Permissions.of_pass, PassSteps.count_here, flash.Flash.count.Goals.After-fetch_add}
 use Rattle.std.proofs.Common.{◌≡◌, ◌+◌, ◌∷◌, ◌++◌, [], Some, ap, ◌∙◌}
 use Rattle.flash_rule.specs.{declared.facts.Work.Work, declared.view.View.View, Plays.CanCount}
-use Rattle.geometry.specs.TableOrder.{pin_index}
+use Rattle.geometry.specs.Words.{pin_index}
 use Rattle.flash_table.specs.{Flash.device, Flash.view_of, Owning.owned_of, declared.pass.OpenBlock.OpenBlock}
 use Rattle.flash_table.proofs.PassResults.{same_block, stays_pass, count_can, count_view, pass_counted}
 use Rattle.flash_table.proofs.flash.Flash.count.Goals as goal

@@ -1,7 +1,7 @@
 use Rattle.flash_table.proofs.{Permissions.whose, Permissions.of_broom, Rows.just_now, PassSteps.count_here, PassResults.same_block}
 use Rattle.flash_table.proofs.{PassResults.count_can, PassResults.count_view}
 use Rattle.std.proofs.Common.{◌≡◌, ◌+◌, ◌∷◌, ◌++◌, [], Some, refl, ap, ◌∙◌}
-use Rattle.geometry.specs.TableOrder.{pin_index}
+use Rattle.geometry.specs.Words.{pin_index}
 use Rattle.flash_rule.specs.{declared.facts.Work.Work, Plays.CanCount, Views.with_owned}
 use Rattle.flash_table.specs.{Flash.device, Flash.broom_view, Flash.own_blocks, Owning.owned_of}
 use Rattle.flash_table.specs.declared.{pass.OpenBlock.OpenBlock}

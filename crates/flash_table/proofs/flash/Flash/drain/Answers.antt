@@ -1,6 +1,6 @@
 use Rattle.flash_table.proofs.{Permissions.whose, Permissions.of_broom, BroomSteps.drain_here}
 use Rattle.std.proofs.Common.{◌≡◌, ap, ◌∙◌}
-use Rattle.geometry.specs.declared.pin_word.Phase.TheVariants.{Victim}
+use Rattle.geometry.specs.declared.words.Phase.TheVariants.{Victim}
 use Rattle.flash_table.specs.{GivingUp.left_drained, Owning.reclaimed_as, Flash.broom_view}
 use Rattle.flash_table.proofs.{Rows.just_now, Blocks.drained_just, flash.Flash.drain.Goals.After-fetch_add}
 use Rattle.flash_table.proofs.BroomResults.{stays_broom, draining_same, drain_can, drained_view}

@@ -1,6 +1,6 @@
 use Rattle.flash_table.proofs.{Permissions.of_broom, BroomSteps.source_here}
 use Rattle.std.proofs.Common.{◌+◌, ◌<◌, ap, sym, ◌∙◌, subst}
-use Rattle.geometry.specs.{TableOrder.page_index, declared.map_word.MapWord.MapWord}
+use Rattle.geometry.specs.{Words.page_index, declared.words.MapWord.MapWord}
 use Rattle.flash_rule.specs.{declared.facts.Source.Source}
 use Rattle.flash_table.specs.Flash.{device}
 use Rattle.flash_table.proofs.BroomResults.{source_same, source_value}

@@ -1,6 +1,6 @@
 use Rattle.flash_table.proofs.{Permissions.whose, Permissions.of_broom, Rows.just_now, BroomSteps.stamp_here, flash.Flash.get_stamp.Goals.After-load}
 use Rattle.std.proofs.Common.{◌≡◌, ◌+◌, ◌<◌, ℕ, ap, ◌∙◌, subst}
-use Rattle.geometry.specs.{Geometry.blocks_of, TableOrder.page_index, declared.pin_word.Phase.TheVariants.Victim}
+use Rattle.geometry.specs.{Geometry.blocks_of, Words.page_index, declared.words.Phase.TheVariants.Victim}
 use Rattle.flash_rule.specs.BroomPlays.{GotStamp}
 use Rattle.flash_table.specs.{Flash.device, Flash.broom_view, Flash.own_blocks, Flash.geometry_of, Owning.reclaimed_as, Steps.IsOfVictim}
 use Rattle.flash_table.specs.declared.{broom_seat.BroomSeat.BroomSeat, broom_seat.ReclaimedBlock.ReclaimedBlock, flash.Flash.Flash}

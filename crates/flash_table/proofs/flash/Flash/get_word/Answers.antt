@@ -1,5 +1,5 @@
 use Rattle.std.proofs.Common.{◌≡◌, ◌+◌, ℕ, ap}
-use Rattle.geometry.specs.{Geometry.numbers_of, TableOrder.page_index, declared.map_word.MapWord.MapWord}
+use Rattle.geometry.specs.{Geometry.numbers_of, Words.page_index, declared.words.MapWord.MapWord}
 use Rattle.flash_table.specs.{declared.flash.Flash.Flash, Flash.geometry_of}
 use Rattle.flash_table.proofs.{Permissions.of_pass, PassSteps.get_here, PassResults.get_value}
 use Rattle.flash_table.proofs.flash.Flash.get_word.Goals as goal

@@ -1,7 +1,7 @@
 use Rattle.flash_table.proofs.{Permissions.whose, Permissions.of_broom, Rows.just_now, BroomSteps.state_here, flash.Flash.load_state.Goals.After-load-found}
 use Rattle.std.proofs.Common.{◌≡◌, ap, sym, ◌∙◌, arith}
-use Rattle.geometry.specs.{Limits.Numbers, declared.pin_word.PinWord.PinWord}
-use Rattle.geometry.proofs.PinBits.{pin_same}
+use Rattle.geometry.specs.{Limits.Numbers, declared.words.PinWord.PinWord}
+use Rattle.geometry.proofs.WordBits.{pin_same}
 use Rattle.flash_rule.specs.BroomPlays.{Loaded}
 use Rattle.flash_table.specs.Flash.{device, broom_view}
 use Rattle.flash_table.proofs.BroomResults.{is_a_broom, stays_broom, loaded_view, loaded_changed}

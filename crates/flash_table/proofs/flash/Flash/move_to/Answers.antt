@@ -1,7 +1,7 @@
 use Rattle.flash_table.proofs.{Permissions.whose, Permissions.of_broom, Rows.just_now, BroomSteps.move_here}
 use Rattle.flash_table.proofs.{flash.Flash.move_to.Goals.After-compare_exchange-found}
 use Rattle.std.proofs.Common.{◌≡◌, ap, sym, ◌∙◌, subst}
-use Rattle.geometry.specs.MapWords.{map_word}
+use Rattle.geometry.specs.Words.{map_word}
 use Rattle.flash_rule.specs.{declared.facts.Source.Source, BroomPlays.Moved}
 use Rattle.flash_table.specs.Flash.{broom_view}
 use Rattle.flash_table.proofs.BroomResults.{stays_broom, source_same, moved_view, found_or_not}

@@ -1,6 +1,6 @@
 use Rattle.flash_table.proofs.{Permissions.whose, Permissions.IsPlace, Permissions.of_broom, ErasingSteps.wipe_here, Rows.just_now}
 use Rattle.std.proofs.Common.{◌≡◌, ◌+◌, ap, arith, subst}
-use Rattle.geometry.specs.TableOrder.{page_index}
+use Rattle.geometry.specs.Words.{page_index}
 use Rattle.flash_table.specs.Flash.{device, broom_view}
 use Rattle.flash_table.proofs.{BroomResults.stays_broom, flash.Flash.wipe.Goals.After-store}
 use Rattle.flash_table.proofs.ErasingResults.{can_wipe, wiped_within, wipe_view}

@@ -1,5 +1,5 @@
 use Rattle.std.proofs.Common.{rules, ◌≡◌, sym, ap, ◌∙◌, arith}
-use Rattle.geometry.specs.{Geometry.endurance_of, Limits.Numbers, PinWords.pin_word, declared.pin_word.Phase.TheVariants.Drained}
+use Rattle.geometry.specs.{Geometry.endurance_of, Limits.Numbers, Words.pin_word, declared.words.Phase.TheVariants.Drained}
 use Rattle.flash_rule.specs.declared.view.View.{View}
 use Rattle.flash_table.specs.declared.broom_seat.{BroomBlocks.BroomBlocks}
 use Rattle.flash_table.specs.Flash.{broom_view, own_blocks}

@@ -1,4 +1,4 @@
-use Rattle.geometry.specs.PinWords.{pin_word}
+use Rattle.geometry.specs.Words.{pin_word}
 use Rattle.shared_acceptance.proofs.Rested.{rested_loaded}
 use Rattle.shared_acceptance.proofs.models.words.pin_word.Goals as goal
 

@@ -1,10 +1,35 @@
--- What the owners' additions, the readers' additions and the taking bit make of a pin word.
-use Rattle.std.proofs.Common.{◌≡◌, ℕ, ◌+◌, ◌-◌, ◌*◌, ◌%◌, ◌^◌, ◌<◌, ◌≤◌, ◌==◌, sym, refl, ap, ◌∙◌, arith}
-use Rattle.std.specs.{Prelude.if◌then◌else◌, Int.Bits.bit_or, Int.Bits.or_block, Int.Bits.or_zero_r}
-use Rattle.geometry.specs.{MapWords.FitsMap, MapWords.map_word, declared.map_word.MapWord.MapWord, declared.pin_word.PinWord.PinWord}
-use Rattle.geometry.specs.{PinWords.FitsPin, PinWords.phase_bits, PinWords.pin_word, PinWords.freed_added, PinWords.kept_added, declared.pin_word.Phase.Phase}
-use Rattle.geometry.specs.declared.pin_word.Phase.TheVariants.{Free, Open, Closed, Victim, Drained, Erasing, Retired}
-use Rattle.geometry.specs.declared.pin_word.TheConstants.{TAKEN, NEXT_PHASE, PAGE_WRITTEN, PHASES, PAGES_WRITTEN}
+-- What a write of one word makes of a page's others, and what the owners' additions, the readers' additions and the taking bit make of a block's word.
+use Rattle.std.proofs.Common.{◌≡◌, ℕ, ◌≢◌, ◌+◌, ◌*◌, ◌≤◌, ◌<◌, List, length, take, drop, ap, sym, ◌∙◌, arith, inl, inr, ◌-◌, ◌%◌, ◌^◌, ◌==◌, refl}
+use Rattle.std.proofs.lemmas.List.{drop-take}
+use Rattle.std.proofs.lemmas.Slice.{take-put_mid_below, drop-put_mid}
+use Rattle.std.proofs.lemmas.Bool.{cases_lt}
+use Rattle.std.specs.Int.{from_le_bytes, w64}
+use borrow.Rule.Slice.PartMut.{put_mid}
+use Rattle.geometry.specs.Words.{word_of, FitsMap, map_word, FitsPin, phase_bits, pin_word, freed_added, kept_added}
+use Rattle.std.specs.Prelude.{if◌then◌else◌}
+use Rattle.std.specs.Int.Bits.{bit_or, or_block, or_zero_r}
+use Rattle.geometry.specs.declared.words.MapWord.{MapWord}
+use Rattle.geometry.specs.declared.words.PinWord.{PinWord}
+use Rattle.geometry.specs.declared.words.Phase.{Phase}
+use Rattle.geometry.specs.declared.words.Phase.TheVariants.{Free, Open, Closed, Victim, Drained, Erasing, Retired}
+use Rattle.geometry.specs.declared.words.TheConstants.{TAKEN, NEXT_PHASE, PAGE_WRITTEN, PHASES, PAGES_WRITTEN}
+
+part_below : (xs ys : List ℕ) (i k n : ℕ) → k < i → 8 * i + 8 ≤ length xs → take 8 (drop (8 * k) (put_mid (8 * i) n xs ys)) ≡ take 8 (drop (8 * k) xs)
+part_below xs ys i k n below room =
+    let kept : take (8 * k + 8) (put_mid (8 * i) n xs ys) ≡ take (8 * k + 8) xs =
+    take-put_mid_below (8 * i) n xs ys (8 * k + 8) (omega arith) (omega arith) in
+    sym (drop-take (8 * k) 8 (put_mid (8 * i) n xs ys)) ∙ (ap (drop (8 * k)) kept ∙ drop-take (8 * k) 8 xs)
+
+part_above : (xs ys : List ℕ) (i k n : ℕ) → n ≡ 8 → length ys ≡ n → i < k → 8 * i + 8 ≤ length xs
+    → take 8 (drop (8 * k) (put_mid (8 * i) n xs ys)) ≡ take 8 (drop (8 * k) xs)
+part_above xs ys i k n is_8 len above room = ap (take 8) (drop-put_mid (8 * i) n xs ys (8 * k) (omega arith) (omega arith) len)
+
+pub word_kept : (xs ys : List ℕ) (i k n : ℕ) → n ≡ 8 → length ys ≡ n → k ≢ i → 8 * i + 8 ≤ length xs → word_of (put_mid (8 * i) n xs ys) k ≡ word_of xs k
+word_kept xs ys i k n is_8 len other room =
+    ap (from_le_bytes w64) (elim (cases_lt k i) [
+      | inl below ↦ part_below xs ys i k n below room
+      | inr not_below ↦ part_above xs ys i k n is_8 len (omega arith) room
+    ])
 
 -- a phase's bits as a number of sixteen
 phase_number : Phase → ℕ

@@ -1,5 +1,5 @@
 use Rattle.std.proofs.Common.{arith}
-use Rattle.geometry.proofs.pin_word.freed.Goals as goal
+use Rattle.geometry.proofs.words.pin_at.Goals as goal
 
 pub returns : goal.returns
 returns c = omega arith

@@ -1,5 +1,5 @@
 use Rattle.std.proofs.Common.{arith}
-use Rattle.geometry.proofs.table_order.pin_at.Goals as goal
+use Rattle.geometry.proofs.words.freed.Goals as goal
 
 pub returns : goal.returns
 returns c = omega arith

@@ -1,6 +1,6 @@
 use Rattle.std.proofs.Common.{◌+◌, ◌*◌, ◌-◌, arith}
-use Rattle.geometry.proofs.PageWords.{word_kept}
-use Rattle.geometry.proofs.page_bytes.put_word.Goals as goal
+use Rattle.geometry.proofs.WordBits.{word_kept}
+use Rattle.geometry.proofs.words.put_word.Goals as goal
 
 pub returns-clause-others : goal.returns-clause-others
 returns-clause-others c k other _ =
