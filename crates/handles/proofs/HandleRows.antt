@@ -24,7 +24,7 @@ use Rattle.std_heap.specs.contracts.Global as heaps
 use Rattle.std_heap.proofs.Global.TheLaws as heap_laws
 use Rattle.std_heap.specs.contracts.GlobalAllocator.TheImpl.{ghosts}
 use Rattle.handles.specs.Kept.{kept}
-use Rattle.handles.specs.contracts.slot.Slot as slots
+use Rattle.handles.specs.contracts.handle.Slot as slots
 
 -- the heap's row and its laws, by itself and as a type argument of a call
 abbrev pub Heap : RattleType

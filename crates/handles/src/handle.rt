@@ -1,13 +1,62 @@
-//! What C holds: two words, the first a slot, the second 1 if there is a value in it.
-ghost use Rattle.std.specs.Prelude.{◌≡◌};
-ghost use Rattle.handles.specs.Kept.{SaysWhetherOpen};
+//! What C holds: two words, the first a slot, which is a pointer to a value on the heap or none, the second 1 if there is a value in it.
+ghost use Rattle.std.specs.Prelude.{◌≡◌, Option, Some, None, is_some, true};
+ghost use Rattle.std.specs.Coded.{coded_option};
+ghost use Rattle.handles.specs.Kept.{kept, SaysWhetherOpen};
 
-use crate::slot::Slot;
 use std::alloc::Global;
+use std::marker::Model;
 use std::mem;
 
 /// The code of a call on a closed handle.
 pub const CLOSED: u32 = 2;
+
+/// A pointer to a value, or none. It is not `Drop`, so that no value is lost.
+#[repr(C)]
+pub struct Slot<T> {
+    pub at: *mut T,
+    pub ghost value: { Option T } by { coded_option T.code },
+}
+
+impl<T> Model for Slot<T> {
+    ghost also_owns = { λ s. kept T.row s.at s.value };
+}
+
+impl<T> Slot<T> {
+    /// A slot without a value.
+    pub fn empty() -> Slot<T>
+        ensures { result.value ≡ None }
+    {
+        Slot {
+            at: std::ptr::null_mut(),
+        }
+    }
+
+    /// Ends a slot that has no value.
+    pub fn end(self)
+        requires { self.value ≡ None }
+    {
+        let Slot { at: _ } = self;
+    }
+
+    /// The value of a slot that has one.
+    pub fn into_box(self, alloc: Global) -> Box<T, Global>
+        requires { is_some self.value ≡ true }
+        ensures { self.value ≡ Some result.value }
+    {
+        let Slot { at } = self;
+        unsafe { Box::from_raw(alloc, at) }
+    }
+}
+
+impl<T: Drop> Slot<T> {
+    /// A slot with this value.
+    pub fn filled(boxed: Box<T, Global>) -> Slot<T>
+        ensures { result.value ≡ Some boxed.value }
+    {
+        let at = Box::into_raw(boxed);
+        Slot { at }
+    }
+}
 
 /// A handle: closed, which is all zero bytes, or open, with a value.
 #[repr(C)]
@@ -21,7 +70,7 @@ pub struct Handle<T> {
 pub fn may_go<T: Send>(_value: &T) {}
 
 impl<T: Drop> Handle<T> {
-    ghost use Rattle.std.specs.Prelude.{Some, None, option_map, true, false};
+    ghost use Rattle.std.specs.Prelude.{option_map, false};
     ghost use Rattle.std.specs.Fn.{FnOnceReturnsAtMut};
     ghost use Rattle.handles.specs.Kept.{boxed};
     ghost use Rattle.handles.specs.Calls.{value_of, Calls, CallsWith, ReturnsAtBoth};

@@ -3,7 +3,5 @@
 
 mod handle;
 mod laws;
-mod slot;
 
-pub use handle::{CLOSED, Handle, may_go};
-pub use slot::Slot;
+pub use handle::{CLOSED, Handle, Slot, may_go};

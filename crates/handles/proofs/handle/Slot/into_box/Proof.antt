@@ -40,11 +40,11 @@ use Rattle.std_heap.proofs.GlobalAllocator.TheImpl.Met.{passed}
 use Rattle.std_heap.specs.contracts.GlobalAllocator.TheImpl.{ghosts, dict}
 use Rattle.handles.specs.Kept.{heap, kept}
 use Rattle.handles.proofs.HandleRows.{Boxed, Boxed-laws, Slot, Heap, Heap-arg, Heap-arg-laws, word, word_typed, the_value, heap_drop}
-use Rattle.handles.proofs.slot.Slot.TheLaws as laws
+use Rattle.handles.proofs.handle.Slot.TheLaws as laws
 use Rattle.handles.proofs.Destruct++none.drop.Code as nothing_dropped
-use Rattle.handles.specs.contracts.slot.Slot.into_box as f
-use Rattle.handles.proofs.slot.Slot.into_box.Statement.{statement}
-use Rattle.handles.proofs.slot.Slot.into_box.Code as code
+use Rattle.handles.specs.contracts.handle.Slot.into_box as f
+use Rattle.handles.proofs.handle.Slot.into_box.Statement.{statement}
+use Rattle.handles.proofs.handle.Slot.into_box.Code as code
 
 pub into_box_spec : {M : Type 1} → statement M
 unfolding nothing_dropped.code

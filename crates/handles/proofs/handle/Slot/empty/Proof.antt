@@ -16,9 +16,9 @@ use denote.RawPtr.{null_ptr}
 use denote.Steps.{nothing}
 use denote.Triple.Walked.{walk_of, says, ends_at}
 use Rattle.handles.proofs.HandleRows.{word, word_typed, makes}
-use Rattle.handles.specs.contracts.slot.Slot.empty as f
-use Rattle.handles.proofs.slot.Slot.empty.Statement.{statement}
-use Rattle.handles.proofs.slot.Slot.empty.Code as code
+use Rattle.handles.specs.contracts.handle.Slot.empty as f
+use Rattle.handles.proofs.handle.Slot.empty.Statement.{statement}
+use Rattle.handles.proofs.handle.Slot.empty.Code as code
 
 pub empty_spec : {M : Type 1} → statement M
 empty_spec 𝓤 𝓛 𝓜 𝓡 wired T L =

@@ -41,9 +41,9 @@ use Rattle.std_heap.specs.contracts.GlobalAllocator.TheImpl.{ghosts, dict}
 use Rattle.handles.specs.Kept.{heap}
 use Rattle.handles.proofs.HandleRows.{Boxed, Boxed-laws, Heap, Heap-arg, Heap-arg-laws, word, word_typed, makes, heap_drop}
 use Rattle.handles.proofs.Destruct++none.drop.Code as nothing_dropped
-use Rattle.handles.specs.contracts.slot.Slot.filled as f
-use Rattle.handles.proofs.slot.Slot.filled.Statement.{statement}
-use Rattle.handles.proofs.slot.Slot.filled.Code as code
+use Rattle.handles.specs.contracts.handle.Slot.filled as f
+use Rattle.handles.proofs.handle.Slot.filled.Statement.{statement}
+use Rattle.handles.proofs.handle.Slot.filled.Code as code
 
 pub filled_spec : {M : Type 1} → statement M
 unfolding nothing_dropped.code
