@@ -17,7 +17,6 @@ mod retired;
 mod retired_broom;
 mod spares;
 mod steps;
-mod taking;
 
 pub use broom_seat::{BroomBlocks, BroomSeat, ReclaimedBlock, Reclaiming};
 pub use flash::Flash;

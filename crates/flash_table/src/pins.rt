@@ -12,7 +12,7 @@ ghost use Rattle.flash_table.specs.Steps.{DeniesIntact, IsSpared, PinTold, SaysI
 use crate::flash::Flash;
 use crate::pass::Pass;
 use flash_rule::{AddReader, GetWord, RemoveReader};
-use geometry::{MapWord, PageAddr, Phase, PinWord, READER, page_word_at, pin_at};
+use geometry::{MapWord, Phase, PinWord, READER, pin_at};
 
 // Whether the written pages of a block can be read.
 fn is_readable(phase: Phase) -> bool
@@ -66,19 +66,6 @@ impl Flash {
         self.table
             .shared
             .fetch_sub::<RemoveReader>(&mut pass.seat, word, READER);
-    }
-
-    /// The index in the table at which a page's words begin.
-    pub fn page_start(&self, page: MapWord) -> usize
-        requires block { page.block < blocks_of (geometry_of self.now) }
-        requires page { page.page < pages_of (geometry_of self.now) }
-        ensures { result ≡ page_index (numbers_of (geometry_of self.now)) page.block page.page }
-    {
-        let addr = PageAddr {
-            block: page.block,
-            page: page.page,
-        };
-        page_word_at(&self.geometry, addr, 0)
     }
 
     /// Word `i` of the page that is pinned, whose words begin at `start`.

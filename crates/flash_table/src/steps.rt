@@ -1,21 +1,26 @@
-//! The steps of a pass, one atomic operation each, except a take.
-ghost use Rattle.std.specs.Prelude.{◌≡◌, ℕ, ◌+◌, ◌<◌, List, [], ◌∷◌, ◌++◌, true, IfSome, Some, None};
+//! The steps of a pass, one atomic operation each, except a take. A broom takes blocks in the same way.
+ghost use Rattle.std.specs.Prelude.{◌≡◌, ℕ, ◌+◌, ◌<◌, List, [], ◌∷◌, ◌++◌, true, IfSome, IfNone, MatchOption, Some, None};
 ghost use Rattle.geometry.specs.Geometry.{numbers_of, sectors_of, blocks_of};
-ghost use Rattle.geometry.specs.Words.{page_index, FitsMap};
+ghost use Rattle.geometry.specs.Words.{page_index, FitsMap, FitsPin, pin_word};
 ghost use Rattle.geometry.specs.History.{Write, WriteNew, Trim};
+ghost use Rattle.geometry.specs.declared.words.PinWord.{PinWord};
+ghost use Rattle.geometry.specs.declared.words.Phase.TheVariants as phase;
 ghost use Rattle.flash_rule.specs.declared.facts.Work.{Work};
 ghost use Rattle.flash_rule.specs.World.{sector_word};
+ghost use Rattle.flash_rule.specs.Views.{is_player};
 ghost use Rattle.flash_rule.specs.Plays.{Looked, CanPlace, CanCount, is_unpinned};
 ghost use Rattle.flash_table.specs.Owning.{owned_of};
 ghost use Rattle.flash_table.specs.GivingUp.{closed_pass};
-ghost use Rattle.flash_table.specs.Flash.{IsPassOf, view_of, geometry_of, opened_of};
+ghost use Rattle.flash_table.specs.Flash.{IsPassOf, view_of, device, geometry_of, opened_of};
+ghost use Rattle.flash_table.specs.Taking.{FoundTaken, TookFree};
 ghost use Rattle.flash_table.specs.declared.pass.OpenBlock.{OpenBlock};
 ghost use Rattle.flash_table.specs.Steps.{CanGiveUp, HasCalled, HasNumber, HasPut, IsFilled, IsNextWord, TakeTold, PlaceTold};
 
 use crate::flash::Flash;
 use crate::pass::{OpenBlock, Pass};
-use flash_rule::{Close, Count, Look, PlaceNew, PlaceTrim, PlaceWrite, PutWord};
-use geometry::{MapWord, NEXT_PHASE, PAGE_WRITTEN, UNMAPPED, Was, pin_at};
+use atomic_table::Seat;
+use flash_rule::{Close, Count, Look, PlaceNew, PlaceTrim, PlaceWrite, PutWord, Take, Test, View};
+use geometry::{MapWord, NEXT_PHASE, PAGE_WRITTEN, Phase, PinWord, TAKEN, UNMAPPED, Was, pin_at};
 
 // What a sector was, by the word that was found there.
 fn was_by(found: u64) -> Was
@@ -26,6 +31,22 @@ fn was_by(found: u64) -> Was
         Was::Empty
     } else {
         Was::Written
+    }
+}
+
+// The generation of a block that the word says is free.
+fn generation_if_free(word: u64) -> Option<u32>
+    ensures some { IfSome result
+        (λ n. (state : PinWord) × FitsPin state × (pin_word state ≡ word)
+        × (state.phase ≡ phase.Free) × (state.generation ≡ n)) }
+    ensures none { IfNone result ((state : PinWord) → FitsPin state
+        → pin_word state ≡ word → ¬ (state.phase ≡ phase.Free)) }
+{
+    let state = PinWord::unpack(word)?;
+    if state.phase == Phase::Free {
+        Some(state.generation)
+    } else {
+        None
     }
 }
 
@@ -99,6 +120,25 @@ impl Flash {
             .shared
             .swap::<PlaceTrim>(&mut pass.seat, sector as usize, UNMAPPED);
         was_by(found)
+    }
+
+    // Takes a block for a pass or a broom if it is free, and returns its generation. It loads the block's word first: an exchange would cost far
+    // more, and most blocks that are tried are taken.
+    pub(crate) fn take_free(&self, seat: &mut Seat<(), View>, block: u32) -> Option<u32>
+        requires table { seat.old.table_id ≡ self.now.table.shared.table_id }
+        requires player { is_player seat.old.me.0.role ≡ true }
+        requires numbers { seat.old.me.0.numbers ≡ device self.now }
+        requires block { block < blocks_of (geometry_of self.now) }
+        ensures taken { MatchOption result (FoundTaken seat.old.me.0 block seat.new.me.0)
+            (λ generation. TookFree seat.old.me.0 block generation seat.new.me.0) }
+        ensures bare { seat.new.me.1 ≡ seat.old.me.1 }
+        ensures table { seat.new.table_id ≡ seat.old.table_id }
+    {
+        let word = pin_at(&self.geometry, block);
+        let seen = self.table.shared.load::<Test>(seat, word);
+        generation_if_free(seen)?;
+        let found = self.table.shared.fetch_or::<Take>(seat, word, TAKEN);
+        generation_if_free(found)
     }
 
     /// Takes a block if it is free. Returns whether it did. A load that finds the block taken is all that this does.
