@@ -1,14 +1,17 @@
-//! The calls of a host, by codes.
+//! The calls of C on a host: reads, looks, writes and trims.
 ghost use Rattle.std.specs.Prelude.{◌≡◌, ◌<◌, ◌≤◌, ℕ, length};
 ghost use Rattle.flash_table.specs.Flash.{view_of, opened_of};
 ghost use Rattle.host.specs.Told.{Searched};
 ghost use Rattle.volume.specs.Correct.{Read, Look, Write, WriteNew, Trim, Found, IsWritten, Replaced};
 ghost use Rattle.exports.specs.Codes.{got_by, written_by, was_by};
-ghost use Rattle.exports.specs.Shared.{host_volume, read_code, read_buffer, look_code, write_code, trim_code};
-ghost use Rattle.exports.specs.Shared.{HasTrimmed, HasWritten, HasWrittenNew, IsStep, WriteEnds};
+ghost use Rattle.exports.specs.Shared.{host_volume, read_code, read_buffer, look_code, write_code, trim_code, HasTrimmed, HasWritten, HasWrittenNew, IsStep};
+ghost use Rattle.exports.specs.Shared.{WriteEnds, by_host, host_code, HostCalled, seen_of};
+ghost use Rattle.exports.specs.Handles.{seat_of};
 
-use crate::codes::{DONE, NO_BLOCK, NO_SECTOR, NOT_A_PAGE, WRITTEN, code_of};
-use crate::handle::seat::Host;
+use crate::codes::{DONE, NO_BLOCK, NO_SECTOR, NOT_A_PAGE, WRITTEN, WRONG_KIND, code_of};
+use crate::handle::Handle;
+use crate::handle::seat::{Host, Seat};
+use std::alloc::Global;
 use volume::{Got, NewFault};
 
 impl Host {
@@ -123,4 +126,107 @@ impl Host {
         }
         code_of(self.volume.trim(&mut self.pass, sector))
     }
+}
+
+/// Reads a sector into a buffer of one page. An empty sector leaves the buffer as it was.
+#[unsafe(no_mangle)]
+pub extern "C" fn mintlintel_host_read(
+    alloc: Global,
+    handle: &mut Handle,
+    sector: u32,
+    out: &mut [u8],
+) -> u32
+    ensures code { result
+        ≡ host_code (seat_of handle.old)
+        (read_code sector (length out.old) (seen_of (seat_of handle.new))) }
+    ensures buffer { out.new
+        ≡ by_host (seat_of handle.old) out.old out.old
+        (read_buffer sector out.old (seen_of (seat_of handle.new))) }
+    ensures correct { HostCalled (seat_of handle.old) (seat_of handle.new)
+        (λ v p q. result ≤ WRITTEN
+        → IsStep v p (Read sector) (Found (got_by result) out.old out.new) q) }
+    ensures searched { HostCalled (seat_of handle.old) (seat_of handle.new)
+        (λ v p q. result ≤ WRITTEN → (tries : ℕ) × Searched (view_of p) tries (view_of q)) }
+    ensures same { HostCalled (seat_of handle.old) (seat_of handle.new)
+        (λ v p q. WRITTEN < result → q ≡ p) }
+{
+    handle.typed().on_page(alloc, out, |seat, out| match seat {
+        Seat::Host(host) => host.read(sector, out),
+        _ => WRONG_KIND,
+    })
+}
+
+/// Whether a sector is written, by one look at its map word. No page is read.
+#[unsafe(no_mangle)]
+pub extern "C" fn mintlintel_host_look(alloc: Global, handle: &mut Handle, sector: u32) -> u32
+    ensures code { result
+        ≡ host_code (seat_of handle.old) (look_code sector (seen_of (seat_of handle.new))) }
+    ensures correct { HostCalled (seat_of handle.old) (seat_of handle.new)
+        (λ v p q. result ≤ WRITTEN → IsStep v p (Look sector) (IsWritten (written_by result)) q) }
+    ensures searched { HostCalled (seat_of handle.old) (seat_of handle.new)
+        (λ v p q. result ≤ WRITTEN → Searched (view_of p) 1 (view_of q)) }
+    ensures opened { HostCalled (seat_of handle.old) (seat_of handle.new)
+        (λ v p q. opened_of q ≡ opened_of p) }
+    ensures same { HostCalled (seat_of handle.old) (seat_of handle.new)
+        (λ v p q. WRITTEN < result → q ≡ p) }
+{
+    handle.typed().on(alloc, |seat| match seat {
+        Seat::Host(host) => host.look(sector),
+        _ => WRONG_KIND,
+    })
+}
+
+/// Writes a page of bytes to a sector, and returns what the sector was.
+#[unsafe(no_mangle)]
+pub extern "C" fn mintlintel_host_write(
+    alloc: Global,
+    handle: &mut Handle,
+    sector: u32,
+    bytes: &[u8],
+) -> u32
+    ensures code { result
+        ≡ host_code (seat_of handle.old) (write_code sector (length bytes.now) result) }
+    ensures wrote { HostCalled (seat_of handle.old) (seat_of handle.new)
+        (λ v p q. WriteEnds v p (Write sector bytes.now) (HasWritten p sector bytes.now) result q) }
+{
+    handle.typed().on(alloc, |seat| match seat {
+        Seat::Host(host) => host.write(sector, bytes),
+        _ => WRONG_KIND,
+    })
+}
+
+/// Writes a page of bytes to a sector that is empty.
+#[unsafe(no_mangle)]
+pub extern "C" fn mintlintel_host_write_new(
+    alloc: Global,
+    handle: &mut Handle,
+    sector: u32,
+    bytes: &[u8],
+) -> u32
+    ensures code { result
+        ≡ host_code (seat_of handle.old) (write_code sector (length bytes.now) result) }
+    ensures wrote { HostCalled (seat_of handle.old) (seat_of handle.new)
+        (λ v p q. WriteEnds v p (WriteNew sector bytes.now) (HasWrittenNew p sector bytes.now) result q) }
+{
+    handle.typed().on(alloc, |seat| match seat {
+        Seat::Host(host) => host.write_new(sector, bytes),
+        _ => WRONG_KIND,
+    })
+}
+
+/// Empties a sector, and returns what it was.
+#[unsafe(no_mangle)]
+pub extern "C" fn mintlintel_host_trim(alloc: Global, handle: &mut Handle, sector: u32) -> u32
+    ensures code { result ≡ host_code (seat_of handle.old) (trim_code sector result) }
+    ensures correct { HostCalled (seat_of handle.old) (seat_of handle.new)
+        (λ v p q. result ≤ WRITTEN → IsStep v p (Trim sector) (Replaced (was_by result)) q) }
+    ensures called { HostCalled (seat_of handle.old) (seat_of handle.new)
+        (λ v p q. result ≤ WRITTEN → HasTrimmed p sector (was_by result) q) }
+    ensures same { HostCalled (seat_of handle.old) (seat_of handle.new)
+        (λ v p q. WRITTEN < result → q ≡ p) }
+{
+    handle.typed().on(alloc, |seat| match seat {
+        Seat::Host(host) => host.trim(sector),
+        _ => WRONG_KIND,
+    })
 }
