@@ -3,7 +3,7 @@ use Rattle.std.proofs.Common.{◌≡◌, ℕ, zero, suc, ◌+◌, [], ◌∷◌,
 use Rattle.std.specs.List.{range_with_len}
 use Rattle.flash_rule.specs.{declared.view.View.View}
 use Rattle.flash_table.specs.declared.{flash.Flash.Flash, broom_seat.BroomBlocks.BroomBlocks, broom_seat.BroomSeat.BroomSeat}
-use Rattle.flash_table.specs.{Spares.GotNoSpare}
+use Rattle.flash_table.specs.Taking.{GotNoSpare}
 use Rattle.flash_table.specs.Flash.{IsBroomOf, broom_view, own_blocks}
 
 -- ---- a row of numbers, and a list of blocks

@@ -2,7 +2,7 @@
 use Rattle.std.specs.Prelude.{◌≡◌, ◌++◌, Option, None}
 use Rattle.erase_queue.specs.declared.pass.QueuePass.{QueuePass}
 use Rattle.flash_rule.specs.declared.view.View.{View}
-use Rattle.flash_table.specs.Leaving.{retired_broom_view}
+use Rattle.flash_table.specs.Flash.{retired_broom_view}
 use Rattle.broom.specs.declared.folding.Folded.{Folded}
 use Rattle.flash_table.specs.Owning.{closed_list}
 use Rattle.flash_table.specs.declared.pass.OpenBlock.{OpenBlock}

@@ -5,7 +5,7 @@ use Rattle.flash_rule.specs.declared.view.View.{View}
 use Rattle.flash_table.specs.declared.broom_seat.BroomBlocks.{BroomBlocks}
 use Rattle.flash_table.specs.declared.pass.OpenBlock.{OpenBlock}
 use Rattle.flash_table.specs.Owning.{owned_of}
-use Rattle.flash_table.specs.Spares.{fresh_block}
+use Rattle.flash_table.specs.Taking.{fresh_block}
 use Rattle.broom.specs.declared.broom.Broom.{Broom}
 use Rattle.broom.specs.Ready.{view_of_broom, blocks_of_broom}
 

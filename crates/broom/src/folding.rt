@@ -1,9 +1,8 @@
 //! The end of a broom.
 ghost use Rattle.std.specs.Prelude.{◌≡◌, ◌<◌, Some, None};
 ghost use Rattle.geometry.specs.Geometry.{blocks_of};
-ghost use Rattle.flash_table.specs.Flash.{IsBroomOf, broom_view, own_blocks, geometry_of};
+ghost use Rattle.flash_table.specs.Flash.{IsBroomOf, broom_view, own_blocks, geometry_of, retired_broom_view};
 ghost use Rattle.flash_table.specs.declared.pass.OpenBlock.{OpenBlock};
-ghost use Rattle.flash_table.specs.Leaving.{retired_broom_view};
 ghost use Rattle.flash_table.specs.GivingUp.{closed_broom};
 ghost use Rattle.erase_queue.specs.Queue.{limit_of};
 ghost use Rattle.broom.specs.Ready.{IsReady, IsRested, IsFiled, view_of_broom, blocks_of_broom};

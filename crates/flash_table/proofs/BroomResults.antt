@@ -1,26 +1,43 @@
--- What a step's play makes of a broom's seat.
-use Rattle.flash_rule.proofs.{Points.phase_or_not, Owning.some_same}
-use Rattle.flash_table.proofs.{Permissions.whose, Permissions.slots_of, Blocks.all_open, Blocks.draining_at}
-use Rattle.std.specs.{Prelude.◌&&◌, Bool.MatchBool, Prelude.Bool, Prelude.false}
+-- What a step's play makes of a broom's seat, and what a broom that erases may do by what its calls ask.
+use Rattle.flash_rule.proofs.Points.{phase_or_not}
+use Rattle.flash_rule.proofs.Owning.{some_same}
+use Rattle.flash_table.proofs.Permissions.{whose, slots_of}
+use Rattle.flash_table.proofs.Blocks.{all_open, draining_at, erasing_at}
+use Rattle.std.specs.Prelude.{◌&&◌, Bool, false}
+use Rattle.std.specs.Bool.{MatchBool}
 use Rattle.flash_rule.specs.BroomPlays.{Inspected, is_page_of, GotStamp, CanGetStamp, CanMove, Moved, stamp_told, source_told, move_told, Loaded, IsLastLoaded}
-use Rattle.flash_rule.specs.BroomPlays.{IsInspected, CanClaim, Claimed, CanDrain, state_told, claim_told, drain_told}
-use Rattle.flash_table.specs.{Inspecting.InspectTold, declared.flash.Flash.Flash}
+use Rattle.flash_rule.specs.BroomPlays.{IsInspected, CanClaim, Claimed, CanDrain, state_told, claim_told, drain_told, CanCondemn, Condemned, IsErasing, CanWipe}
+use Rattle.flash_rule.specs.BroomPlays.{CanRenew, CanRetire, condemn_told, wipe_told, freed_told, kept_told, retired_told}
+use Rattle.flash_table.specs.Steps.{InspectTold, HasInspected, IsCleared}
+use Rattle.flash_table.specs.declared.flash.Flash.{Flash}
 use Rattle.std.proofs.Common.{◌≡◌, ℕ, ◌+◌, ◌<◌, ◌≤◌, ◌⊎◌, inl, inr, ⊎_elim, ◌==◌, eq-eqb, ne_eqb, true, [], ◌∷◌, ◌++◌, List, Option, None, Some, IfSome, IfNone}
-use Rattle.std.proofs.Common.{sym, refl, ap, ◌∙◌, subst, arith}
+use Rattle.std.proofs.Common.{sym, refl, ap, ◌∙◌, subst, arith, ◌*◌}
 use mathlib.Core.Option.{none}
 use mathlib.Core.Logic.{dite}
 use native.Mathlib.Decide.{ℕ_discrete, dec_lt}
 use Rattle.atomic_table.specs.Table.{step}
-use Rattle.geometry.specs.{Limits.Numbers, Words.map_word, Words.FitsMap}
-use Rattle.geometry.specs.declared.words.{MapWord.MapWord, TheConstants.MAPPED, PinWord.PinWord, TheConstants.NEXT_PHASE}
-use Rattle.geometry.specs.Words.{pin_word, FitsPin, pin_index, page_index}
-use Rattle.geometry.specs.declared.words.Phase.TheVariants.{Closed, Victim, Drained}
-use Rattle.flash_rule.specs.declared.{facts.Owned.Owned, facts.Source.Source, view.View.View}
-use Rattle.flash_rule.specs.{Views.is_broom, Plays.Sitter, World.data_word, World.sector_word}
-use Rattle.flash_table.specs.declared.broom_seat.{BroomSeat.BroomSeat, Reclaiming.Reclaiming, ReclaimedBlock.ReclaimedBlock}
-use Rattle.flash_table.specs.{Owning.reclaimed_as, GivingUp.left_drained, Steps.HasInspected, Steps.IsCleared}
-use Rattle.flash_table.specs.Flash.{IsBroomOf, broom_view, own_blocks, device, geometry_of}
+use Rattle.geometry.specs.Limits.{Numbers, table_words_of}
+use Rattle.geometry.specs.Words.{map_word, FitsMap, pin_word, FitsPin, pin_index, page_index}
+use Rattle.geometry.specs.declared.words.MapWord.{MapWord}
+use Rattle.geometry.specs.declared.words.TheConstants.{MAPPED, NEXT_PHASE}
+use Rattle.geometry.specs.declared.words.PinWord.{PinWord}
+use Rattle.geometry.specs.declared.words.Phase.TheVariants.{Closed, Victim, Drained, Erasing}
+use Rattle.flash_rule.specs.declared.facts.Owned.{Owned}
+use Rattle.flash_rule.specs.declared.facts.Source.{Source}
+use Rattle.flash_rule.specs.declared.view.View.{View}
+use Rattle.flash_rule.specs.Views.{is_broom, with_owned}
+use Rattle.flash_rule.specs.Plays.{Sitter}
+use Rattle.flash_rule.specs.World.{data_word, sector_word, blank_word}
+use Rattle.flash_table.specs.declared.broom_seat.BroomSeat.{BroomSeat}
 use Rattle.flash_table.specs.declared.broom_seat.Reclaiming.TheVariants as reclaiming
+use Rattle.flash_table.specs.declared.broom_seat.Reclaiming.{Reclaiming}
+use Rattle.flash_table.specs.declared.broom_seat.ReclaimedBlock.{ReclaimedBlock}
+use Rattle.flash_table.specs.Owning.{reclaimed_as, owned_of}
+use Rattle.flash_table.specs.GivingUp.{left_drained, left_free, left_retired}
+use Rattle.flash_table.specs.Flash.{IsBroomOf, broom_view, own_blocks, device, geometry_of}
+use Rattle.flash_rule.proofs.Places.{page_within}
+use Rattle.flash_rule.proofs.Wiping.{row_of, wiped_index}
+use Rattle.flash_table.specs.Erasing.{IsUnread, CanLiveOn, IsLastErase, words_in_block}
 
 -- a map word that was found is that of what it was unpacked to
 pub unpacked : (r : Option MapWord) (n : ℕ) → IfSome r (λ p. FitsMap p × (map_word p ≡ n)) → IfNone r (n < MAPPED)
@@ -169,3 +186,93 @@ module _ {f : Flash} {s : BroomSeat} (h : IsBroomOf f s) {n : ℕ} {after : Sitt
 -- whether the word found is the one expected
 pub found_or_not : (n old k : ℕ) → old ≡ k → MatchBool (n == old) (n ≡ k) (¬ (n ≡ k))
 found_or_not n old k is = dite (ℕ_discrete n old) (λ same. rw (eq-eqb n old same) (same ∙ is)) (λ other. rw (ne_eqb n old other) (λ e. other (e ∙ sym is)))
+
+-- a broom erases one block
+pub same_erased : {r : Reclaiming} {o x : ReclaimedBlock} → r ≡ reclaiming.Erasing o → r ≡ reclaiming.Erasing x → o ≡ x
+same_erased first second = cc
+
+-- the place of a word of the block, counted from its first page's first word, lies in the table
+pub wiped_within : (z : Numbers) (b i : ℕ) → b < z.blocks → i < words_in_block z → page_index z b 0 + i < table_words_of z.blocks z.pages z.words z.sectors
+wiped_within z b i low below =
+    let r = row_of z.pages (z.words + 1) i below in
+    let word = r.3 in
+    let within = page_within z b r.0 r.1 low r.2 (omega arith) in
+    let here = wiped_index z b r.0 r.1 i r.4 in omega arith
+
+module _ {f : Flash} {s : BroomSeat} (h : IsBroomOf f s) where
+  -- ---- what the calls ask is what the rule asks
+  pub can_condemn : (b : ℕ) (p : PinWord) → (own_blocks s).reclaiming ≡ reclaiming.Nothing → b < (device f).blocks → IsUnread (broom_view s) b p
+      → CanCondemn (broom_view s) b p
+  can_condemn b p rested low t =
+      record {
+        low = (let blocks : (broom_view s).numbers.blocks ≡ (device f).blocks = ap (λ (y : Numbers). y.blocks) h.numbers in omega arith);
+        fits = t.fits;
+        drained = t.drained;
+        unread = t.unread;
+        loaded = t.loaded;
+        rested = all_open (own_blocks s) s.owns rested;
+      }
+
+  is_erasing : (o : ReclaimedBlock) → (own_blocks s).reclaiming ≡ reclaiming.Erasing o → IsErasing (broom_view s) (reclaimed_as Erasing o)
+  is_erasing o its = record { own = erasing_at (own_blocks s) s.owns its; erasing = refl }
+
+  all_words : (broom_view s).numbers.pages * ((broom_view s).numbers.words + 1) ≡ words_in_block (device f)
+  all_words = ap words_in_block h.numbers
+
+  endures : (broom_view s).numbers.endurance ≡ (device f).endurance
+  endures = ap (λ (y : Numbers). y.endurance) h.numbers
+
+  pub can_wipe : (o : ReclaimedBlock) (i : ℕ) → (own_blocks s).reclaiming ≡ reclaiming.Erasing o → i ≡ (broom_view s).wiped
+      → i < words_in_block (device f) → CanWipe (broom_view s) (reclaimed_as Erasing o)
+  can_wipe o i its next below = record { erasing = is_erasing o its; room = (let e = all_words in omega arith) }
+
+  pub can_renew : (o : ReclaimedBlock) → CanLiveOn f s o → CanRenew (broom_view s) (reclaimed_as Erasing o)
+  can_renew o t =
+      record {
+        erasing = is_erasing o t.erases.its;
+        clean = (let e = all_words in let w = t.wiped in omega arith);
+        another = (let e = endures in let a = t.another in omega arith);
+      }
+
+  pub can_retire : (o : ReclaimedBlock) → IsLastErase f s o → CanRetire (broom_view s) (reclaimed_as Erasing o)
+  can_retire o t = record { erasing = is_erasing o t.erases.its; last = t.last ∙ sym endures }
+
+  -- ---- what is asked of the block that the broom erases, of the block that is found there
+  pub of_erased : (P : ReclaimedBlock → Type 0) (o : ReclaimedBlock) → (own_blocks s).reclaiming ≡ reclaiming.Erasing o → (x : ReclaimedBlock)
+      → (own_blocks s).reclaiming ≡ reclaiming.Erasing x → P x → P o
+  of_erased P o is x its can = subst P (same_erased its is) can
+
+  pub live_on : (o : ReclaimedBlock) → (own_blocks s).reclaiming ≡ reclaiming.Erasing o → (x : ReclaimedBlock) × CanLiveOn f s x → CanLiveOn f s o
+  live_on o is some = of_erased (λ x. CanLiveOn f s x) o is some.0 some.1.erases.its some.1
+
+  pub last_erase : (o : ReclaimedBlock) → (own_blocks s).reclaiming ≡ reclaiming.Erasing o → (x : ReclaimedBlock) × IsLastErase f s x → IsLastErase f s o
+  last_erase o is some = of_erased (λ x. IsLastErase f s x) o is some.0 some.1.erases.its some.1
+
+module _ {f : Flash} {s : BroomSeat} (h : IsBroomOf f s) {n : ℕ} {after : Sitter} {word : ℕ} where
+  -- ---- what a step's play makes of the seat
+  pub condemned : (b old : ℕ) (p : PinWord) → word ≡ pin_index (device f) b → old ≡ pin_word p → CanCondemn (broom_view s) b p
+      → condemn_told (step (slots_of f) word old (old + NEXT_PHASE) none) s.seat.me n after → Condemned (broom_view s) b p n after.0
+  condemned b old p at packed can told = told.1 b p can (at ∙ ap (λ y. pin_index y b) (sym h.numbers)) packed
+
+module _ {f : Flash} {s : BroomSeat} (h : IsBroomOf f s) {after : Sitter} {word : ℕ} where
+  pub wipe_view : (i : ℕ) (o : ReclaimedBlock) → CanWipe (broom_view s) (reclaimed_as Erasing o) → i ≡ (broom_view s).wiped
+      → word ≡ page_index (device f) o.block 0 + i
+      → wipe_told (step (slots_of f) word blank_word 0 none) s.seat.me 0 after → after.0 ≡ record (broom_view s) { wiped = i + 1 }
+  wipe_view i o can next at told =
+      told.1 (reclaimed_as Erasing o) can (at ∙ λ j. page_index (sym h.numbers j) o.block 0 + next j) refl
+      ∙ ap (λ k. record (broom_view s) { wiped = k + 1 }) (sym next)
+
+  pub freed_view : (added : ℕ) (o : ReclaimedBlock) → CanLiveOn f s o → word ≡ pin_index (device f) o.block
+      → freed_told (step (slots_of f) word added 0 none) s.seat.me 0 after → after.0 ≡ left_free (broom_view s) o
+  freed_view added o lives at told = told.1 (reclaimed_as Erasing o) (can_renew h o lives) (at ∙ ap (λ y. pin_index y o.block) (sym h.numbers))
+
+  pub kept_view : (added : ℕ) (o : ReclaimedBlock) → CanLiveOn f s o → word ≡ pin_index (device f) o.block
+      → kept_told (step (slots_of f) word added 0 none) s.seat.me 0 after
+      → after.0 ≡ record (broom_view s) {
+        owns = with_owned (owned_of (record { block = o.block; generation = o.generation + 1; written = 0 })) (broom_view s).owns;
+      }
+  kept_view added o lives at told = told.1 (reclaimed_as Erasing o) (can_renew h o lives) (at ∙ ap (λ y. pin_index y o.block) (sym h.numbers))
+
+  pub retired_view : (o : ReclaimedBlock) → IsLastErase f s o → word ≡ pin_index (device f) o.block
+      → retired_told (step (slots_of f) word NEXT_PHASE 0 none) s.seat.me 0 after → after.0 ≡ left_retired (broom_view s) o
+  retired_view o last at told = told.1 (reclaimed_as Erasing o) (can_retire h o last) (at ∙ ap (λ y. pin_index y o.block) (sym h.numbers))

@@ -1,11 +1,7 @@
-pub mod Rows
 pub mod Blocks
 pub mod Permissions
 pub mod PassSteps
 pub mod BroomSteps
 pub mod PassResults
 pub mod BroomResults
-pub mod TakingResults
-pub mod ErasingSteps
-pub mod ErasingResults
 pub mod DealtPasses

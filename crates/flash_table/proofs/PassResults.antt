@@ -1,23 +1,92 @@
--- What a step's play makes of a pass, and of any seat with an open block.
-use Rattle.flash_table.proofs.Permissions.{whose, IsSeatOf, slots_of}
-use Rattle.std.proofs.Common.{◌≡◌, ℕ, ◌+◌, ◌<◌, Bool, true, false, List, [], ◌∷◌, ◌++◌, Option, Some, None, sym, refl, ap, ◌∙◌, subst, arith}
-use Rattle.geometry.specs.{Words.FitsPin, Words.pin_word, Limits.Numbers, Geometry.blocks_of, Geometry.pages_of, Words.map_word, Words.FitsMap}
-use Rattle.geometry.specs.declared.words.{PinWord.PinWord, TheConstants.NEXT_PHASE, TheConstants.PAGE_WRITTEN, TheConstants.READER}
-use Rattle.flash_rule.specs.declared.facts.{Owned.Owned, Work.Work, Pin.TheVariants.Candidate, Pin.TheVariants.Accepted}
-use Rattle.flash_rule.specs.{declared.view.View.View, World.data_word, World.Intact, Views.is_pass, Views.owned_at, Views.with_owned, Views.without}
-use Rattle.std.specs.Bool.{MatchBool}
+-- What a step's play makes of a pass, and of any seat with an open block; what a load and a take of a block's word make of the seat that takes it.
+use Rattle.std.proofs.Common.{◌≡◌, ℕ, ◌+◌, ◌<◌, ◌∷◌, Option, Some, None, IfSome, IfNone, sym, ap, ◌∙◌, subst, arith, Bool, true, false, List, [], ◌++◌, refl}
+use Rattle.std.specs.Prelude.{MatchOption}
 use mathlib.Core.Option.{none}
-use Rattle.atomic_table.specs.{Table.step, declared.shared.Seat.Seat}
-use Rattle.geometry.specs.declared.{geometry.Geometry.Geometry, words.MapWord.MapWord, words.TheConstants.UNMAPPED}
-use Rattle.geometry.specs.{History.Write, History.WriteNew, History.Trim, Words.pin_index, Words.page_index}
-use Rattle.flash_rule.specs.Plays.{Sitter, Placed, CanPlace, CanCount, CanClose, write_told, new_told, trim_told}
-use Rattle.flash_rule.specs.Plays.{count_told, close_told, Pinned, pin_told, get_told}
-use Rattle.flash_rule.proofs.{Still.pass_of, Points.eq_self, Owning.some_same}
+use Rattle.atomic_table.specs.Table.{step}
+use Rattle.geometry.specs.Limits.{Numbers}
+use Rattle.geometry.specs.Words.{pin_index, FitsPin, pin_word, map_word, FitsMap, page_index}
+use Rattle.geometry.specs.declared.words.PinWord.{PinWord}
+use Rattle.geometry.specs.declared.words.TheConstants.{TAKEN, NEXT_PHASE, PAGE_WRITTEN, READER, UNMAPPED}
+use Rattle.geometry.specs.declared.words.Phase.TheVariants.{Free}
 use Rattle.geometry.proofs.WordBits.{pin_same}
-use Rattle.flash_table.specs.declared.{flash.Flash.Flash, pass.Pass.Pass, pass.OpenBlock.OpenBlock}
+use Rattle.flash_rule.specs.declared.view.View.{View}
+use Rattle.flash_rule.specs.Plays.{Sitter, Tested, Took, take_told, test_told, Placed, CanPlace, CanCount, CanClose, write_told, new_told, trim_told}
+use Rattle.flash_rule.specs.Plays.{count_told, close_told, Pinned, pin_told, get_told}
 use Rattle.flash_table.specs.Owning.{owned_of, owned_list, closed_as, closed_list}
-use Rattle.flash_table.specs.{GivingUp.closed_pass, GivingUp.left_closed, Steps.CanGiveUp, Steps.IsFilled}
+use Rattle.flash_table.specs.Taking.{fresh_block, FoundTaken, TookFree}
+use Rattle.flash_table.proofs.Blocks.{stays_without}
+use Rattle.flash_table.proofs.Permissions.{whose, IsSeatOf, slots_of}
+use Rattle.geometry.specs.Geometry.{blocks_of, pages_of}
+use Rattle.flash_rule.specs.declared.facts.Owned.{Owned}
+use Rattle.flash_rule.specs.declared.facts.Work.{Work}
+use Rattle.flash_rule.specs.declared.facts.Pin.TheVariants.{Candidate, Accepted}
+use Rattle.flash_rule.specs.World.{data_word, Intact}
+use Rattle.flash_rule.specs.Views.{is_pass, owned_at, with_owned, without}
+use Rattle.std.specs.Bool.{MatchBool}
+use Rattle.atomic_table.specs.declared.shared.Seat.{Seat}
+use Rattle.geometry.specs.declared.geometry.Geometry.{Geometry}
+use Rattle.geometry.specs.declared.words.MapWord.{MapWord}
+use Rattle.geometry.specs.History.{Write, WriteNew, Trim}
+use Rattle.flash_rule.proofs.Still.{pass_of}
+use Rattle.flash_rule.proofs.Points.{eq_self}
+use Rattle.flash_rule.proofs.Owning.{some_same}
+use Rattle.flash_table.specs.declared.flash.Flash.{Flash}
+use Rattle.flash_table.specs.declared.pass.Pass.{Pass}
+use Rattle.flash_table.specs.declared.pass.OpenBlock.{OpenBlock}
+use Rattle.flash_table.specs.GivingUp.{closed_pass, left_closed}
+use Rattle.flash_table.specs.Steps.{CanGiveUp, IsFilled}
 use Rattle.flash_table.specs.Flash.{IsPassOf, Strayed, view_of, device}
+
+-- the word is that of a free block in this generation, or of no free block
+abbrev pub IsFreeAt : ℕ → ℕ → Type 0
+IsFreeAt n k = (state : PinWord) × FitsPin state × (pin_word state ≡ n) × (state.phase ≡ Free) × (state.generation ≡ k)
+
+abbrev pub IsTaken : ℕ → Type 0
+IsTaken n = (state : PinWord) → FitsPin state → pin_word state ≡ n → ¬ (state.phase ≡ Free)
+
+module _ {z : Numbers} (v : View) (numbers : v.numbers ≡ z) (b : ℕ) where
+  below : b < z.blocks → b < v.numbers.blocks
+  below low = subst (λ (y : Numbers). b < y.blocks) (sym numbers) low
+
+  here : {word : ℕ} → word ≡ pin_index z b → word ≡ pin_index v.numbers b
+  here at = at ∙ ap (λ y. pin_index y b) (sym numbers)
+
+module _ {z : Numbers} {me : Sitter} (numbers : me.0.numbers ≡ z) {n : ℕ} {after : Sitter} {word : ℕ} (b : ℕ) (low : b < z.blocks)
+    (at : word ≡ pin_index z b) where
+  -- a load of a free block's word changes nothing, and another one records that the block is taken
+  pub tested_free : {k : ℕ} → test_told (step 0 word 0 0 none) me n after → IsFreeAt n k → after.0 ≡ me.0
+  tested_free told t =
+      let h : Tested me.0 b n after.0 = told.1 b (below me.0 numbers b low) (here me.0 numbers b at) in
+      h.free (ap (λ (p : PinWord). p.phase) (pin_same h.state t.0 h.fits t.1 (sym h.found ∙ sym t.2)) ∙ t.3)
+
+  pub tested_taken : test_told (step 0 word 0 0 none) me n after → IsTaken n → FoundTaken me.0 b after.0
+  tested_taken told not = let h = told.1 b (below me.0 numbers b low) (here me.0 numbers b at) in h.denied (not h.state h.fits (sym h.found))
+
+  -- so does a take, which makes a free block the seat's
+  took_free : (k : ℕ) → take_told (step 0 word TAKEN 0 none) me n after → IsFreeAt n k → TookFree me.0 b k after.0
+  took_free k told t =
+      let h : Took me.0 b n after.0 = told.1 b (below me.0 numbers b low) (here me.0 numbers b at) in
+      let same : h.state ≡ t.0 = pin_same h.state t.0 h.fits t.1 (sym h.found ∙ sym t.2) in
+      let free : h.state.phase ≡ Free = ap (λ (p : PinWord). p.phase) same ∙ t.3 in
+      let generation : h.state.generation ≡ k = ap (λ (p : PinWord). p.generation) same ∙ t.4 in
+      record {
+        young = (let r = h.young in omega arith);
+        fresh = h.fresh free;
+        changed = h.free free
+            ∙ (λ i. record me.0 {
+              taken = me.0.taken + 1;
+              owns = owned_of (fresh_block b (generation i)) ∷ stays_without b me.0.owns (h.fresh free) i;
+            });
+      }
+
+  took_taken : take_told (step 0 word TAKEN 0 none) me n after → IsTaken n → FoundTaken me.0 b after.0
+  took_taken told not = let h = told.1 b (below me.0 numbers b low) (here me.0 numbers b at) in h.denied (not h.state h.fits (sym h.found))
+
+  -- what a take records of a seat that knew what this view knows, by what the word says
+  pub took_by : {v : View} → me.0 ≡ v → take_told (step 0 word TAKEN 0 none) me n after → (r : Option ℕ) → IfSome r (IsFreeAt n) → IfNone r (IsTaken n)
+      → MatchOption r (FoundTaken v b after.0) (λ k. TookFree v b k after.0)
+  took_by same told (Some k) free taken = subst (λ (v : View). TookFree v b k after.0) same (took_free k told free)
+  took_by same told None free taken = subst (λ (v : View). FoundTaken v b after.0) same (took_taken told taken)
 
 pub stays_pass : {f : Flash} {p q : Pass} → IsPassOf f p → q.seat.table_id ≡ p.seat.table_id → whose (view_of q) ≡ whose (view_of p) → IsPassOf f q
 stays_pass h table same = record { table = table ∙ h.table; role = ap (λ w. is_pass w.0) same ∙ h.role; numbers = ap (λ w. w.1) same ∙ h.numbers }

@@ -1,11 +1,13 @@
--- What contracts name of a device, of its passes and of notes.
+-- What contracts name of a device, of its passes and of notes, and what a pass or a broom that makes no more steps knew last.
+use Rattle.flash_rule.specs.declared.view.View.{View}
+use Rattle.flash_table.specs.declared.retired.Retired.{Retired}
+use Rattle.flash_table.specs.declared.retired_broom.RetiredBroom.{RetiredBroom}
 use Rattle.std.specs.Prelude.{◌≡◌, ℕ, ◌+◌, ◌-◌, ◌*◌, ◌<◌, ◌≤◌, true, [], ◌∷◌, ◌++◌, Option, None, Some, replicate}
 use Rattle.geometry.specs.Geometry.{numbers_of}
 use Rattle.geometry.specs.Limits.{Numbers}
 use Rattle.geometry.specs.declared.geometry.Geometry.{Geometry}
 use Rattle.flash_rule.specs.declared.facts.Name.TheVariants.{Pass as APass, Broom as ABroom}
 use Rattle.flash_rule.specs.declared.facts.Role.TheVariants.{Player, Note as ANote}
-use Rattle.flash_rule.specs.declared.view.View.{View}
 use Rattle.flash_rule.specs.declared.facts.Pin.TheVariants.{Stray}
 use Rattle.flash_rule.specs.Views.{is_pass, sum_of}
 use Rattle.flash_rule.specs.Seats.{newcomer, spare}
@@ -17,6 +19,14 @@ use Rattle.flash_table.specs.declared.broom_seat.BroomBlocks.{BroomBlocks}
 use Rattle.flash_table.specs.declared.broom_seat.BroomSeat.{BroomSeat}
 use Rattle.flash_table.specs.declared.broom_seat.Reclaiming.TheVariants.{Nothing}
 use Rattle.flash_table.specs.Owning.{owned_of}
+
+-- what a pass knew
+abbrev pub retired_view : Retired → View
+retired_view r = r.seat.me.0
+
+-- what a broom knew
+abbrev pub retired_broom_view : RetiredBroom → View
+retired_broom_view r = r.seat.me.0
 
 -- the numbers that a device was opened with
 abbrev pub geometry_of : Flash → Geometry

@@ -1,9 +1,10 @@
--- What the steps of a seat need, and what they leave, in terms of its own blocks.
-use Rattle.std.specs.Prelude.{◌≡◌, ℕ, ◌+◌, ◌<◌, ◌≤◌, Bool, List, [], ◌∷◌, ◌++◌, Option, None, Some, MatchBool, length}
-use Rattle.geometry.specs.Geometry.{blocks_of, pages_of}
-use Rattle.geometry.specs.Words.{map_word, FitsPin, pin_word}
-use Rattle.geometry.specs.declared.geometry.Geometry.{Geometry}
+-- What the steps of a seat need, and what they leave, in terms of its own blocks; and what a look at the next sector of an inspection records.
+use Rattle.std.specs.Prelude.{◌≡◌, ℕ, ◌+◌, Bool, [], ◌∷◌, ◌++◌, Some, MatchBool, ◌<◌, ◌≤◌, List, Option, None, length}
+use Rattle.geometry.specs.Words.{map_word, FitsMap, FitsPin, pin_word}
 use Rattle.geometry.specs.declared.words.MapWord.{MapWord}
+use Rattle.flash_rule.specs.declared.view.View.{View}
+use Rattle.geometry.specs.Geometry.{blocks_of, pages_of}
+use Rattle.geometry.specs.declared.geometry.Geometry.{Geometry}
 use Rattle.geometry.specs.declared.words.PinWord.{PinWord}
 use Rattle.geometry.specs.declared.words.Phase.TheVariants as phase
 use Rattle.flash_rule.specs.declared.carried.Carried.{Carried}
@@ -13,13 +14,12 @@ use Rattle.flash_rule.specs.declared.facts.Pin.TheVariants as pin
 use Rattle.flash_rule.specs.declared.facts.Role.TheVariants.{Player}
 use Rattle.flash_rule.specs.declared.facts.Source.{Source}
 use Rattle.flash_rule.specs.declared.facts.Work.{Work}
-use Rattle.flash_rule.specs.declared.view.View.{View}
 use Rattle.flash_rule.specs.BroomPlays.{GotStamp, IsInspected, Moved, owned_as}
 use Rattle.flash_rule.specs.Plays.{CanClose, CanCount, CanPut, Spared, next_page, words_in, Called, CanPlace}
 use Rattle.flash_rule.specs.Views.{with_owned}
 use Rattle.flash_rule.specs.World.{Intact}
-use Rattle.flash_table.specs.Flash.{IsBroomOf, IsPassOf, Strayed, broom_view, device, first_blocks, first_broom}
-use Rattle.flash_table.specs.Flash.{first_view, opened_of, own_blocks, view_of, Taken, Denied}
+use Rattle.flash_table.specs.Flash.{IsBroomOf, IsPassOf, Strayed, broom_view, device, first_blocks, first_broom, first_view, opened_of, own_blocks, view_of}
+use Rattle.flash_table.specs.Flash.{Taken, Denied}
 use Rattle.flash_table.specs.Owning.{owned_of, reclaimed_as}
 use Rattle.flash_table.specs.declared.broom_seat.BroomBlocks.{BroomBlocks}
 use Rattle.flash_table.specs.declared.broom_seat.BroomSeat.{BroomSeat}
@@ -30,6 +30,22 @@ use Rattle.flash_table.specs.declared.pass.OpenBlock.{OpenBlock}
 use Rattle.flash_table.specs.declared.pass.Pass.{Pass}
 use Rattle.geometry.specs.History.{Call}
 use Rattle.geometry.specs.declared.answer.Was.{Was}
+
+-- The sector has a page in this generation of the block, and its look is listed; nothing else has changed
+pub record FoundPage (v : View) (b generation s : ℕ) (w : View) : Type 0 where
+  pub page : MapWord
+  pub fits : FitsMap page
+  pub block : page.block ≡ b
+  pub same : page.generation ≡ generation
+  pub changed : w ≡ record v { named = v.named ++ (s, map_word page) ∷ [] }
+
+-- or it has none, and the inspection has passed it
+abbrev pub PassedSector : View → ℕ → ℕ → ℕ → View → Type 0
+PassedSector v b generation s w = w ≡ record v { inspection = Some (record { block = b; generation = generation; sectors = s + 1 }) }
+
+-- what the look records, by its result
+abbrev pub InspectTold : View → ℕ → ℕ → ℕ → Bool → View → Type 0
+InspectTold v b generation s result w = MatchBool result (FoundPage v b generation s w) (PassedSector v b generation s w)
 
 -- the pass has this number
 abbrev pub HasNumber : ℕ → Pass → Type 0

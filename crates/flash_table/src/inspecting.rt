@@ -6,7 +6,7 @@ ghost use Rattle.geometry.specs.declared.words.MapWord.{MapWord};
 ghost use Rattle.flash_rule.specs.World.{sector_word};
 ghost use Rattle.flash_rule.specs.BroomPlays.{CanInspect, is_page_of};
 ghost use Rattle.flash_table.specs.Flash.{IsBroomOf, broom_view, own_blocks, geometry_of};
-ghost use Rattle.flash_table.specs.Inspecting.{InspectTold};
+ghost use Rattle.flash_table.specs.Steps.{InspectTold};
 
 use crate::broom_seat::BroomSeat;
 use crate::flash::Flash;

@@ -16,8 +16,7 @@ use crate::pass::Pass;
 impl Pass {
     ghost use Rattle.std.specs.Prelude.{None};
     ghost use Rattle.flash_rule.specs.Plays.{is_unpinned};
-    ghost use Rattle.flash_table.specs.Flash.{view_of, opened_of};
-    ghost use Rattle.flash_table.specs.Leaving.{retired_view};
+    ghost use Rattle.flash_table.specs.Flash.{view_of, opened_of, retired_view};
 
     /// Gives the pass up. It has no open block and nothing pinned, so no block is kept from the others.
     pub fn leave(self) -> Retired

@@ -15,8 +15,7 @@ use crate::broom_seat::BroomSeat;
 
 impl BroomSeat {
     ghost use Rattle.std.specs.Prelude.{None};
-    ghost use Rattle.flash_table.specs.Flash.{broom_view, own_blocks};
-    ghost use Rattle.flash_table.specs.Leaving.{retired_broom_view};
+    ghost use Rattle.flash_table.specs.Flash.{broom_view, own_blocks, retired_broom_view};
     ghost use Rattle.flash_table.specs.declared.broom_seat.Reclaiming.TheVariants as reclaiming;
 
     /// Gives the broom up. It owns no block, so none is lost to the others.

@@ -2,7 +2,7 @@
 ghost use Rattle.std.specs.Prelude.{◌≡◌, ◌<◌, None};
 ghost use Rattle.geometry.specs.Geometry.{blocks_of};
 ghost use Rattle.flash_table.specs.Flash.{IsBroomOf, broom_view, own_blocks, geometry_of};
-ghost use Rattle.flash_table.specs.Spares.{SpareTold};
+ghost use Rattle.flash_table.specs.Taking.{SpareTold};
 
 use crate::broom_seat::{BroomBlocks, BroomSeat};
 use crate::flash::Flash;

@@ -1,7 +1,6 @@
 //! Ties what two passes have seen, and retires a pass.
 ghost use Rattle.std.specs.Prelude.{◌≡◌, ℕ, List};
-ghost use Rattle.flash_table.specs.Flash.{view_of, opened_of};
-ghost use Rattle.flash_table.specs.Leaving.{retired_view};
+ghost use Rattle.flash_table.specs.Flash.{view_of, opened_of, retired_view};
 ghost use Rattle.flash_table.specs.GivingUp.{closed_pass};
 ghost use Rattle.host.specs.Holding.{Holds, page_of, pass_of};
 ghost use Rattle.host.specs.Ready.{IsReady};

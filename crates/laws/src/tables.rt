@@ -8,7 +8,7 @@ ghost use Rattle.flash_rule.specs.declared.facts.Role.TheVariants as seat;
 ghost use Rattle.flash_table.specs.Erasing.{CanLiveOn, CondemnTold, IsErasing, IsLastErase, IsUnread, words_in_block};
 ghost use Rattle.flash_table.specs.Flash.{IsBroomOf, IsNoteOf, IsPassOf, broom_view, device, first_blocks, note_view, opened_of, own_blocks, view_of};
 ghost use Rattle.flash_table.specs.GivingUp.{closed_broom, closed_pass, left_closed, left_drained, left_free, left_retired};
-ghost use Rattle.flash_table.specs.{Inspecting.InspectTold, Owning.OwnsJust, Owning.blocks_list, Owning.owned_list, Spares.SpareTold};
+ghost use Rattle.flash_table.specs.{Steps.InspectTold, Owning.OwnsJust, Owning.blocks_list, Owning.owned_list, Taking.SpareTold};
 ghost use Rattle.flash_table.specs.Steps.{CanGiveUp, HasInspected, HasNumber, HasOneMore, HasPut, IsBack, IsClaimed, IsCleared, IsFilled, IsNewBroom};
 ghost use Rattle.flash_table.specs.Steps.{IsNewPass, IsNextWord, IsOfVictim, IsSpared, MoveTold, NowDrains, PinTold, PlaceTold, StampTold, TakeTold};
 ghost use Rattle.flash_table.specs.declared.{broom_seat.BroomBlocks.BroomBlocks, broom_seat.BroomSeat.BroomSeat, flash.Flash.Flash, pass.Note.Note};

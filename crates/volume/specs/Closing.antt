@@ -5,7 +5,7 @@ use Rattle.geometry.specs.{Limits.Numbers, History.Call, History.after, History.
 use Rattle.geometry.specs.Sectors.{Sector, sector_at}
 use Rattle.flash_rule.specs.declared.{facts.Name.TheVariants.Pass as APass, facts.Role.TheVariants.Player, facts.Owned.Owned, view.View.View}
 use Rattle.flash_rule.specs.Views.{AreOfHosts, calls_of}
-use Rattle.flash_table.specs.{declared.pass.Pass.Pass, Flash.device, Flash.view_of, Leaving.retired_view, declared.flash.Flash.Flash}
+use Rattle.flash_table.specs.{declared.pass.Pass.Pass, Flash.device, Flash.view_of, Flash.retired_view, declared.flash.Flash.Flash}
 use Rattle.volume.specs.declared.closing.Closed.{Closed}
 
 -- the array that a row of values is

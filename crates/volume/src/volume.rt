@@ -34,8 +34,7 @@ impl Volume {
     ghost use Rattle.flash_rule.specs.World.{data_word};
     ghost use Rattle.flash_rule.specs.Seats.{carried};
     ghost use Rattle.flash_table.specs.declared.pass.Pass.{Pass};
-    ghost use Rattle.flash_table.specs.Flash.{view_of, opened_of, device, first_view, first_blocks};
-    ghost use Rattle.flash_table.specs.Leaving.{retired_view};
+    ghost use Rattle.flash_table.specs.Flash.{view_of, opened_of, device, first_view, first_blocks, retired_view};
     ghost use Rattle.flash_table.specs.GivingUp.{closed_pass, closed_broom};
     ghost use Rattle.broom.specs.declared.broom.Broom.{Broom};
     ghost use Rattle.erase_queue.specs.Queue.{IsNewPass};

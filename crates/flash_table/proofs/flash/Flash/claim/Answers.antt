@@ -1,4 +1,4 @@
-use Rattle.flash_table.proofs.{Permissions.whose, Permissions.of_broom, BroomSteps.claim_here, Rows.just_now, Blocks.claimed_just}
+use Rattle.flash_table.proofs.{Permissions.whose, Permissions.of_broom, BroomSteps.claim_here, Blocks.just_now, Blocks.claimed_just}
 use Rattle.std.proofs.Common.{◌≡◌, [], ◌∷◌, ◌++◌, ap, sym, ◌∙◌}
 use Rattle.flash_rule.specs.BroomPlays.{Claimed}
 use Rattle.flash_table.specs.{Flash.broom_view}

@@ -1,4 +1,4 @@
-use Rattle.flash_table.proofs.{Permissions.whose, Permissions.of_broom, Rows.just_now, PassSteps.close_here}
+use Rattle.flash_table.proofs.{Permissions.whose, Permissions.of_broom, Blocks.just_now, PassSteps.close_here}
 use Rattle.flash_table.proofs.{flash.Flash.close_destination.Goals.After-fetch_add}
 use Rattle.std.proofs.Common.{◌≡◌, ap, ◌∙◌}
 use Rattle.flash_table.specs.{Flash.broom_view, GivingUp.left_closed, Owning.owned_of}

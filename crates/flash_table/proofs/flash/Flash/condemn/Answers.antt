@@ -1,9 +1,9 @@
-use Rattle.flash_table.proofs.{Permissions.whose, Permissions.of_broom, ErasingSteps.condemn_here}
+use Rattle.flash_table.proofs.{Permissions.whose, Permissions.of_broom, BroomSteps.condemn_here}
 use Rattle.std.proofs.Common.{sym, refl, ap, ◌∙◌}
 use Rattle.flash_rule.specs.BroomPlays.{Condemned}
 use Rattle.flash_table.specs.{Flash.broom_view}
-use Rattle.flash_table.proofs.{Rows.just_now, Blocks.condemned_just, BroomResults.is_a_broom, BroomResults.stays_broom}
-use Rattle.flash_table.proofs.{ErasingResults.can_condemn, ErasingResults.condemned, flash.Flash.condemn.Goals.After-compare_exchange-found}
+use Rattle.flash_table.proofs.{Blocks.just_now, Blocks.condemned_just, BroomResults.is_a_broom, BroomResults.stays_broom}
+use Rattle.flash_table.proofs.{BroomResults.can_condemn, BroomResults.condemned, flash.Flash.condemn.Goals.After-compare_exchange-found}
 use Rattle.flash_table.proofs.flash.Flash.condemn.Goals as goal
 
 pub compare_exchange-found-requires : goal.compare_exchange-found-requires

@@ -1,4 +1,4 @@
-use Rattle.flash_table.proofs.{Permissions.whose, Permissions.of_broom, Rows.just_now, PassSteps.count_here, PassResults.same_block}
+use Rattle.flash_table.proofs.{Permissions.whose, Permissions.of_broom, Blocks.just_now, PassSteps.count_here, PassResults.same_block}
 use Rattle.flash_table.proofs.{PassResults.count_can, PassResults.count_view}
 use Rattle.std.proofs.Common.{◌≡◌, ◌+◌, ◌∷◌, ◌++◌, [], Some, refl, ap, ◌∙◌}
 use Rattle.geometry.specs.Words.{pin_index}

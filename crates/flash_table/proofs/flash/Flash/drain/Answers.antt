@@ -2,7 +2,7 @@ use Rattle.flash_table.proofs.{Permissions.whose, Permissions.of_broom, BroomSte
 use Rattle.std.proofs.Common.{◌≡◌, ap, ◌∙◌}
 use Rattle.geometry.specs.declared.words.Phase.TheVariants.{Victim}
 use Rattle.flash_table.specs.{GivingUp.left_drained, Owning.reclaimed_as, Flash.broom_view}
-use Rattle.flash_table.proofs.{Rows.just_now, Blocks.drained_just, flash.Flash.drain.Goals.After-fetch_add}
+use Rattle.flash_table.proofs.{Blocks.just_now, Blocks.drained_just, flash.Flash.drain.Goals.After-fetch_add}
 use Rattle.flash_table.proofs.BroomResults.{stays_broom, draining_same, drain_can, drained_view}
 use Rattle.flash_table.proofs.flash.Flash.drain.Goals as goal
 

@@ -1,8 +1,8 @@
-use Rattle.flash_table.proofs.{Permissions.whose, Permissions.of_broom, Rows.just_now, Blocks.erased_just}
+use Rattle.flash_table.proofs.{Permissions.whose, Permissions.of_broom, Blocks.just_now, Blocks.erased_just}
 use Rattle.std.proofs.Common.{◌≡◌, ap, ◌∙◌, arith}
 use Rattle.flash_table.specs.{Flash.broom_view, GivingUp.left_free}
-use Rattle.flash_table.proofs.{BroomResults.stays_broom, ErasingSteps.freed_here}
-use Rattle.flash_table.proofs.ErasingResults.{same_erased, live_on, can_renew, freed_view}
+use Rattle.flash_table.proofs.{BroomResults.stays_broom, BroomSteps.freed_here}
+use Rattle.flash_table.proofs.BroomResults.{same_erased, live_on, can_renew, freed_view}
 use Rattle.flash_table.proofs.flash.Flash.free_block.Goals as goal
 use Rattle.flash_table.proofs.flash.Flash.free_block.Goals.{After-fetch_add}
 

@@ -1,4 +1,4 @@
-use Rattle.flash_table.proofs.{Permissions.whose, Permissions.of_broom, Rows.just_now, BroomSteps.stamp_here, flash.Flash.get_stamp.Goals.After-load}
+use Rattle.flash_table.proofs.{Permissions.whose, Permissions.of_broom, Blocks.just_now, BroomSteps.stamp_here, flash.Flash.get_stamp.Goals.After-load}
 use Rattle.std.proofs.Common.{◌≡◌, ◌+◌, ◌<◌, ℕ, ap, ◌∙◌, subst}
 use Rattle.geometry.specs.{Geometry.blocks_of, Words.page_index, declared.words.Phase.TheVariants.Victim}
 use Rattle.flash_rule.specs.BroomPlays.{GotStamp}

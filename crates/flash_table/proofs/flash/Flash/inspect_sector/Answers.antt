@@ -1,4 +1,4 @@
-use Rattle.flash_table.proofs.{Permissions.whose, Permissions.of_broom, Rows.just_now, BroomSteps.inspect_here}
+use Rattle.flash_table.proofs.{Permissions.whose, Permissions.of_broom, Blocks.just_now, BroomSteps.inspect_here}
 use Rattle.std.proofs.Common.{ap}
 use Rattle.flash_table.proofs.BroomResults.{is_a_broom, stays_broom, inspected_by, inspected_changed}
 use Rattle.flash_table.proofs.flash.Flash.inspect_sector.Goals as goal

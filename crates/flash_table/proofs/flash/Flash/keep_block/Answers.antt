@@ -1,10 +1,10 @@
-use Rattle.flash_table.proofs.{Permissions.whose, Permissions.of_broom, Rows.just_now, Blocks.kept_just}
+use Rattle.flash_table.proofs.{Permissions.whose, Permissions.of_broom, Blocks.just_now, Blocks.kept_just}
 use Rattle.std.proofs.Common.{◌≡◌, ◌+◌, refl, ap, ◌∙◌}
 use Rattle.flash_rule.specs.Views.{with_owned}
 use Rattle.flash_table.specs.{Flash.broom_view, Flash.own_blocks, Owning.owned_of}
 use Rattle.flash_table.specs.declared.{broom_seat.ReclaimedBlock.ReclaimedBlock, pass.OpenBlock.OpenBlock}
-use Rattle.flash_table.proofs.{BroomResults.stays_broom, ErasingSteps.kept_here, flash.Flash.keep_block.Goals.After-fetch_add}
-use Rattle.flash_table.proofs.ErasingResults.{same_erased, live_on, can_renew, kept_view}
+use Rattle.flash_table.proofs.{BroomResults.stays_broom, BroomSteps.kept_here, flash.Flash.keep_block.Goals.After-fetch_add}
+use Rattle.flash_table.proofs.BroomResults.{same_erased, live_on, can_renew, kept_view}
 use Rattle.flash_table.proofs.flash.Flash.keep_block.Goals as goal
 
 pub fetch_add-requires : goal.fetch_add-requires

@@ -1,4 +1,4 @@
-use Rattle.flash_table.proofs.{Permissions.whose, Permissions.of_broom, Rows.just_now, BroomSteps.state_here, flash.Flash.load_state.Goals.After-load-found}
+use Rattle.flash_table.proofs.{Permissions.whose, Permissions.of_broom, Blocks.just_now, BroomSteps.state_here, flash.Flash.load_state.Goals.After-load-found}
 use Rattle.std.proofs.Common.{◌≡◌, ap, sym, ◌∙◌, arith}
 use Rattle.geometry.specs.{Limits.Numbers, declared.words.PinWord.PinWord}
 use Rattle.geometry.proofs.WordBits.{pin_same}

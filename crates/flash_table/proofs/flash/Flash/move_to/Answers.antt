@@ -1,4 +1,4 @@
-use Rattle.flash_table.proofs.{Permissions.whose, Permissions.of_broom, Rows.just_now, BroomSteps.move_here}
+use Rattle.flash_table.proofs.{Permissions.whose, Permissions.of_broom, Blocks.just_now, BroomSteps.move_here}
 use Rattle.flash_table.proofs.{flash.Flash.move_to.Goals.After-compare_exchange-found}
 use Rattle.std.proofs.Common.{◌≡◌, ap, sym, ◌∙◌, subst}
 use Rattle.geometry.specs.Words.{map_word}

@@ -1,8 +1,8 @@
-use Rattle.flash_table.proofs.{Permissions.whose, Permissions.of_broom, Rows.just_now, Blocks.erased_just}
+use Rattle.flash_table.proofs.{Permissions.whose, Permissions.of_broom, Blocks.just_now, Blocks.erased_just}
 use Rattle.std.proofs.Common.{◌≡◌, ap, ◌∙◌}
 use Rattle.flash_table.specs.{Flash.broom_view, GivingUp.left_retired}
-use Rattle.flash_table.proofs.{ErasingSteps.retired_here, BroomResults.stays_broom, flash.Flash.retire_block.Goals.After-fetch_add}
-use Rattle.flash_table.proofs.ErasingResults.{same_erased, last_erase, can_retire, retired_view}
+use Rattle.flash_table.proofs.{BroomSteps.retired_here, BroomResults.stays_broom, flash.Flash.retire_block.Goals.After-fetch_add}
+use Rattle.flash_table.proofs.BroomResults.{same_erased, last_erase, can_retire, retired_view}
 use Rattle.flash_table.proofs.flash.Flash.retire_block.Goals as goal
 
 pub fetch_add-requires : goal.fetch_add-requires

@@ -1,7 +1,7 @@
 use Rattle.std.proofs.Common.{ap, ◌∙◌, ◌≡◌, ℕ}
 use Rattle.flash_rule.specs.{declared.view.View.View, Views.is_player}
 use Rattle.flash_table.proofs.{Permissions.IsSeatOf, PassSteps.take_here, PassSteps.test_here, flash.Flash.take_free.Goals.After-load-seen}
-use Rattle.flash_table.proofs.TakingResults.{tested_free, tested_taken, took_by, IsFreeAt}
+use Rattle.flash_table.proofs.PassResults.{tested_free, tested_taken, took_by, IsFreeAt}
 use Rattle.flash_table.proofs.flash.Flash.take_free.Goals as goal
 
 pub load-seen-requires : goal.load-seen-requires

@@ -1,9 +1,9 @@
-use Rattle.flash_table.proofs.{Permissions.whose, Permissions.IsPlace, Permissions.of_broom, ErasingSteps.wipe_here, Rows.just_now}
+use Rattle.flash_table.proofs.{Permissions.whose, Permissions.IsPlace, Permissions.of_broom, BroomSteps.wipe_here, Blocks.just_now}
 use Rattle.std.proofs.Common.{◌≡◌, ◌+◌, ap, arith, subst}
 use Rattle.geometry.specs.Words.{page_index}
 use Rattle.flash_table.specs.Flash.{device, broom_view}
 use Rattle.flash_table.proofs.{BroomResults.stays_broom, flash.Flash.wipe.Goals.After-store}
-use Rattle.flash_table.proofs.ErasingResults.{can_wipe, wiped_within, wipe_view}
+use Rattle.flash_table.proofs.BroomResults.{can_wipe, wiped_within, wipe_view}
 use Rattle.flash_table.proofs.flash.Flash.wipe.Goals as goal
 
 pub overflow_add-place : goal.overflow_add-place

@@ -2,7 +2,7 @@ use Rattle.std.proofs.Common.{◌≡◌, ℕ, List, ◌∷◌, ◌++◌, Some, l
 use Rattle.std.{proofs.Math.Seq.take-append_seam, specs.Vec.Iter.into_iter_items}
 use Rattle.geometry.specs.{Geometry.hosts_of, History.Call}
 use Rattle.flash_rule.specs.declared.view.View.{View}
-use Rattle.flash_table.specs.{declared.pass.Pass.Pass, Flash.geometry_of, Flash.device, Flash.view_of, Leaving.retired_view}
+use Rattle.flash_table.specs.{declared.pass.Pass.Pass, Flash.geometry_of, Flash.device, Flash.view_of, Flash.retired_view}
 use Rattle.host.specs.Ready.{IsReady}
 use Rattle.volume.specs.Closing.{array_of, AreAll, AreRead, AreFinal, HaveLooked}
 use Rattle.volume.{specs.Volume.flash_of, proofs.Ends.has_left, proofs.FreshBrooms.taken}
