@@ -1,15 +1,26 @@
--- The pages that a broom fills with copies, one after another, and what is left of them.
-use Rattle.std.proofs.Common.{◌≡◌, ℕ, suc, ◌+◌, ◌-◌, ◌<◌, ◌≤◌, ◌==◌, List, [], ◌∷◌, ◌++◌, length, Option, None, Some, sym, refl, ap, ◌∙◌, arith, eq-eqb, ne_eqb}
-use Rattle.std.proofs.Common.{append_assoc, append-nil, length-append, map}
+-- The pages that a broom fills with copies, one after another, what is left of them, and how many it can still copy to.
+use Rattle.std.proofs.Common.{◌≡◌, ℕ, ◌+◌, ◌-◌, Some, length, length-append, suc, ◌<◌, ◌≤◌, ◌==◌, List, [], ◌∷◌, ◌++◌, Option, None, sym, refl, ap, ◌∙◌, arith}
+use Rattle.std.proofs.Common.{eq-eqb, ne_eqb, append_assoc, append-nil, map}
+use Rattle.std.proofs.lemmas.List.FromFn.{length-map-range_with_len}
+use Rattle.flash_table.specs.declared.pass.OpenBlock.{OpenBlock}
+use Rattle.flash_table.specs.declared.broom_seat.BroomBlocks.{BroomBlocks}
+use Rattle.broom.specs.Emptying.{page_at, pages_left, pages_to_fill, Programmed, Emptied, victim_page, closed_if, filled_by, looks_in, is_live, live_from}
+use Rattle.broom.specs.Emptying.{count_if}
 use Rattle.std.specs.List.{range_with_len}
 use mathlib.Core.Logic.{dite}
 use native.Mathlib.Decide.{dec_le}
 use Rattle.geometry.specs.declared.words.MapWord.{MapWord}
-use Rattle.flash_rule.specs.declared.{facts.Owned.Owned, facts.Work.Work, view.View.View}
-use Rattle.flash_table.specs.declared.{pass.OpenBlock.OpenBlock, broom_seat.BroomBlocks.BroomBlocks, broom_seat.ReclaimedBlock.ReclaimedBlock}
+use Rattle.flash_rule.specs.declared.facts.Owned.{Owned}
+use Rattle.flash_rule.specs.declared.facts.Work.{Work}
+use Rattle.flash_rule.specs.declared.view.View.{View}
+use Rattle.flash_table.specs.declared.broom_seat.ReclaimedBlock.{ReclaimedBlock}
 use Rattle.flash_table.specs.Owning.{closed_as}
-use Rattle.broom.specs.Emptying.{Programmed, Emptied, victim_page, page_at, pages_left, pages_to_fill, closed_if, filled_by, looks_in, is_live, live_from}
-use Rattle.broom.specs.Emptying.{count_if}
+
+pub left_count : (pages : ℕ) (o : OpenBlock) → length (pages_left pages (Some o)) ≡ pages - o.written
+left_count pages o = length-map-range_with_len (page_at o) o.written (pages - o.written)
+
+pub fill_count : (pages : ℕ) (x : BroomBlocks) → length (pages_to_fill pages x) ≡ length (pages_left pages x.destination) + length (pages_left pages x.spare)
+fill_count pages x = length-append (pages_left pages x.destination) (pages_left pages x.spare)
 
 -- ---- the victim's pages
 pub looks_push : (finds : List (Option (ℕ × ℕ))) (find : Option (ℕ × ℕ)) → looks_in (finds ++ find ∷ []) ≡ looks_in finds ++ looks_in (find ∷ [])

@@ -1,4 +1,4 @@
-pub mod Leaving
+pub mod Sparing
 pub mod Loading
 pub mod Counting
 pub mod Ranks
@@ -12,10 +12,7 @@ pub mod Clearing
 pub mod Drains
 pub mod Wiping
 pub mod Renewing
-pub mod Sparing
 pub mod StateCounts
 pub mod Tying
-pub mod Keeping
 pub mod Turning
-pub mod PagesLeft
 pub mod DeadBlocks

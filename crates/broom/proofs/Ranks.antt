@@ -8,7 +8,7 @@ use native.Mathlib.Decide.{dec_lt}
 use Rattle.geometry.specs.Greedy.{greedy_of, IsClosed, IsGreedy}
 use Rattle.geometry.proofs.Choosing.{greedy_of-best, greedy_of-none}
 use Rattle.broom.specs.declared.ranking.{Ranking.Ranking, TheConstants.ONE_PAGE}
-use Rattle.broom.specs.Ranking.{key_of, IsKey, IsRanked, Ranks}
+use Rattle.broom.specs.Survey.{key_of, IsKey, IsRanked, Ranks}
 
 -- a marked place is within the list of marks
 marked_low : (marks : List Bool) (b : ℕ) → IsClosed marks b → b < length marks

@@ -15,7 +15,7 @@ use Rattle.flash_table.specs.declared.broom_seat.{BroomBlocks.BroomBlocks, Recla
 use Rattle.flash_table.specs.Flash.{IsBroomOf, broom_view, own_blocks, geometry_of, device}
 use Rattle.flash_table.specs.Owning.{AreApart, blocks_list, owned_of, owned_list, reclaimed_list, reclaimed_as}
 use Rattle.flash_table.proofs.Blocks.{at_first, past_first, just_at}
-use Rattle.broom.specs.{declared.broom.Broom.Broom, Renewing.Kept, Renewing.Freed, Ready.IsRested, Ready.HasRoom, Ready.view_of_broom, Ready.blocks_of_broom}
+use Rattle.broom.specs.{declared.broom.Broom.Broom, Erasing.Kept, Erasing.Freed, Ready.IsRested, Ready.HasRoom, Ready.view_of_broom, Ready.blocks_of_broom}
 use Rattle.broom.specs.Erasing.{DidErase, DidKeep, DidFree, DidRetire, EraseTold, renewed}
 use Rattle.broom.proofs.Choosing.{rest_of, rested_again}
 use Rattle.flash_table.specs.declared.broom_seat.Reclaiming.TheVariants as reclaiming

@@ -10,7 +10,7 @@ use Rattle.geometry.specs.declared.words.{Phase.Phase, PinWord.PinWord}
 use Rattle.flash_rule.specs.declared.view.View.{View}
 use Rattle.flash_table.specs.{declared.flash.Flash.Flash, Flash.geometry_of, Flash.device}
 use Rattle.broom.specs.declared.{block_counts.BlockCounts.BlockCounts, broom.Broom.Broom}
-use Rattle.broom.specs.{Counting.FitsOneMore, Counting.counted_one, Counting.one_in, Handing.HandsNothing, Survey.loads_of}
+use Rattle.broom.specs.{Loading.FitsOneMore, Loading.counted_one, Loading.one_in, Handing.HandsNothing, Survey.loads_of}
 use Rattle.broom.specs.Loading.{HasState, KeepsMarks, StateLoaded, counts_in, erases_in, in_phase}
 use Rattle.broom.specs.Ready.{IsInRange, IsReady, view_of_broom, blocks_of_broom, marks_of}
 use Rattle.broom.specs.Told.{counts_kept, states_kept}

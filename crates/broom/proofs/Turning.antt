@@ -1,11 +1,33 @@
--- The parts of a turn, put together.
-use Rattle.std.proofs.Common.{◌≡◌, ◌≢◌, ℕ, refl, sym, subst}
-use Rattle.broom.specs.{declared.broom.Broom.Broom, declared.answer.Drain.Drain, declared.answer.Erase.Erase, Told.Unmarks, Erasing.EraseTold}
-use Rattle.broom.specs.Handing.{HandsNothing, HandedOn, Relieved, Fetched, FetchedAndHandedOn, DrainedAfterPut, DrainedBy, TurnTold, EraseOneTold}
+-- What a broom keeps at its queue while it hands nothing on, and the parts of a turn, put together.
+use Rattle.std.proofs.Common.{◌<◌, ℕ, Option, IfSome, sym, subst, ◌≡◌, ◌≢◌, refl}
+use Rattle.erase_queue.specs.declared.queue.EraseQueue.{EraseQueue}
+use Rattle.erase_queue.specs.Queue.{limit_of, IsPassOf}
+use Rattle.flash_table.specs.declared.flash.Flash.{Flash}
+use Rattle.broom.specs.declared.broom.Broom.{Broom}
+use Rattle.broom.specs.Ready.{IsReady}
+use Rattle.broom.specs.Handing.{IsElse, IsQueued, HandsNothing, HandedOn, Relieved, Fetched, FetchedAndHandedOn, DrainedAfterPut, DrainedBy, TurnTold}
+use Rattle.broom.specs.Handing.{EraseOneTold}
 use Rattle.broom.specs.declared.answer.Drain.TheVariants as drain
+use Rattle.broom.specs.declared.answer.Drain.{Drain}
 use Rattle.broom.specs.declared.answer.Erase.TheVariants as erase
-use Rattle.broom.specs.declared.turns.Choice.{Choice}
+use Rattle.broom.specs.declared.answer.Erase.{Erase}
+use Rattle.broom.specs.Told.{Unmarks}
+use Rattle.broom.specs.Erasing.{EraseTold}
 use Rattle.broom.specs.declared.turns.Choice.TheVariants as choice
+use Rattle.broom.specs.declared.turns.Choice.{Choice}
+
+-- its place is one of the queue, and what is set aside is one of its numbers, as before
+pub still_queued : (q : EraseQueue) (before after : Broom) → HandsNothing before after → IsQueued q before → IsQueued q after
+still_queued q before after same was = record {
+  place = subst (IsPassOf q) (sym same.place) was.place;
+  aside = subst (λ (o : Option ℕ). IfSome o (λ block. block < limit_of q)) (sym same.aside) was.aside;
+}
+
+-- a broom that has changed in nothing else is ready as before
+pub still_at : (f : Flash) (before after : Broom) → IsElse before after → IsReady f before → IsReady f after
+still_at f before after rest was =
+    subst (IsReady f) (sym rest)
+    (record { rested = was.rested; states = was.states; counts = was.counts; closed = was.closed; marks = was.marks; ranking = was.ranking })
 
 -- a drain doesn't use the queue
 never : (c : Choice) (b x : Broom) → DrainedBy c b drain.QueueFull x → ⊥

@@ -2,7 +2,7 @@
 use Rattle.std.proofs.Common.{◌≡◌, ℕ, ◌<◌, Bool, false, List, [], ◌∷◌, ◌++◌, length, set, sym, ap, ◌∙◌, subst, arith, length-set}
 use Rattle.geometry.specs.{Geometry.blocks_of, declared.words.PinWord.PinWord}
 use Rattle.flash_table.specs.{declared.flash.Flash.Flash, Flash.geometry_of, Flash.device}
-use Rattle.broom.specs.{declared.broom.Broom.Broom, declared.ranking.Ranking.Ranking, Ranking.Ranks}
+use Rattle.broom.specs.{declared.broom.Broom.Broom, declared.ranking.Ranking.Ranking, Survey.Ranks}
 use Rattle.broom.specs.Ready.{AreMarked, IsReady, IsRested, view_of_broom}
 use Rattle.broom.proofs.{Marking.marks_after, Marking.marks_kept, Marking.still_marked, Ranks.ranks_fewer}
 

@@ -1,20 +1,36 @@
--- What an erase records in what its broom knows, before and after.
-use Rattle.std.specs.Prelude.{◌≡◌, ℕ, ◌+◌, ◌<◌, true, false, List, [], ◌∷◌, ◌++◌, None, Some}
+-- What an erase records in what its broom knows, before and after, and the two ways in which a wiped block begins its next generation.
+use Rattle.std.specs.Prelude.{◌≡◌, ◌+◌, None, Some, ℕ, ◌<◌, true, false, List, [], ◌∷◌, ◌++◌}
+use Rattle.flash_rule.specs.declared.view.View.{View}
+use Rattle.flash_rule.specs.Views.{with_owned}
+use Rattle.flash_table.specs.declared.broom_seat.BroomBlocks.{BroomBlocks}
+use Rattle.flash_table.specs.declared.broom_seat.ReclaimedBlock.{ReclaimedBlock}
+use Rattle.flash_table.specs.declared.broom_seat.Reclaiming.TheVariants.{Nothing}
+use Rattle.flash_table.specs.declared.pass.OpenBlock.{OpenBlock}
+use Rattle.flash_table.specs.Owning.{owned_of}
+use Rattle.flash_table.specs.GivingUp.{left_free}
 use Rattle.geometry.specs.Words.{FitsPin, pin_word}
 use Rattle.geometry.specs.declared.words.Phase.TheVariants.{Drained, Erasing, Retired}
 use Rattle.geometry.specs.declared.words.PinWord.{PinWord}
 use Rattle.flash_rule.specs.declared.facts.Owned.{Owned}
-use Rattle.flash_rule.specs.declared.view.View.{View}
 use Rattle.flash_rule.specs.Ceded.{freed_as}
 use Rattle.flash_rule.specs.BroomPlays.{owned_as}
-use Rattle.flash_table.specs.declared.broom_seat.BroomBlocks.{BroomBlocks}
-use Rattle.flash_table.specs.declared.pass.OpenBlock.{OpenBlock}
 use Rattle.flash_table.specs.Erasing.{words_in_block}
-use Rattle.flash_table.specs.Owning.{owned_of}
 use Rattle.broom.specs.declared.broom.Broom.{Broom}
-use Rattle.broom.specs.declared.answer.Erase.{Erase}
 use Rattle.broom.specs.declared.answer.Erase.TheVariants as erase
+use Rattle.broom.specs.declared.answer.Erase.{Erase}
 use Rattle.broom.specs.Ready.{view_of_broom, blocks_of_broom}
+
+-- The broom had no spare, and the block is its spare: open and empty, one generation on
+pub record Kept (v : View) (x : BroomBlocks) (o : ReclaimedBlock) (w : View) (y : BroomBlocks) : Type 0 where
+  pub none : x.spare ≡ None
+  pub changed : w ≡ record v { owns = with_owned (owned_of (record { block = o.block; generation = o.generation + 1; written = 0 })) v.owns }
+  pub blocks : y ≡ record x { spare = Some (record { block = o.block; generation = o.generation + 1; written = 0 }); reclaiming = Nothing }
+
+-- The broom had a spare, and gave the block up free, one generation on
+pub record Freed (v : View) (x : BroomBlocks) (o : ReclaimedBlock) (w : View) (y : BroomBlocks) : Type 0 where
+  pub spare : (e : OpenBlock) × (x.spare ≡ Some e)
+  pub changed : w ≡ left_free v o
+  pub blocks : y ≡ record x { reclaiming = Nothing }
 
 -- The state of this block was loaded as one that isn't drained, and nothing else was done
 pub record FoundStale (v : View) (b : ℕ) (w : View) : Type 0 where

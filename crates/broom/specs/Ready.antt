@@ -1,5 +1,11 @@
--- A broom between two calls.
-use Rattle.std.specs.Prelude.{◌≡◌, ℕ, ◌<◌, ◌≤◌, ◌==◌, Bool, true, false, List, [], ◌∷◌, Option, None, Some, length, slice_index_or}
+-- A broom between two calls, and what one that makes no more steps knew last.
+use Rattle.std.specs.Prelude.{◌≡◌, ◌++◌, Option, None, ℕ, ◌<◌, ◌≤◌, ◌==◌, Bool, true, false, List, [], ◌∷◌, Some, length, slice_index_or}
+use Rattle.erase_queue.specs.declared.pass.QueuePass.{QueuePass}
+use Rattle.flash_rule.specs.declared.view.View.{View}
+use Rattle.flash_table.specs.Flash.{retired_broom_view, IsBroomOf, broom_view, own_blocks, geometry_of, device}
+use Rattle.broom.specs.declared.folding.Folded.{Folded}
+use Rattle.flash_table.specs.Owning.{closed_list}
+use Rattle.flash_table.specs.declared.pass.OpenBlock.{OpenBlock}
 use Rattle.geometry.specs.Geometry.{blocks_of, pages_of, endurance_of}
 use Rattle.geometry.specs.Greedy.{IsClosed}
 use Rattle.geometry.specs.Limits.{Numbers}
@@ -8,16 +14,25 @@ use Rattle.geometry.specs.declared.geometry.Geometry.{Geometry}
 use Rattle.geometry.specs.declared.words.Phase.TheVariants.{Closed}
 use Rattle.geometry.specs.declared.words.PinWord.{PinWord}
 use Rattle.flash_rule.specs.declared.facts.Work.{Work}
-use Rattle.flash_rule.specs.declared.view.View.{View}
 use Rattle.flash_rule.specs.Views.{AreOfHosts}
 use Rattle.flash_table.specs.declared.flash.Flash.{Flash}
-use Rattle.flash_table.specs.declared.pass.OpenBlock.{OpenBlock}
 use Rattle.flash_table.specs.declared.broom_seat.BroomBlocks.{BroomBlocks}
 use Rattle.flash_table.specs.declared.broom_seat.BroomSeat.{BroomSeat}
 use Rattle.flash_table.specs.declared.broom_seat.Reclaiming.TheVariants.{Nothing}
-use Rattle.flash_table.specs.Flash.{IsBroomOf, broom_view, own_blocks, geometry_of, device}
-use Rattle.broom.specs.Ranking.{Ranks}
+use Rattle.broom.specs.Survey.{Ranks}
 use Rattle.broom.specs.declared.broom.Broom.{Broom}
+
+-- what such a broom knew of its device
+abbrev pub folded_view : Folded → View
+folded_view b = retired_broom_view b.seat
+
+-- its place at the queue of drained blocks
+abbrev pub folded_place : Folded → QueuePass
+folded_place b = b.place
+
+-- the destination, if there is one, was given up
+abbrev pub HasClosed : View → Option OpenBlock → View → Type 0
+HasClosed v destination w = w ≡ record v { owns = w.owns; work = None; ceded = v.ceded ++ closed_list destination }
 
 -- a broom's seat at the table
 abbrev pub seat_of : Broom → BroomSeat

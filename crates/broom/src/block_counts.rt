@@ -1,6 +1,6 @@
 //! How many blocks of a device are in each phase.
 ghost use Rattle.std.specs.Prelude.{◌≡◌, ◌<◌};
-ghost use Rattle.broom.specs.Counting.{counted_one};
+ghost use Rattle.broom.specs.Loading.{counted_one};
 
 use geometry::{Phase, PinWord};
 
@@ -19,8 +19,7 @@ pub struct BlockCounts {
 
 impl BlockCounts {
     ghost use Rattle.std.specs.Prelude.{[], ◌+◌, ◌≤◌};
-    ghost use Rattle.broom.specs.Counting.{FitsOneMore};
-    ghost use Rattle.broom.specs.Loading.{counts_in};
+    ghost use Rattle.broom.specs.Loading.{FitsOneMore, counts_in};
 
     pub(crate) fn none() -> BlockCounts
         ensures { result ≡ counts_in [] }

@@ -7,8 +7,7 @@ ghost use Rattle.flash_table.specs.declared.broom_seat.ReclaimedBlock.{Reclaimed
 ghost use Rattle.flash_table.specs.declared.broom_seat.Reclaiming.TheVariants as reclaiming;
 ghost use Rattle.broom.specs.Ready.{IsReady};
 ghost use Rattle.broom.specs.Handing.{HandsNothing};
-ghost use Rattle.broom.specs.Renewing.{Kept, Freed};
-ghost use Rattle.broom.specs.Erasing.{EraseTold};
+ghost use Rattle.broom.specs.Erasing.{Kept, Freed, EraseTold};
 ghost use Rattle.broom.specs.Told.{Unmarks};
 
 use crate::answer::Erase;

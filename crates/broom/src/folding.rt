@@ -5,8 +5,7 @@ ghost use Rattle.flash_table.specs.Flash.{IsBroomOf, broom_view, own_blocks, geo
 ghost use Rattle.flash_table.specs.declared.pass.OpenBlock.{OpenBlock};
 ghost use Rattle.flash_table.specs.GivingUp.{closed_broom};
 ghost use Rattle.erase_queue.specs.Queue.{limit_of};
-ghost use Rattle.broom.specs.Ready.{IsReady, IsRested, IsFiled, view_of_broom, blocks_of_broom};
-ghost use Rattle.broom.specs.Ends.{folded_view, folded_place, HasClosed};
+ghost use Rattle.broom.specs.Ready.{IsReady, IsRested, IsFiled, view_of_broom, blocks_of_broom, folded_view, folded_place, HasClosed};
 ghost use Rattle.broom.specs.Handing.{IsQueued, LeftAt, aside_of, place_of};
 
 use crate::broom::Broom;
@@ -24,7 +23,7 @@ pub struct Folded {
 
 /// Gives a broom up. Its destination, full or not, and its spare are closed. A block that is set aside is put into the queue; if the queue is full,
 /// the block stays drained, and nobody erases it.
-#[tactic(auto, using(crate::proofs::Keeping::still_at))]
+#[tactic(auto, using(crate::proofs::Turning::still_at))]
 pub fn fold(flash: &Flash, queue: &EraseQueue, rt: &impl Wait, broom: Broom) -> Folded
     requires ready { IsReady flash.now broom }
     requires queued { IsQueued queue.now broom }

@@ -1,7 +1,7 @@
 //! The order in which the blocks of a survey are drained. It is made once a survey, so that no later choice has to look at all blocks.
 ghost use Rattle.std.specs.Prelude.{◌≡◌, ◌<◌, ◌≤◌, false, true, IfOk, length, vec_capacity};
 ghost use Rattle.geometry.specs.Greedy.{greedy_of};
-ghost use Rattle.broom.specs.Ranking.{IsRanked, Ranks, key_of};
+ghost use Rattle.broom.specs.Survey.{IsRanked, Ranks, key_of};
 
 use std::alloc::{AllocError, Global};
 

@@ -3,8 +3,7 @@ ghost use Rattle.std.specs.Prelude.{◌≡◌, None};
 ghost use Rattle.flash_table.specs.Flash.{IsBroomOf, broom_view, own_blocks};
 ghost use Rattle.broom.specs.Ready.{IsReady};
 ghost use Rattle.broom.specs.Handing.{HandsNothing};
-ghost use Rattle.broom.specs.Told.{KeepsSurvey};
-ghost use Rattle.broom.specs.Restocking.{RestockTold, SearchTold};
+ghost use Rattle.broom.specs.Told.{KeepsSurvey, RestockTold, SearchTold};
 
 use crate::broom::Broom;
 use flash_table::{BroomSeat, Flash};

@@ -7,7 +7,7 @@ use crate::broom::Broom;
 use flash_table::OpenBlock;
 
 // How many of so many pages are left in a block, if there is one.
-#[tactic(auto, using(crate::proofs::PagesLeft::left_count))]
+#[tactic(auto, using(crate::proofs::Emptying::left_count))]
 fn left_in(pages: u32, opened: Option<OpenBlock>) -> u64
     ensures count { result ≡ length (pages_left pages opened) }
     ensures most { result ≤ pages }
@@ -20,7 +20,7 @@ fn left_in(pages: u32, opened: Option<OpenBlock>) -> u64
 
 impl Broom {
     /// How many pages the broom can still copy to: those left in its destination and in its spare, if a block has so many pages.
-    #[tactic(auto, using(crate::proofs::PagesLeft::fill_count))]
+    #[tactic(auto, using(crate::proofs::Emptying::fill_count))]
     pub fn room(&self, pages: u32) -> u64
         ensures { result ≡ length (pages_to_fill pages (blocks_of_broom self.now)) }
     {

@@ -47,7 +47,7 @@ pub fn drain_one<G: Gate>(
 }
 
 /// A turn as `drain_one` makes it, with this choice of the block.
-#[tactic(auto, using(crate::proofs::Keeping::still_at, crate::proofs::Keeping::still_queued))]
+#[tactic(auto, using(crate::proofs::Turning::still_at, crate::proofs::Turning::still_queued))]
 pub fn drain_chosen<G: Gate>(
     flash: &Flash,
     queue: &EraseQueue,
@@ -89,7 +89,7 @@ fn drain_by<G: Gate>(flash: &Flash, broom: &mut Broom, choice: Choice, gate: &mu
 
 /// Erases the block that is set aside or, if there is none, the first one of the queue. A block that has readers is put back at the end of the
 /// queue.
-#[tactic(auto, using(crate::proofs::Keeping::still_at, crate::proofs::Keeping::still_queued))]
+#[tactic(auto, using(crate::proofs::Turning::still_at, crate::proofs::Turning::still_queued))]
 pub fn erase_one<G: Gate>(
     flash: &Flash,
     queue: &EraseQueue,

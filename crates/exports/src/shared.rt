@@ -1,10 +1,9 @@
 //! A device that threads share: the calls of C on any seat, and those of a broom. Each is a call of the device, on the seat of its handle.
 ghost use Rattle.std.specs.Prelude.{◌≡◌, ◌≢◌, List, None, is_some};
 ghost use Rattle.flash_table.specs.Flash.{device};
-ghost use Rattle.broom.specs.Told.{KeepsSurvey, Unmarks};
+ghost use Rattle.broom.specs.Told.{KeepsSurvey, Unmarks, RestockTold};
 ghost use Rattle.broom.specs.Erasing.{EraseTold};
 ghost use Rattle.broom.specs.Handing.{HandsNothing};
-ghost use Rattle.broom.specs.Restocking.{RestockTold};
 ghost use Rattle.broom.specs.Loading.{AllLoaded, counts_in};
 ghost use Rattle.broom.specs.Ready.{blocks_of_broom};
 ghost use Rattle.geometry.specs.declared.words.PinWord.{PinWord};

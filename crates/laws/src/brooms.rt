@@ -1,7 +1,7 @@
 ghost use Rattle.std.specs.Prelude.{◌≡◌, ℕ, [], ◌∷◌, None, Some, true, false};
 ghost use Rattle.geometry.specs.Greedy.{IsClosed, greedy_of};
 ghost use Rattle.broom.specs.{Ready.marks_of, Ready.view_of_broom, Told.DrainTold, Told.KeepsSurvey, Told.NextTold, Told.SurveyLeft, Told.Unmarks};
-ghost use Rattle.broom.specs.{Restocking.RestockTold, Survey.GainsNothing, Survey.IsVictim, Survey.closed_of, Survey.counts_of, declared.broom.Broom.Broom};
+ghost use Rattle.broom.specs.{Told.RestockTold, Survey.GainsNothing, Survey.IsVictim, Survey.closed_of, Survey.counts_of, declared.broom.Broom.Broom};
 ghost use Rattle.broom.specs.declared.answer.Drain.TheVariants as drain;
 ghost use Rattle.laws.specs.Brooms.{DidNothing, HadFewest, HasDrained, HasLost, HasNone, HasSpare, a_survey, an_all_live_survey};
 

@@ -1,5 +1,5 @@
 -- A broom that hands nothing on stays at its queue.
-use Rattle.broom.{proofs.Keeping.still_queued, specs.declared.broom.Broom.Broom, specs.Handing.HandsNothing, specs.Ready.IsReady}
+use Rattle.broom.{proofs.Turning.still_queued, specs.declared.broom.Broom.Broom, specs.Handing.HandsNothing, specs.Ready.IsReady}
 use Rattle.volume.specs.{declared.volume.Volume.Volume, Brooms.IsBroomReady, Volume.flash_of, Volume.queue_of}
 
 -- so it is ready again where it is at the device

@@ -38,15 +38,13 @@ impl Volume {
     ghost use Rattle.flash_table.specs.GivingUp.{closed_pass, closed_broom};
     ghost use Rattle.broom.specs.declared.broom.Broom.{Broom};
     ghost use Rattle.erase_queue.specs.Queue.{IsNewPass};
-    ghost use Rattle.broom.specs.Ends.{folded_view, folded_place};
+    ghost use Rattle.broom.specs.Ready.{folded_view, folded_place, IsInRange, view_of_broom, blocks_of_broom};
     ghost use Rattle.broom.specs.Erasing.{EraseTold};
-    ghost use Rattle.broom.specs.Told.{DrainTold, NextTold, KeepsSurvey, SurveyLeft, Unmarks};
+    ghost use Rattle.broom.specs.Told.{DrainTold, NextTold, KeepsSurvey, SurveyLeft, Unmarks, RestockTold};
     ghost use Rattle.broom.specs.Dead.{DeadTold};
-    ghost use Rattle.broom.specs.Restocking.{RestockTold};
     ghost use Rattle.broom.specs.Meeting.{StoodTold, BroomsMet};
     ghost use Rattle.broom.specs.Handing.{DrainDeadOneTold, DrainNextOneTold, DrainOneTold, EraseOneTold, HandsNothing, IsBelow, LeftAt, aside_of, place_of};
     ghost use Rattle.broom.specs.Loading.{AllLoaded, StateLoaded, counts_in};
-    ghost use Rattle.broom.specs.Ready.{IsInRange, view_of_broom, blocks_of_broom};
     ghost use Rattle.host.specs.Ready.{IsReady};
     ghost use Rattle.host.specs.Told.{Searched, Wrote, WroteNew, Refused, MetHolding, MetTold, was_found};
     ghost use Rattle.host.specs.declared.writing_new.NewFault.TheVariants as fault;

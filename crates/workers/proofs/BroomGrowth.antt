@@ -6,7 +6,7 @@ use Rattle.flash_rule.specs.declared.{facts.Cycle.Cycle, view.View.View}
 use Rattle.broom.specs.declared.{broom.Broom.Broom, answer.Drain.Drain, answer.Erase.Erase}
 use Rattle.broom.specs.{Dead.DeadBySurvey, Dead.DeadTold, Dead.InspectedTold, Told.DrainTold, Told.NextTold, Told.SurveyLeft}
 use Rattle.broom.specs.Handing.{DrainDeadOneTold, EraseOneTold, IsElse, TurnTold}
-use Rattle.broom.specs.{Ready.blocks_of_broom, Ready.view_of_broom, Surveying.Chosen, Restocking.DidRestock, Restocking.HadSpare, Restocking.RestockTold}
+use Rattle.broom.specs.{Ready.blocks_of_broom, Ready.view_of_broom, Surveying.Chosen, Told.DidRestock, Told.HadSpare, Told.RestockTold}
 use Rattle.flash_table.specs.declared.broom_seat.BroomBlocks.{BroomBlocks}
 use Rattle.workers.specs.declared.collector.{broom_answer.BroomAnswer.BroomAnswer, tally.Tally.Tally}
 use Rattle.workers.specs.{Collecting.CallTold, Collecting.HasMadeCalls, Growing.GrowsBy, Growing.HasGrown}

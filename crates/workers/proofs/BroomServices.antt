@@ -5,7 +5,7 @@ use Rattle.std.proofs.lemmas.List.Elements.{All-head, All-tail}
 use Rattle.geometry.specs.{Geometry.brooms_of, declared.geometry.Geometry.Geometry}
 use Rattle.flash_rule.specs.declared.view.View.{View}
 use Rattle.flash_table.specs.Flash.{device, first_broom, geometry_of}
-use Rattle.broom.specs.{declared.broom.Broom.Broom, Ends.folded_view, Ready.view_of_broom}
+use Rattle.broom.specs.{declared.broom.Broom.Broom, Ready.folded_view, Ready.view_of_broom}
 use Rattle.volume.specs.{declared.volume.Volume.Volume, Brooms.IsUnused, Volume.flash_of}
 use Rattle.workers.specs.declared.collector.{Collector.Collector, tally.Tally.Tally, collector_end.CollectorEnd.CollectorEnd}
 use Rattle.workers.specs.{Collecting.HasCollected, Collecting.HaveCollected, Tallies.added, Tallies.total_of, Tallies.wrapped}

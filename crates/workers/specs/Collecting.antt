@@ -8,8 +8,7 @@ use Rattle.broom.specs.declared.answer.Drain.{Drain}
 use Rattle.broom.specs.declared.broom.Broom.{Broom}
 use Rattle.broom.specs.Handing.{DrainDeadOneTold, DrainNextOneTold, DrainOneTold, EraseOneTold, HandsNothing}
 use Rattle.broom.specs.Ready.{view_of_broom}
-use Rattle.broom.specs.Restocking.{RestockTold}
-use Rattle.broom.specs.Told.{KeepsSurvey}
+use Rattle.broom.specs.Told.{RestockTold, KeepsSurvey}
 use Rattle.volume.specs.Volume.{queue_of}
 use Rattle.workers.specs.declared.collector.broom_answer.BroomAnswer.{BroomAnswer}
 use Rattle.workers.specs.declared.collector.broom_answer.BroomAnswer.TheVariants as by

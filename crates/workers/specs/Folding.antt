@@ -1,9 +1,8 @@
 -- The brooms at the end of a run.
 use Rattle.std.specs.Prelude.{◌≡◌, List, [], ◌∷◌}
 use Rattle.flash_table.specs.GivingUp.{closed_broom}
-use Rattle.broom.specs.Ends.{folded_place, folded_view}
+use Rattle.broom.specs.Ready.{folded_place, folded_view, blocks_of_broom, view_of_broom}
 use Rattle.broom.specs.Handing.{LeftAt}
-use Rattle.broom.specs.Ready.{blocks_of_broom, view_of_broom}
 use Rattle.workers.specs.declared.collector.Collector.{Collector}
 use Rattle.workers.specs.declared.collector.collector_end.CollectorEnd.{CollectorEnd}
 use Rattle.workers.specs.Collecting.{limit_at}

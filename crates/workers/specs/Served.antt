@@ -8,7 +8,7 @@ use Rattle.flash_rule.specs.declared.facts.Role.TheVariants.{Player}
 use Rattle.flash_rule.specs.declared.view.View.{View}
 use Rattle.flash_table.specs.Flash.{geometry_of}
 use Rattle.broom.specs.declared.broom.Broom.{Broom}
-use Rattle.broom.specs.Ends.{folded_view}
+use Rattle.broom.specs.Ready.{folded_view}
 use Rattle.volume.specs.declared.volume.Volume.{Volume}
 use Rattle.volume.specs.Brooms.{IsUnused}
 use Rattle.volume.specs.Volume.{flash_of}

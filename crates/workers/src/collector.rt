@@ -3,9 +3,8 @@ ghost use Rattle.std.specs.Prelude.{◌≡◌};
 ghost use Rattle.std.specs.Arc.{arc_value};
 ghost use Rattle.erase_queue.specs.Queue.{limit_of};
 ghost use Rattle.flash_table.specs.GivingUp.{closed_broom};
-ghost use Rattle.broom.specs.Ends.{folded_place, folded_view};
+ghost use Rattle.broom.specs.Ready.{folded_place, folded_view, blocks_of_broom, view_of_broom};
 ghost use Rattle.broom.specs.Handing.{LeftAt};
-ghost use Rattle.broom.specs.Ready.{blocks_of_broom, view_of_broom};
 ghost use Rattle.volume.specs.Volume.{queue_of};
 ghost use Rattle.volume.specs.Brooms.{IsBroomReady, IsBroomReady-prop};
 

@@ -1,9 +1,8 @@
 //! The calls of a broom, by codes.
 ghost use Rattle.std.specs.Prelude.{◌≡◌, ◌≢◌};
-ghost use Rattle.broom.specs.Told.{KeepsSurvey, Unmarks};
+ghost use Rattle.broom.specs.Told.{KeepsSurvey, Unmarks, RestockTold};
 ghost use Rattle.broom.specs.Erasing.{EraseTold};
 ghost use Rattle.broom.specs.Handing.{HandsNothing};
-ghost use Rattle.broom.specs.Restocking.{RestockTold};
 ghost use Rattle.broom.specs.declared.answer.Drain.TheVariants as drain;
 ghost use Rattle.broom.specs.declared.turns.Choice.TheVariants as choice;
 ghost use Rattle.exports.specs.Codes.{drain_code, drain_by, erase_by, restock_code, stocked_by};

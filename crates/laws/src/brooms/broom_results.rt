@@ -4,7 +4,7 @@ ghost use Rattle.broom.specs.Dead.{DeadBySurvey, DeadTold, DidDrainDead, FoundIn
 ghost use Rattle.broom.specs.{Surveying.Chosen, Erasing.DidErase, Erasing.EraseTold, Erasing.renewed, Handing.Relieved, Handing.aside_of, Handing.place_of};
 ghost use Rattle.broom.specs.Emptying.{Emptied, Programmed, given_up, live_from, looks_in, pages_left, pages_to_fill};
 ghost use Rattle.broom.specs.Handing.{DrainDeadOneTold, DrainNextOneTold, DrainOneTold, EraseOneTold, Fetched, HandedOn, HandsNothing, IsElse, LeftAt};
-ghost use Rattle.broom.specs.{Ready.blocks_of_broom, Ready.marks_of, Ready.view_of_broom, Restocking.RestockTold, Told.states_kept, Told.victim_in};
+ghost use Rattle.broom.specs.{Ready.blocks_of_broom, Ready.marks_of, Ready.view_of_broom, Told.RestockTold, Told.states_kept, Told.victim_in};
 ghost use Rattle.broom.specs.Survey.{GainsNothing, IsSurvey, IsVictim, Survey, closed_of, counts_of, generation_in, loads_of, looks_of, written_in};
 ghost use Rattle.broom.specs.Told.{DrainTold, GainsNothingNext, KeepsSurvey, NextTold, SurveyLeft, Surveyed, Unmarks, block_in, counts_kept, next_of};
 ghost use Rattle.broom.specs.declared.broom.Broom.{Broom};

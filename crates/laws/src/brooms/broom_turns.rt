@@ -1,7 +1,7 @@
 //! Laws of the order of a broom's calls in a round: which lists of answers are turns, and what is enough for what a broom has done.
 ghost use Rattle.std.specs.Prelude.{◌≡◌, ◌+◌, ◌-◌, ◌%◌, ◌^◌, ℕ, [], ◌∷◌, false, length};
 ghost use Rattle.std.specs.Arc.{arc_value};
-ghost use Rattle.broom.specs.{Ends.folded_place, Ends.folded_view, Ready.view_of_broom, Restocking.RestockTold, Told.KeepsSurvey, declared.answer.Erase.Erase};
+ghost use Rattle.broom.specs.{Ready.folded_place, Ready.folded_view, Ready.view_of_broom, Told.RestockTold, Told.KeepsSurvey, declared.answer.Erase.Erase};
 ghost use Rattle.broom.specs.Handing.{DrainDeadOneTold, DrainNextOneTold, DrainOneTold, EraseOneTold, HandsNothing, LeftAt};
 ghost use Rattle.broom.specs.declared.broom.Broom.{Broom};
 ghost use Rattle.broom.specs.declared.answer.Drain.TheVariants as drain;

@@ -5,7 +5,7 @@ ghost use Rattle.flash_rule.specs.declared.facts.Role.TheVariants as seat;
 ghost use Rattle.flash_table.specs.{Flash.geometry_of, Flash.view_of, GivingUp.closed_broom, Steps.HasNumber, declared.pass.Pass.Pass};
 ghost use Rattle.geometry.specs.{Geometry.hosts_of, Geometry.sectors_of, Geometry.words_of, History.Begins, declared.geometry.Geometry.Geometry};
 ghost use Rattle.geometry.specs.declared.answer.Was.TheVariants as was;
-ghost use Rattle.broom.specs.{Ends.folded_view, Ready.blocks_of_broom, Ready.view_of_broom, declared.broom.Broom.Broom};
+ghost use Rattle.broom.specs.{Ready.folded_view, Ready.blocks_of_broom, Ready.view_of_broom, declared.broom.Broom.Broom};
 ghost use Rattle.host.specs.Ready.{IsReady};
 ghost use Rattle.rounds.specs.Answers.{HasSpaceFor, IsCursorOf, first_place, answer_index, said_in};
 ghost use Rattle.rounds.specs.Lines.{Said, kind_of, said};

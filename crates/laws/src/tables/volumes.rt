@@ -3,7 +3,7 @@ ghost use Rattle.std.specs.Prelude.{◌≡◌, ◌<◌, ℕ, Bool, is_some, List
 ghost use Rattle.broom.specs.{Handing.HandsNothing, Handing.IsBelow, Handing.IsQueued, Handing.aside_of, Handing.place_of, declared.broom.Broom.Broom};
 ghost use Rattle.broom.specs.Ready.{AreMarked, HasNoMarks, IsReady, IsRested, IsSameSeat, blocks_of_broom, marks_of, view_of_broom};
 ghost use Rattle.broom.specs.Meeting as broom;
-ghost use Rattle.broom.specs.Ranking.{Ranks};
+ghost use Rattle.broom.specs.Survey.{Ranks};
 ghost use Rattle.broom.specs.declared.answer.Drain.TheVariants as drain;
 ghost use Rattle.erase_queue.specs.Queue as queue;
 ghost use Rattle.erase_queue.specs.{Queue.IsNewPass, Queue.limit_of, declared.queue.EraseQueue.EraseQueue};

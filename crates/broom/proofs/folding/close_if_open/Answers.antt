@@ -1,6 +1,6 @@
 use Rattle.std.proofs.Common.{sym, ap, ◌∙◌}
 use Rattle.flash_table.specs.{Flash.broom_view, Flash.own_blocks, declared.broom_seat.BroomBlocks.BroomBlocks}
-use Rattle.broom.proofs.Leaving.{stays_idle, no_block}
+use Rattle.broom.proofs.Sparing.{stays_idle, no_block}
 use Rattle.broom.proofs.folding.close_if_open.Goals as goal
 
 pub returns-else-is_some-clause-closed : goal.returns-else-is_some-clause-closed

@@ -1,7 +1,7 @@
 use Rattle.std.proofs.Common.{◌≡◌, ◌∙◌, ◌+◌, sym, ap, subst, arith}
 use Rattle.geometry.specs.Geometry.{blocks_of}
 use Rattle.flash_table.specs.Flash.{geometry_of, device}
-use Rattle.broom.specs.Counting.{FitsOneMore}
+use Rattle.broom.specs.Loading.{FitsOneMore}
 use Rattle.broom.proofs.StateCounts.{LoadedBelow, has_room, loaded_below_none, loaded_below_more}
 use Rattle.broom.proofs.state.count_blocks.Goals as goal
 

@@ -1,6 +1,6 @@
 use Rattle.std.proofs.Common.{◌-◌, ◌≤◌, length}
 use Rattle.std.specs.Vec.{vec_capacity}
-use Rattle.broom.specs.Ranking.{IsRanked}
+use Rattle.broom.specs.Survey.{IsRanked}
 use Rattle.broom.proofs.ranking.Ranking.first.Given as goal
 
 abbrev pub invariant-loop-self : goal.invariant-loop-self

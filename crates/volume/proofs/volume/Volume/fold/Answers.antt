@@ -1,5 +1,5 @@
 use Rattle.flash_rule.specs.declared.view.View.{View}
-use Rattle.broom.specs.{Ready.view_of_broom, Ends.folded_view}
+use Rattle.broom.specs.Ready.{view_of_broom, folded_view}
 use Rattle.volume.proofs.ArrayLeft.{given_up}
 use Rattle.std.proofs.Common.{ap}
 use Rattle.volume.proofs.volume.Volume.fold.Goals as goal
