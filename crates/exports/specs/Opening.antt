@@ -6,8 +6,7 @@ use Rattle.geometry.specs.declared.limits.GeometryFault.{GeometryFault}
 use Rattle.flash_table.specs.declared.pass.Pass.{Pass}
 use Rattle.flash_table.specs.Flash.{view_of, device, first_view}
 use Rattle.broom.specs.declared.broom.Broom.{Broom}
-use Rattle.volume.specs.Brooms.{IsFresh, IsUnused}
-use Rattle.volume.specs.Volume.{flash_of, queue_of}
+use Rattle.volume.specs.Volume.{IsFresh, IsUnused, flash_of, queue_of}
 use Rattle.volume.specs.declared.volume.Volume.{Volume}
 use Rattle.exports.specs.declared.handle.Handle.{Handle}
 use Rattle.exports.specs.declared.handle.seat.Seat.{Seat}

@@ -1,6 +1,6 @@
 //! The brooms of an open device.
 ghost use Rattle.std.specs.Prelude.{◌≡◌, ◌+◌, ◌<◌, All, length};
-ghost use Rattle.volume.specs.Brooms.{IsBroomReady};
+ghost use Rattle.volume.specs.Volume.{IsBroomReady};
 
 use broom::Broom;
 use volume::Volume;

@@ -5,8 +5,7 @@ ghost use Rattle.std.specs.Prelude.{◌≡◌, ◌<◌, ◌+◌, All, length};
 ghost use Rattle.geometry.specs.Geometry.{page_bytes_of, sectors_of};
 ghost use Rattle.flash_table.specs.Flash.{geometry_of};
 ghost use Rattle.host.specs.Ready.{IsReady};
-ghost use Rattle.volume.specs.Brooms.{IsBroomReady};
-ghost use Rattle.volume.specs.Volume.{flash_of};
+ghost use Rattle.volume.specs.Volume.{IsBroomReady, flash_of};
 
 use std::thread::Threads;
 use uses::{Sweeper, Writer, two_writers_and_a_broom};

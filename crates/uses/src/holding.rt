@@ -3,7 +3,7 @@ ghost use Rattle.geometry.specs.{Geometry.page_bytes_of, Geometry.sectors_of, Hi
 ghost use Rattle.geometry.specs.declared.answer.Got.TheVariants as got;
 ghost use Rattle.flash_table.specs.Flash.{geometry_of, view_of};
 ghost use Rattle.host.specs.Ready.{IsReady};
-ghost use Rattle.volume.specs.{Brooms.IsBroomReady, Volume.flash_of};
+ghost use Rattle.volume.specs.Volume.{IsBroomReady, flash_of};
 
 use volume::{Broom, Got, Holding, NoGate, Pass, Volume};
 

@@ -3,7 +3,7 @@ ghost use Rattle.std.specs.Prelude.{◌≡◌, ◌<◌, length};
 ghost use Rattle.geometry.specs.Geometry.{page_bytes_of, sectors_of};
 ghost use Rattle.flash_table.specs.Flash.{geometry_of, view_of};
 ghost use Rattle.host.specs.Ready.{IsReady};
-ghost use Rattle.volume.specs.{Brooms.IsBroomReady, Brooms.IsBroomReady-prop, Volume.flash_of};
+ghost use Rattle.volume.specs.Volume.{IsBroomReady, IsBroomReady-prop, flash_of};
 ghost use Rattle.uses.specs.Sharing.{IsStored, HasHeard};
 
 use std::thread::{Threads, join_mut};

@@ -5,7 +5,7 @@ ghost use Rattle.flash_table.specs.Flash.{geometry_of, view_of};
 ghost use Rattle.broom.specs.Ready.{view_of_broom};
 ghost use Rattle.host.specs.{Holding.Holds, Holding.page_of, Holding.pass_of, Ready.IsReady};
 ghost use Rattle.uses.specs.Standing.{HasNoErase};
-ghost use Rattle.volume.specs.{Brooms.IsBroomReady, Volume.flash_of};
+ghost use Rattle.volume.specs.Volume.{IsBroomReady, flash_of};
 
 use volume::{Broom, Held, NoGate, Pass, Volume};
 

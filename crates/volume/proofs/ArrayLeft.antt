@@ -1,19 +1,35 @@
--- Each call of a broom leaves the array of sectors to the hosts.
+-- Each call of a broom leaves the array of sectors to the hosts; one that hands nothing on stays at its queue.
+use Rattle.broom.proofs.Turning.{still_queued}
+use Rattle.broom.specs.declared.broom.Broom.{Broom}
+use Rattle.broom.specs.Handing.{HandsNothing, DrainedAfterPut, DrainedBy, EraseOneTold, FetchedAndErased, IsElse, TurnTold}
+use Rattle.broom.specs.Ready.{IsReady, view_of_broom}
+use Rattle.volume.specs.declared.volume.Volume.{Volume}
+use Rattle.volume.specs.Volume.{IsBroomReady, flash_of, queue_of}
 use Rattle.std.proofs.Common.{◌≡◌, ℕ, All, true, false, List, [], ◌∷◌, ◌++◌, inl, inr, refl, sym, ap, ◌∙◌, subst, append_assoc, append-nil}
 use Rattle.std.proofs.lemmas.List.Elements.{All-head, All-tail}
-use Rattle.geometry.specs.{History.Call, History.Write, History.WriteNew, History.Trim, History.held, History.Begins, Words.pin_word}
+use Rattle.geometry.specs.History.{Call, Write, WriteNew, Trim, held, Begins}
+use Rattle.geometry.specs.Words.{pin_word}
 use Rattle.geometry.proofs.Histories.{Begins-refl, Begins-trans, held_by_new, held_by_trim, held_by_write}
 use Rattle.geometry.specs.declared.words.PinWord.{PinWord}
-use Rattle.flash_rule.specs.{Views.AreOfHosts, declared.view.View.View}
-use Rattle.broom.specs.{declared.broom.Broom.Broom, declared.answer.Drain.Drain, declared.answer.Erase.Erase, Erasing.EraseTold, Meeting.BroomsMet}
-use Rattle.broom.{specs.Dead.DeadBySurvey, specs.Dead.DeadTold, specs.Dead.InspectedTold, proofs.Loading.loaded_changes}
-use Rattle.broom.specs.Handing.{DrainedAfterPut, DrainedBy, EraseOneTold, FetchedAndErased, IsElse, TurnTold}
-use Rattle.broom.specs.{Loading.StateLoaded, Ready.view_of_broom, Told.DrainTold, Told.NextTold}
+use Rattle.flash_rule.specs.Views.{AreOfHosts}
+use Rattle.flash_rule.specs.declared.view.View.{View}
 use Rattle.broom.specs.declared.answer.Drain.TheVariants as drain
+use Rattle.broom.specs.declared.answer.Drain.{Drain}
 use Rattle.broom.specs.declared.answer.Erase.TheVariants as erase
-use Rattle.broom.specs.declared.turns.Choice.{Choice}
+use Rattle.broom.specs.declared.answer.Erase.{Erase}
+use Rattle.broom.specs.Erasing.{EraseTold}
+use Rattle.broom.specs.Meeting.{BroomsMet}
+use Rattle.broom.specs.Dead.{DeadBySurvey, DeadTold, InspectedTold}
+use Rattle.broom.proofs.Loading.{loaded_changes}
+use Rattle.broom.specs.Loading.{StateLoaded}
+use Rattle.broom.specs.Told.{DrainTold, NextTold}
 use Rattle.broom.specs.declared.turns.Choice.TheVariants as choice
+use Rattle.broom.specs.declared.turns.Choice.{Choice}
 use Rattle.volume.specs.LeavesArray.{LeavesArray, sector_named}
+
+-- so it is ready again where it is at the device
+pub still_ready : (v : Volume) (before after : Broom) → IsBroomReady v before → HandsNothing before after → IsReady (flash_of v) after → IsBroomReady v after
+still_ready v before after was same ready = record { ready = ready; queued = still_queued (queue_of v) before after same was.queued }
 
 -- one more call leaves each sector that it doesn't name
 by_call : (n s : ℕ) (h : List Call) (c : Call) → ¬ (sector_named c ≡ s) → held n (h ++ c ∷ []) s ≡ held n h s

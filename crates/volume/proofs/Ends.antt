@@ -9,7 +9,7 @@ use Rattle.flash_table.specs.declared.{flash.Flash.Flash, pass.Pass.Pass, pass.O
 use Rattle.flash_table.specs.{Flash.view_of, Flash.geometry_of, Flash.device, Owning.owned_list, Owning.closed_list, GivingUp.closed_pass}
 use Rattle.host.specs.Ready.{IsReady}
 use Rattle.volume.specs.Closing.{AreAll, AreRead, AreFinal, HasLooked, HaveLooked, HasLeft, closed_blocks}
-use Rattle.volume.{specs.Gathering.MetEach, specs.Gathering.HasRead, proofs.Looks.looked-trans, proofs.Still.at_one}
+use Rattle.volume.{specs.Closing.MetEach, specs.Closing.HasRead, proofs.Looks.looked-trans, proofs.Still.at_one}
 
 -- a pass of the rest of a row, where it stands
 there : (ps : List Pass) (j : ℕ) (p d : Pass) → slice_get ps j ≡ Some p → get_or ps j d ≡ p

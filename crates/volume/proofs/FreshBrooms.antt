@@ -10,7 +10,7 @@ use Rattle.flash_table.specs.declared.{flash.Flash.Flash, broom_seat.BroomBlocks
 use Rattle.flash_table.specs.Flash.{IsBroomOf, broom_view, own_blocks, geometry_of, device, first_broom, first_blocks}
 use Rattle.broom.specs.{declared.broom.Broom.Broom, Handing.IsQueued, Handing.place_of, Handing.aside_of}
 use Rattle.broom.specs.Ready.{HasNoMarks, IsRested, IsReady, HasRoom, view_of_broom, blocks_of_broom}
-use Rattle.volume.specs.{Brooms.IsFresh, Opening.known_by_seat, Opening.known_by_broom}
+use Rattle.volume.specs.Volume.{IsFresh, known_by_seat, known_by_broom}
 
 -- a seat that has done nothing and has its spare alone
 pub rested : (f : Flash) (s : BroomSeat) (i : ℕ) → 0 < hosts_of (geometry_of f) → i < brooms_of (geometry_of f) → IsBroomOf f s

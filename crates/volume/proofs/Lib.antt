@@ -3,7 +3,5 @@ pub mod Sparing
 pub mod Still
 pub mod Answered
 pub mod Looks
-pub mod Sweeps
 pub mod Ends
-pub mod Queued
 pub mod ArrayLeft

@@ -5,7 +5,7 @@ ghost use Rattle.geometry.specs.{Geometry.sectors_of, Geometry.hosts_of, History
 ghost use Rattle.flash_table.specs.{declared.pass.Pass.Pass, Flash.view_of, Flash.geometry_of, Flash.device};
 ghost use Rattle.host.specs.Ready.{IsReady};
 ghost use Rattle.volume.specs.Closing.{array_of, sectors_left, last_view, AreAll, AreRead, IsFinal, HasLooked, HaveLooked, HasLeft};
-ghost use Rattle.volume.specs.{Gathering.IsFinalBy, Gathering.IsReadBy, Gathering.MetEach, Gathering.HasRead, Volume.flash_of};
+ghost use Rattle.volume.specs.{Closing.IsFinalBy, Closing.IsReadBy, Closing.MetEach, Closing.HasRead, Volume.flash_of};
 
 use crate::volume::Volume;
 use flash_table::{Flash, Pass, Retired};

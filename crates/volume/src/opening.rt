@@ -2,7 +2,7 @@
 ghost use Rattle.std.specs.{Prelude.◌≡◌, Prelude.All, Prelude.IfOk, Prelude.None, Prelude.length, Prelude.map, Vec.Iter.into_iter_items};
 ghost use Rattle.erase_queue.specs.Queue.{IsNewPass};
 ghost use Rattle.broom.specs.{Handing.aside_of, Ready.IsReady, Ready.IsRested};
-ghost use Rattle.volume.specs.{Brooms.IsFresh, Opening.known_by_seat, Opening.known_by_broom};
+ghost use Rattle.volume.specs.Volume.{IsFresh, known_by_seat, known_by_broom};
 
 use broom::{Broom, fold_new, fold_seat};
 use erase_queue::{EraseQueue, QueuePass};

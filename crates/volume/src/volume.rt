@@ -50,9 +50,8 @@ impl Volume {
     ghost use Rattle.host.specs.declared.writing_new.NewFault.TheVariants as fault;
     ghost use Rattle.host.specs.Holding.{Holds, Found, pass_of, page_of};
     ghost use Rattle.volume.specs.Correct.{Does, Read, Look, Write, WriteNew, Trim, Found as Got, IsWritten, Replaced};
-    ghost use Rattle.volume.specs.Brooms.{IsBroomReady, IsFresh, IsUnused};
+    ghost use Rattle.volume.specs.Volume.{IsBroomReady, IsFresh, IsUnused, flash_of, queue_of};
     ghost use Rattle.volume.specs.Undisturbed.{IsUndisturbed};
-    ghost use Rattle.volume.specs.Volume.{flash_of, queue_of};
 
     /// A device with every sector empty, its passes, pass t with number t, and its brooms, broom i with number i. `Err` means out of memory.
     pub fn open(
@@ -332,7 +331,7 @@ impl Volume {
     }
 
     /// Each of two brooms learns what the other has done and seen: the first makes one look, and then the second makes one. It changes no answer.
-    #[tactic(auto, using(crate::proofs::Queued::still_ready))]
+    #[tactic(auto, using(crate::proofs::ArrayLeft::still_ready))]
     pub fn meet_brooms(&self, first: &mut Broom, second: &mut Broom)
         requires first { IsBroomReady self.now first.old }
         requires second { IsBroomReady self.now second.old }
@@ -353,7 +352,7 @@ impl Volume {
     }
 
     /// A hold learns what a broom has done, and the broom what the hold's pass has seen. It changes no answer.
-    #[tactic(auto, using(crate::proofs::Queued::still_ready))]
+    #[tactic(auto, using(crate::proofs::ArrayLeft::still_ready))]
     pub fn stand(&self, held: Held, broom: &mut Broom) -> Held
         requires held { (value : List ℕ) × Holds (flash_of self.now) held value }
         requires broom { IsBroomReady self.now broom.old }
@@ -398,7 +397,7 @@ impl Volume {
 
     /// Surveys the device, claims the closed block with the fewest live pages, and moves these out of it. It calls its gate before the claim, and
     /// before each exchange of a map word.
-    #[tactic(auto, using(crate::proofs::Queued::still_ready))]
+    #[tactic(auto, using(crate::proofs::ArrayLeft::still_ready))]
     pub fn drain<G: Gate>(&self, broom: &mut Broom, gate: &mut G) -> Drain
         requires { IsBroomReady self.now broom.old }
         ensures drained { DrainTold broom.old result broom.new }
@@ -413,7 +412,7 @@ impl Volume {
 
     /// Claims the next block by the survey that the broom made last, and moves its live pages out of it: of the blocks that were closed then, and
     /// that the broom has neither drained nor loaded since, the one with the fewest live pages. It calls its gate where `drain` does.
-    #[tactic(auto, using(crate::proofs::Queued::still_ready))]
+    #[tactic(auto, using(crate::proofs::ArrayLeft::still_ready))]
     pub fn drain_next<G: Gate>(&self, broom: &mut Broom, gate: &mut G) -> Drain
         requires { IsBroomReady self.now broom.old }
         ensures drained_next { NextTold broom.old result broom.new }
@@ -427,7 +426,7 @@ impl Volume {
 
     /// Surveys the device, and drains the closed block with the fewest live pages if it has none. It needs no spare, and looks at each sector once
     /// more. It calls its gate before the claim. `NoSpare` means that the block has a live page, or isn't closed any more.
-    #[tactic(auto, using(crate::proofs::Queued::still_ready))]
+    #[tactic(auto, using(crate::proofs::ArrayLeft::still_ready))]
     pub fn drain_dead<G: Gate>(&self, broom: &mut Broom, gate: &mut G) -> Drain
         requires { IsBroomReady self.now broom.old }
         ensures drained_dead { DeadTold broom.old result broom.new }
@@ -440,7 +439,7 @@ impl Volume {
     }
 
     /// Erases a drained block that nobody reads. It calls its gate after it has loaded the block's state, before it condemns the block.
-    #[tactic(auto, using(crate::proofs::Queued::still_ready))]
+    #[tactic(auto, using(crate::proofs::ArrayLeft::still_ready))]
     pub fn erase<G: Gate>(&self, broom: &mut Broom, block: u32, gate: &mut G) -> Erase
         requires broom { IsBroomReady self.now broom.old }
         requires block { block < blocks_of (geometry_of (flash_of self.now)) }
@@ -454,7 +453,7 @@ impl Volume {
     }
 
     /// If a broom has no spare, makes the lowest free block its spare. Returns whether the broom has a spare now.
-    #[tactic(auto, using(crate::proofs::Queued::still_ready))]
+    #[tactic(auto, using(crate::proofs::ArrayLeft::still_ready))]
     pub fn restock(&self, broom: &mut Broom) -> bool
         requires { IsBroomReady self.now broom.old }
         ensures restocked { RestockTold broom.old result broom.new }
@@ -467,7 +466,7 @@ impl Volume {
     }
 
     /// Loads the state of a block. The broom keeps its last survey; only if the block's state is another one than there, its mark goes.
-    #[tactic(auto, using(crate::proofs::Queued::still_ready))]
+    #[tactic(auto, using(crate::proofs::ArrayLeft::still_ready))]
     pub fn load_state(&self, broom: &mut Broom, block: u32) -> PinWord
         requires broom { IsBroomReady self.now broom.old }
         requires block { block < blocks_of (geometry_of (flash_of self.now)) }
@@ -481,7 +480,7 @@ impl Volume {
     }
 
     /// Loads the state of each block, in order, and counts the blocks by their phases. The broom keeps its last survey, as by a single load.
-    #[tactic(auto, using(crate::proofs::Queued::still_ready))]
+    #[tactic(auto, using(crate::proofs::ArrayLeft::still_ready))]
     pub fn count_blocks(&self, broom: &mut Broom) -> BlockCounts
         requires { IsBroomReady self.now broom.old }
         ensures all_loaded { (states : List PinWord)

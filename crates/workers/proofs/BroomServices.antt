@@ -6,7 +6,7 @@ use Rattle.geometry.specs.{Geometry.brooms_of, declared.geometry.Geometry.Geomet
 use Rattle.flash_rule.specs.declared.view.View.{View}
 use Rattle.flash_table.specs.Flash.{device, first_broom, geometry_of}
 use Rattle.broom.specs.{declared.broom.Broom.Broom, Ready.folded_view, Ready.view_of_broom}
-use Rattle.volume.specs.{declared.volume.Volume.Volume, Brooms.IsUnused, Volume.flash_of}
+use Rattle.volume.specs.{declared.volume.Volume.Volume, Volume.IsUnused, Volume.flash_of}
 use Rattle.workers.specs.declared.collector.{Collector.Collector, tally.Tally.Tally, collector_end.CollectorEnd.CollectorEnd}
 use Rattle.workers.specs.{Collecting.HasCollected, Collecting.HaveCollected, Tallies.added, Tallies.total_of, Tallies.wrapped}
 use Rattle.workers.specs.{Folding.HasFolded, Folding.HaveFolded, Growing.GrowsBy, Growing.HasGrown}

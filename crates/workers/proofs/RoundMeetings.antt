@@ -7,7 +7,7 @@ use Rattle.geometry.specs.{Geometry.hosts_of, History.Begins}
 use Rattle.flash_rule.specs.{declared.view.View.View, Views.caller, Views.calls_of}
 use Rattle.flash_table.specs.{declared.pass.Pass.Pass, Flash.view_of, Flash.device, Flash.geometry_of, Flash.first_view}
 use Rattle.host.specs.{Ready.IsReady, Told.MetTold}
-use Rattle.volume.specs.{declared.volume.Volume.Volume, Gathering.MetEach, Closing.HasLooked, Volume.flash_of}
+use Rattle.volume.specs.{declared.volume.Volume.Volume, Closing.MetEach, Closing.HasLooked, Volume.flash_of}
 use Rattle.volume.proofs.Looks.{Meets, meets_next, looked-trans}
 use Rattle.workers.specs.declared.worker.Worker.{Worker}
 use Rattle.workers.specs.Meetings.{AreSeated, IsAt, PassesMet, Rest, passes_of, rest_of, views_of}

@@ -12,8 +12,7 @@ use Rattle.rounds.specs.Answers.{page_size_of, said_in, HasSpaceFor}
 use Rattle.rounds.specs.declared.answer_list.Answers.{Answers}
 use Rattle.workers.specs.Playable.{IsLine, lines_at}
 use Rattle.volume.specs.declared.volume.Volume.{Volume}
-use Rattle.volume.specs.Brooms.{IsBroomReady, IsBroomReady-prop, IsUnused}
-use Rattle.volume.specs.Volume.{flash_of}
+use Rattle.volume.specs.Volume.{IsBroomReady, IsBroomReady-prop, IsUnused, flash_of}
 
 -- passes and brooms that are ready at a device
 pub record AreReady (volume : Volume) (passes : List Pass) (brooms : List Broom) : Type 0 where

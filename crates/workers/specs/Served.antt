@@ -10,8 +10,7 @@ use Rattle.flash_table.specs.Flash.{geometry_of}
 use Rattle.broom.specs.declared.broom.Broom.{Broom}
 use Rattle.broom.specs.Ready.{folded_view}
 use Rattle.volume.specs.declared.volume.Volume.{Volume}
-use Rattle.volume.specs.Brooms.{IsUnused}
-use Rattle.volume.specs.Volume.{flash_of}
+use Rattle.volume.specs.Volume.{IsUnused, flash_of}
 use Rattle.workers.specs.declared.collector.Collector.{Collector}
 use Rattle.workers.specs.declared.collector.collector_end.CollectorEnd.{CollectorEnd}
 use Rattle.workers.specs.declared.collector.tally.Tally.{Tally}

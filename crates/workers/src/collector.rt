@@ -5,8 +5,7 @@ ghost use Rattle.erase_queue.specs.Queue.{limit_of};
 ghost use Rattle.flash_table.specs.GivingUp.{closed_broom};
 ghost use Rattle.broom.specs.Ready.{folded_place, folded_view, blocks_of_broom, view_of_broom};
 ghost use Rattle.broom.specs.Handing.{LeftAt};
-ghost use Rattle.volume.specs.Volume.{queue_of};
-ghost use Rattle.volume.specs.Brooms.{IsBroomReady, IsBroomReady-prop};
+ghost use Rattle.volume.specs.Volume.{queue_of, IsBroomReady, IsBroomReady-prop};
 
 pub(crate) mod broom_answer;
 pub(crate) mod broom_thread;

@@ -3,8 +3,7 @@ ghost use Rattle.std.specs.Arc.{arc_value};
 ghost use Rattle.host.specs.Holding.{Holds};
 ghost use Rattle.host.specs.Ready.{IsReady};
 ghost use Rattle.exports.specs.Holds.{held_value, Holds-prop};
-ghost use Rattle.volume.specs.Volume.{flash_of};
-ghost use Rattle.volume.specs.Brooms.{IsBroomReady, IsBroomReady-prop};
+ghost use Rattle.volume.specs.Volume.{flash_of, IsBroomReady, IsBroomReady-prop};
 ghost use Rattle.exports.specs.Tallies.{tally_of};
 ghost use Rattle.std.specs.Prelude.{◌≡◌};
 
@@ -31,8 +30,7 @@ impl Drop for Host {
 }
 
 impl Host {
-    ghost use Rattle.std.specs.Prelude.{◌≡◌};
-    ghost use Rattle.std.specs.Prelude.{Some};
+    ghost use Rattle.std.specs.Prelude.{◌≡◌, Some};
     ghost use Rattle.exports.specs.Holding.{HoldLeaves, hold_code};
     ghost use Rattle.exports.specs.Shared.{seen_of};
 

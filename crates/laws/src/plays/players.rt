@@ -14,7 +14,7 @@ ghost use Rattle.rounds.specs.declared.{answer.Answer.Answer, answer_list.Answer
 ghost use Rattle.rounds.specs.declared.answer.Kind.TheVariants as kind;
 ghost use Rattle.trace.specs.declared.commands.Command.{Command};
 ghost use Rattle.trace.specs.declared.commands.Op.TheVariants as op;
-ghost use Rattle.volume.specs.{Brooms.IsBroomReady, Volume.flash_of, declared.volume.Volume.Volume};
+ghost use Rattle.volume.specs.{Volume.IsBroomReady, Volume.flash_of, declared.volume.Volume.Volume};
 ghost use Rattle.workers.specs.{Able.IsAble, Commands.ArePlayed, Dealing.AreReady, Folding.HaveFolded, Tasks.HavePlayed, declared.worker.Worker.Worker};
 ghost use Rattle.workers.specs.Meetings.{AreSeated, IsAt, PassesMet, passes_of, rest_of};
 ghost use Rattle.workers.specs.Playable.{HasAnswered, HasPage, HasPlayedLines, IsLine, added, lines_at, no_line};

@@ -3,8 +3,7 @@ ghost use Rattle.std.specs.Prelude.{All};
 ghost use Rattle.answers.specs.Playable.{IsPlayable};
 ghost use Rattle.flash_table.specs.Flash.{geometry_of};
 ghost use Rattle.host.specs.Ready.{IsReady};
-ghost use Rattle.volume.specs.Brooms.{IsBroomReady, IsBroomReady-prop};
-ghost use Rattle.volume.specs.Volume.{flash_of};
+ghost use Rattle.volume.specs.Volume.{IsBroomReady, IsBroomReady-prop, flash_of};
 
 use super::assertions::expect;
 use super::opening::{only_broom, only_pass};

@@ -1,8 +1,7 @@
 //! Makes actors from the passes and brooms of a device, and takes them apart again.
 ghost use Rattle.std.specs.Prelude.{◌≡◌, ◌-◌, All, length};
 ghost use Rattle.host.specs.Ready.{IsReady};
-ghost use Rattle.volume.specs.Brooms.{IsBroomReady};
-ghost use Rattle.volume.specs.Volume.{flash_of};
+ghost use Rattle.volume.specs.Volume.{IsBroomReady, flash_of};
 ghost use Rattle.shared_acceptance.specs.Kept.{IsHome};
 
 use crate::actors::idle_actors::IdleActors;

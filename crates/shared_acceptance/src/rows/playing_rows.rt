@@ -1,8 +1,7 @@
 //! Plays a row on a device of its own, which is closed at the end.
 ghost use Rattle.std.specs.Prelude.{◌≤◌, All, length};
 ghost use Rattle.host.specs.Ready.{IsReady};
-ghost use Rattle.volume.specs.Brooms.{IsBroomReady};
-ghost use Rattle.volume.specs.Volume.{flash_of};
+ghost use Rattle.volume.specs.Volume.{IsBroomReady, flash_of};
 ghost use Rattle.shared_acceptance.specs.Kept.{IsHome};
 
 use crate::actors::Home;

@@ -4,8 +4,7 @@ ghost use Rattle.std.specs.Prelude.{◌≡◌, ◌<◌, All, IfOk, length};
 ghost use Rattle.geometry.specs.Geometry.{hosts_of};
 ghost use Rattle.flash_table.specs.Flash.{geometry_of};
 ghost use Rattle.host.specs.Ready.{IsReady};
-ghost use Rattle.volume.specs.Brooms.{IsBroomReady};
-ghost use Rattle.volume.specs.Volume.{flash_of};
+ghost use Rattle.volume.specs.Volume.{IsBroomReady, flash_of};
 
 use crate::actors::calls::{WORDS, hold, page};
 use broom::Broom;

@@ -1,8 +1,7 @@
 //! A read pins a block after an erase has loaded its state and before the erase condemns it, in two threads.
 ghost use Rattle.std.specs.Prelude.{All, ◌≡◌, length};
 ghost use Rattle.host.specs.Ready.{IsReady};
-ghost use Rattle.volume.specs.Brooms.{IsBroomReady};
-ghost use Rattle.volume.specs.Volume.{flash_of};
+ghost use Rattle.volume.specs.Volume.{IsBroomReady, flash_of};
 ghost use Rattle.shared_acceptance.specs.Kept.{IsHome};
 
 use crate::actors::actor_setup::{fold, give_back, next_broom, next_host};

@@ -1,6 +1,6 @@
 use Rattle.std.proofs.Common.{Some}
 use Rattle.std.proofs.lemmas.List.Elements.{All-pop}
-use Rattle.volume.specs.Brooms.{IsBroomReady}
+use Rattle.volume.specs.Volume.{IsBroomReady}
 use Rattle.two_threads.proofs.sweeper.Goals as goal
 
 pub invariant_of-result : goal.invariant_of-result

@@ -4,7 +4,7 @@ ghost use Rattle.std.specs.Arc.{arc_value};
 ghost use Rattle.geometry.specs.Geometry.{hosts_of};
 ghost use Rattle.flash_table.specs.Flash.{view_of, geometry_of};
 ghost use Rattle.host.specs.Told.{MetTold};
-ghost use Rattle.volume.specs.Gathering.{MetEach};
+ghost use Rattle.volume.specs.Closing.{MetEach};
 ghost use Rattle.volume.specs.Volume.{flash_of};
 ghost use Rattle.workers.specs.Meetings.{AreSeated, IsAt, PassesMet, passes_of, rest_of};
 

@@ -3,8 +3,7 @@ use Rattle.broom.specs.declared.broom.Broom.{Broom}
 use Rattle.broom.specs.Ready.{blocks_of_broom, view_of_broom}
 use Rattle.flash_table.specs.Flash.{view_of}
 use Rattle.flash_table.specs.declared.pass.Pass.{Pass}
-use Rattle.volume.specs.Brooms.{IsFresh}
-use Rattle.volume.specs.Volume.{flash_of, queue_of}
+use Rattle.volume.specs.Volume.{IsFresh, flash_of, queue_of}
 use Rattle.volume.specs.declared.volume.Volume.{Volume}
 use Rattle.exports.specs.declared.handle.seat.Host.{Host}
 use Rattle.exports.specs.declared.handle.seat.Seat.{Seat}

@@ -1,5 +1,5 @@
 use Rattle.std.proofs.{Common.Some, lemmas.List.Elements.All-pop}
-use Rattle.volume.specs.Brooms.{IsBroomReady}
+use Rattle.volume.specs.Volume.{IsBroomReady}
 use Rattle.shared_acceptance.proofs.opening.last_broom.Goals as goal
 
 pub returns-clause-others : goal.returns-clause-others

@@ -3,7 +3,7 @@ use Rattle.std.specs.Option.{option_map}
 use Rattle.geometry.specs.{Sectors.Sector, Geometry.sectors_of}
 use Rattle.flash_table.specs.Flash.{view_of, geometry_of}
 use Rattle.volume.{specs.Closing.array_of, proofs.Looks.looked-refl}
-use Rattle.volume.proofs.Sweeps.{Sweeps, sweep_begins, sweeps_next, one_more}
+use Rattle.volume.proofs.Looks.{Sweeps, sweep_begins, sweeps_next, one_more}
 use Rattle.volume.proofs.closing.read_all.Goals as goal
 
 pub returns-in_err-sectors-clause-looked : goal.returns-in_err-sectors-clause-looked

@@ -1,7 +1,7 @@
 use Rattle.std.proofs.Common.{◌≤◌, vec_capacity}
 use Rattle.geometry.specs.Geometry.{sectors_of}
 use Rattle.flash_table.specs.Flash.{geometry_of}
-use Rattle.volume.{specs.Closing.array_of, proofs.Sweeps.Sweeps}
+use Rattle.volume.{specs.Closing.array_of, proofs.Looks.Sweeps}
 use Rattle.volume.proofs.closing.read_all.Given as goal
 
 abbrev pub invariant-loop-sector : goal.invariant-loop-sector

@@ -2,7 +2,7 @@ use Rattle.std.proofs.{Common.◌≡◌, Common.None, Common.length, Common.sym,
 use Rattle.std.{proofs.lemmas.List.Elements.All-weaker, specs.Vec.Iter.into_iter_items}
 use Rattle.flash_table.specs.declared.broom_seat.BroomSeat.{BroomSeat}
 use Rattle.broom.specs.{declared.broom.Broom.Broom, Handing.aside_of, Ready.IsReady, Ready.IsRested}
-use Rattle.volume.{specs.Brooms.IsFresh, proofs.FreshBrooms.taken, proofs.FreshBrooms.one_made}
+use Rattle.volume.{specs.Volume.IsFresh, proofs.FreshBrooms.taken, proofs.FreshBrooms.one_made}
 use Rattle.volume.proofs.opening.make_brooms.Goals as goal
 
 pub loop-seat-preserved : goal.loop-seat-preserved

@@ -1,5 +1,5 @@
 use Rattle.std.proofs.Common.{All}
-use Rattle.volume.specs.Brooms.{IsBroomReady}
+use Rattle.volume.specs.Volume.{IsBroomReady}
 use Rattle.exports.proofs.shared.opening.retire_brooms.Given as goal
 
 abbrev pub invariant-loop-broom : goal.invariant-loop-broom

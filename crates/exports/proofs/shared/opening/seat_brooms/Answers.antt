@@ -1,7 +1,7 @@
 use Rattle.std.proofs.Common.{◌∙◌, All, refl, subst, sym}
 use Rattle.volume.specs.declared.volume.Volume.{Volume}
 use Rattle.std.specs.Arc.{arc_value}
-use Rattle.volume.specs.Brooms.{IsBroomReady}
+use Rattle.volume.specs.Volume.{IsBroomReady}
 use Rattle.exports.specs.Opening.{IsFirstBroom, IsFreshBroom}
 use Rattle.exports.proofs.DealtSeats.{taken_ready, taken_first, deal_goes_on}
 use Rattle.exports.proofs.shared.opening.seat_brooms.Goals as goal

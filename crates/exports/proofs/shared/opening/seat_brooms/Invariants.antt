@@ -1,6 +1,6 @@
 use Rattle.std.proofs.Common.{length}
 use Rattle.std.specs.Arc.{arc_value}
-use Rattle.volume.specs.Brooms.{IsBroomReady}
+use Rattle.volume.specs.Volume.{IsBroomReady}
 use Rattle.exports.specs.Opening.{IsFirstBroom, IsFreshBroom}
 use Rattle.exports.proofs.DealtSeats.{DealsOn}
 use Rattle.exports.proofs.shared.opening.seat_brooms.Given as goal

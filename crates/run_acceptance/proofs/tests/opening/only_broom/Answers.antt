@@ -1,6 +1,6 @@
 use Rattle.std.proofs.Common.{Some}
 use Rattle.std.proofs.lemmas.List.Elements.{All-pop}
-use Rattle.volume.specs.Brooms.{IsBroomReady}
+use Rattle.volume.specs.Volume.{IsBroomReady}
 use Rattle.run_acceptance.proofs.tests.opening.only_broom.Goals as goal
 
 pub returns : goal.returns

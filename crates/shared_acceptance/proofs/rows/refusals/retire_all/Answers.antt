@@ -1,5 +1,5 @@
 use Rattle.std.proofs.{Common.Some, lemmas.List.Elements.All-pop}
-use Rattle.volume.specs.Brooms.{IsBroomReady}
+use Rattle.volume.specs.Volume.{IsBroomReady}
 use Rattle.shared_acceptance.proofs.rows.refusals.retire_all.Goals as goal
 
 pub retire_broom-requires : goal.retire_broom-requires

@@ -1,5 +1,5 @@
 use Rattle.std.proofs.Common.{All}
-use Rattle.volume.specs.Brooms.{IsBroomReady}
+use Rattle.volume.specs.Volume.{IsBroomReady}
 use Rattle.shared_acceptance.proofs.rows.refusals.retire_all.Given as goal
 
 abbrev pub invariant-loop-broom : goal.invariant-loop-broom

@@ -5,7 +5,7 @@ use Rattle.geometry.specs.{Geometry.hosts_of, declared.geometry.Geometry.Geometr
 use Rattle.flash_table.specs.{declared.pass.Pass.Pass, Flash.view_of, Flash.device, Flash.geometry_of, Flash.first_view}
 use Rattle.broom.specs.declared.broom.Broom.{Broom}
 use Rattle.trace.specs.declared.commands.Command.{Command}
-use Rattle.volume.specs.{declared.volume.Volume.Volume, Volume.flash_of, Brooms.IsBroomReady, Brooms.IsUnused}
+use Rattle.volume.specs.{declared.volume.Volume.Volume, Volume.flash_of, Volume.IsBroomReady, Volume.IsUnused}
 use Rattle.rounds.specs.Plans.{ends_of}
 use Rattle.workers.specs.{Meetings.IsAt, Runs.AreManned, Runs.HasBegun, Served.AreAtRunStart, Served.HasCountedNone}
 use Rattle.workers.specs.Shares.{HasFitShare, IsOwner, with_commands, work_in}

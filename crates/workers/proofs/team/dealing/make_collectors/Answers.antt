@@ -1,6 +1,6 @@
 use Rattle.std.proofs.{Common.length, Common.refl, Common.sym, Common.ap, Common.subst, Common.arith}
 use Rattle.broom.specs.declared.broom.Broom.{Broom}
-use Rattle.volume.specs.{declared.volume.Volume.Volume, Brooms.IsBroomReady}
+use Rattle.volume.specs.{declared.volume.Volume.Volume, Volume.IsBroomReady}
 use Rattle.volume.proofs.FreshBrooms.{taken}
 use Rattle.workers.specs.{Served.HasCountedNone, Served.broom_of, Shares.IsOwner}
 use Rattle.workers.proofs.DealtRows.{moved_in, pushed_all}

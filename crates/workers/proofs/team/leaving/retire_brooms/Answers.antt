@@ -1,5 +1,5 @@
 use Rattle.std.specs.Vec.Iter.{into_iter_items}
-use Rattle.volume.specs.Brooms.{IsBroomReady}
+use Rattle.volume.specs.Volume.{IsBroomReady}
 use Rattle.volume.proofs.FreshBrooms.{taken}
 use Rattle.workers.proofs.team.leaving.retire_brooms.Goals as goal
 

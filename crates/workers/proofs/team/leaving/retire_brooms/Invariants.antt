@@ -1,6 +1,6 @@
 use Rattle.std.proofs.Common.{All, length}
 use Rattle.std.specs.Vec.Iter.{into_iter_items}
-use Rattle.volume.specs.Brooms.{IsBroomReady}
+use Rattle.volume.specs.Volume.{IsBroomReady}
 use Rattle.workers.proofs.team.leaving.retire_brooms.Given as goal
 
 abbrev pub invariant-loop-broom : goal.invariant-loop-broom
