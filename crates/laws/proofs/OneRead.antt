@@ -6,7 +6,7 @@ use Rattle.trace.specs.declared.commands.Command.{Command}
 use Rattle.trace.specs.declared.commands.Op.TheVariants as op
 use Rattle.rounds.specs.declared.answer.Kind.TheVariants as kind
 use Rattle.rounds.specs.{Lines.Said, Orders.made, Orders.lines_of, Orders.Plays as PlaysLines, Told.worker_of, Told.sector_of, Told.calls_in, Told.is_right}
-use Rattle.rounds.specs.{Merging.lines_for, Merging.merge, Playing.Plays, Playing.calls_done, Rows.AreAtOneHistory, Rows.RoundAnswered}
+use Rattle.rounds.specs.{Merging.lines_for, Merging.merge, Playing.Plays, Playing.calls_done, Merging.AreAtOneHistory, Merging.RoundAnswered}
 use Rattle.laws.specs.Rounds.{plain_line, rows_with, says}
 
 abbrev commands : List Command

@@ -6,7 +6,7 @@ use native.Mathlib.Decide.{ℕ_discrete}
 use Rattle.geometry.specs.History.{Call, Write, held}
 use Rattle.flash_rule.specs.Views.{caller, calls_of}
 use Rattle.rounds.specs.declared.answer.Kind.TheVariants as kind
-use Rattle.rounds.specs.{Lines.IsFound, Rows.AreAtOneHistory}
+use Rattle.rounds.specs.{Lines.IsFound, Merging.AreAtOneHistory}
 use Rattle.laws.{specs.Rounds.nothing_read, specs.Rounds.write_and_reads, proofs.ThreeLines.one_read}
 
 zero_or_one : (k : ℕ) → k < 2 → (k ≡ 0) ⊎ (k ≡ 1)

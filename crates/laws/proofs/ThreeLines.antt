@@ -3,7 +3,7 @@ use Rattle.std.proofs.Common.{◌≡◌, ◌⊎◌, inl, inr, ⊎_elim, ℕ, zer
 use Rattle.std.proofs.lemmas.Bool.{false≢true, cases_Bool}
 use Rattle.answers.specs.Answers.{answers}
 use Rattle.trace.specs.declared.commands.Op.TheVariants as op
-use Rattle.rounds.specs.{Merging.AreDisjointCommands, Texts.IsTextOfSome}
+use Rattle.rounds.specs.{Merging.AreDisjointCommands, Told.IsTextOfSome}
 use Rattle.laws.specs.Rounds.{all_done, plain_line, three_lines, write_turned_away}
 
 -- a round of one read

@@ -2,7 +2,7 @@
 use Rattle.std.specs.Prelude.{ℕ, zero, suc, List, [], ◌∷◌}
 use Rattle.trace.specs.declared.commands.{Command.Command, Op.Op}
 use Rattle.trace.specs.declared.commands.Op.TheVariants as op
-use Rattle.rounds.specs.{declared.answer.Kind.Kind, Lines.Said, Texts.lines_text, Told.Line, Told.line, Told.told}
+use Rattle.rounds.specs.{declared.answer.Kind.Kind, Lines.Said, Told.lines_text, Told.Line, Told.line, Told.told}
 use Rattle.rounds.specs.declared.answer.Kind.TheVariants as kind
 
 -- a line of a worker without a page

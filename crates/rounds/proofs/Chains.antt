@@ -6,9 +6,9 @@ use Rattle.std.proofs.lemmas.List.Elements.{All-head, All-tail, All-nil, All-con
 use Rattle.geometry.specs.History.{Call}
 use Rattle.flash_rule.specs.declared.view.View.{View}
 use Rattle.trace.specs.declared.commands.Command.{Command}
-use Rattle.rounds.specs.{Lines.Said, Rounds.AreInRange, Rounds.PlayedRound, Rows.RoundAnswered, Rows.AreRounds, Runs.RoundsGoOn}
+use Rattle.rounds.specs.{Lines.Said, Rounds.AreInRange, Rounds.PlayedRound, Merging.RoundAnswered, Merging.AreRounds, Runs.RoundsGoOn}
 use Rattle.rounds.specs.{Orders.made, Orders.InOrder, Orders.LeaveSame, Told.worker_of, Told.sector_of, Told.calls_in, Told.is_right, Told.AreAnswered}
-use Rattle.rounds.{specs.Meetings.AreTied, specs.Meetings.HavePlayed, specs.Meetings.HaveMet, proofs.Runs.run_begins, proofs.Runs.meeting_goes_on}
+use Rattle.rounds.{specs.Rounds.AreTied, specs.Rounds.HavePlayed, specs.Rounds.HaveMet, proofs.Runs.run_begins, proofs.Runs.meeting_goes_on}
 use Rattle.rounds.specs.Merging.{is_meet, is_line_of, lines_for, line_count, merge, rows_after, rounds_of, AreSameFor, HaveNoMeeting, AreDisjointCommands}
 use Rattle.rounds.proofs.{Meetings.round_between, Sequential.sequential, Sequential.leaves_same, AnsweredLines.answered_more}
 use Rattle.rounds.proofs.{AnsweredLines.callers_in, AnsweredLines.targets_in}

@@ -1,7 +1,6 @@
 pub mod Content
 pub mod Playing
 pub mod Sequential
-pub mod Orders
 pub mod Meetings
 pub mod AnsweredLines
 pub mod Texts
@@ -10,4 +9,3 @@ pub mod Runs
 pub mod Chains
 pub mod Planning
 pub mod Pages
-pub mod Spaces

@@ -2,7 +2,7 @@
 use Rattle.std.proofs.Common.{◌≡◌, ℕ, ◌<◌, List, ◌++◌, sym, ap, ◌∙◌}
 use Rattle.geometry.{specs.History.Call, specs.Sectors.Sector, proofs.Histories.Begins-trans}
 use Rattle.flash_rule.{specs.declared.view.View.View, specs.Views.calls_of, proofs.Histories.squeezed}
-use Rattle.rounds.specs.{Orders.made, Orders.lines_of, Rounds.PlayedRound, Meetings.AreTied, Meetings.HavePlayed, Meetings.HaveMet}
+use Rattle.rounds.specs.{Orders.made, Orders.lines_of, Rounds.PlayedRound, Rounds.AreTied, Rounds.HavePlayed, Rounds.HaveMet}
 use Rattle.rounds.proofs.Playing.{plays_later, plays_from}
 
 -- in the history of the meetings each pass has made what it has made at their end

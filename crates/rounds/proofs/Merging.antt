@@ -7,7 +7,7 @@ use mathlib.Core.Logic.{dite}
 use native.Mathlib.Decide.{ℕ_discrete}
 use Rattle.trace.specs.declared.commands.{Command.Command, Op.Op}
 use Rattle.trace.specs.declared.commands.Op.TheVariants as op
-use Rattle.rounds.specs.{Lines.Said, Lines.calls_by, Lines.is_full, Orders.lines_of, Rounds.AreDisjoint, Rounds.AreInRange, Texts.commands_in}
+use Rattle.rounds.specs.{Lines.Said, Lines.calls_by, Lines.is_full, Orders.lines_of, Rounds.AreDisjoint, Rounds.AreInRange, Told.commands_in}
 use Rattle.rounds.specs.Told.{Line, worker_of, sector_of, calls_in, line, told}
 use Rattle.rounds.specs.Merging.{is_meet, changes, is_line_of, lines_for, line_count, answer_for, next_of, after_line, merge, rows_after, AreSameFor}
 use Rattle.rounds.specs.Merging.{HaveNoMeeting, AreDisjointCommands, in_first_round, rounds_of}

@@ -1,9 +1,18 @@
--- Pages side by side: one more, and the one of an answer.
-use Rattle.std.proofs.Common.{◌≡◌, ℕ, zero, suc, ◌+◌, ◌≤◌, All, List, [], ◌∷◌, ◌++◌, Some, length, take, drop, refl, ap, ◌∙◌, subst, arith}
+-- Pages side by side: one more, and the one of an answer; the room for the answers of lines in two parts.
+use Rattle.std.proofs.Common.{◌≡◌, ℕ, ◌+◌, List, [], ◌∷◌, ◌++◌, arith, zero, suc, ◌≤◌, All, Some, length, take, drop, refl, ap, ◌∙◌, subst}
+use Rattle.trace.specs.declared.commands.Command.{Command}
+use Rattle.rounds.specs.Answers.{space_of}
 use Rattle.std.specs.Prelude.{slice_get}
-use Rattle.std.proofs.lemmas.List.{drop-append-le, drop-drop, length-drop, length-take-le, take-append-le, Elements.All-nil, Elements.All-cons}
-use Rattle.rounds.specs.{Lines.Said, Pages.bytes_of, Pages.bytes_in, Pages.said_from, declared.answer.Kind.Kind}
+use Rattle.std.proofs.lemmas.List.{drop-append-le, drop-drop, length-drop, length-take-le, take-append-le}
+use Rattle.std.proofs.lemmas.List.Elements.{All-nil, All-cons}
+use Rattle.rounds.specs.Lines.{Said}
+use Rattle.rounds.specs.Pages.{bytes_of, bytes_in, said_from}
 use Rattle.rounds.specs.declared.answer.Kind.TheVariants as kind
+use Rattle.rounds.specs.declared.answer.Kind.{Kind}
+
+pub space_of-append : (n : ℕ) (xs ys : List Command) → space_of n (xs ++ ys) ≡ space_of n xs + space_of n ys
+space_of-append n [] ys = omega arith
+space_of-append n (c ∷ xs) ys = let rest = space_of-append n xs ys in omega (arith, rest)
 
 pub no_bytes : (n : ℕ) (k : Kind) → ¬ (k ≡ kind.Page) → bytes_of n k ≡ 0
 no_bytes n kind.Page other = absurd (other refl)

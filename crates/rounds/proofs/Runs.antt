@@ -5,7 +5,7 @@ use Rattle.geometry.specs.History.{Call, after}
 use Rattle.trace.specs.declared.commands.Op.{Op}
 use Rattle.trace.specs.declared.commands.Op.TheVariants as op
 use Rattle.rounds.specs.{Orders.InOrder, Orders.LeaveSame, Told.Line, Told.sector_of, Told.calls_in, Told.is_right, Told.AreAnswered, Told.RoundOf}
-use Rattle.rounds.specs.{Texts.IsTextOfSome, Texts.lines_text, Runs.RunBegins, Runs.RunGoesOn, Runs.MeetingGoesOn, Runs.RunIsText}
+use Rattle.rounds.specs.{Told.IsTextOfSome, Told.lines_text, Runs.RunBegins, Runs.RunGoesOn, Runs.MeetingGoesOn, Runs.RunIsText}
 use Rattle.rounds.specs.Merging.{is_meet, answer_for, merge, rows_after, AreDisjointCommands}
 use Rattle.rounds.proofs.{AnsweredLines.rounds_are_in_order, AnsweredLines.answered_more, Texts.order_is_text}
 use Rattle.rounds.proofs.Merging.{commands_in-merge, merge-append, merge_same, disjoint_lines, lines_in_range}

@@ -1,16 +1,41 @@
--- A round of lines at disjoint sectors: each line's answer is the one that it has where the lines are done one after another, and the array is the
--- same at the end.
-use Rattle.std.proofs.Common.{◌≡◌, ℕ, ◌<◌, ◌⊎◌, inl, inr, ⊎_elim, All, List, [], ◌∷◌, ◌++◌, None, true, eq-eqb, ne_eqb, length, refl, sym, ap, ◌∙◌, arith}
-use Rattle.std.{proofs.Common.subst, proofs.Common.append_assoc, proofs.Common.append-nil, specs.Prelude.◌==◌}
-use Rattle.std.proofs.lemmas.{List.append_cancel_left, List.ext_get_or, List.Concat.flat_map-append, Bool.eqb-true}
+-- Lines in order, one after the other, and over another history that leaves the same array. A round of lines at disjoint sectors: each line's answer
+-- is the one that it has where the lines are done one after another, and so is the array.
+use Rattle.std.proofs.Common.{ℕ, List, [], ◌∷◌, ◌++◌, sym, ap, ◌∙◌, subst, append_assoc, append-nil, ◌≡◌, ◌<◌, ◌⊎◌, inl, inr, ⊎_elim, All, None, true, eq-eqb}
+use Rattle.std.proofs.Common.{ne_eqb, length, refl, arith}
+use Rattle.std.specs.List.{fold}
+use Rattle.std.proofs.lemmas.List.Sums.{fold-append}
+use Rattle.geometry.specs.History.{Call, step, after, held}
+use Rattle.geometry.specs.Sectors.{Sector, sector_at}
+use Rattle.rounds.specs.Orders.{made, InOrder, LeaveSame, lines_of, Plays}
+use Rattle.std.specs.Prelude.{◌==◌}
+use Rattle.std.proofs.lemmas.List.{append_cancel_left, ext_get_or}
+use Rattle.std.proofs.lemmas.List.Concat.{flat_map-append}
+use Rattle.std.proofs.lemmas.Bool.{eqb-true}
 use Rattle.std.proofs.lemmas.List.Elements.{All-head, All-tail, All-nil, All-cons, All-append, All-filter, All-weaker, filter-append, filter_passes}
 use mathlib.Core.Logic.{dite}
 use native.Mathlib.Decide.{ℕ_discrete}
-use Rattle.geometry.{specs.History.Call, specs.History.after, specs.History.held, specs.Sectors.Sector, proofs.Histories.length-after}
-use Rattle.flash_rule.{specs.Views.caller, specs.Views.calls_of, proofs.Histories.calls_of-append, proofs.Histories.rest_callers}
-use Rattle.rounds.specs.Orders.{made, lines_of, Plays, InOrder, LeaveSame}
+use Rattle.geometry.proofs.Histories.{length-after}
+use Rattle.flash_rule.specs.Views.{caller, calls_of}
+use Rattle.flash_rule.proofs.Histories.{calls_of-append, rest_callers}
 use Rattle.rounds.specs.Rounds.{AreDisjoint, AreInRange, PlayedRound}
-use Rattle.rounds.proofs.{Content.target, Content.content, Content.held-append, Content.AreBy, Content.content_own, Playing.calls_of-made, Playing.at_line}
+use Rattle.rounds.proofs.Content.{target, content, held-append, AreBy, content_own}
+use Rattle.rounds.proofs.Playing.{calls_of-made, at_line}
+
+-- two histories that leave the same array do so after more calls
+pub same-append : (n : ℕ) (h k more : List Call) → LeaveSame n h k → LeaveSame n (h ++ more) (k ++ more)
+same-append n h k more same = fold-append step (after n []) h more ∙ (ap (λ a. fold step a more) same ∙ sym (fold-append step (after n []) k more))
+
+module _ {X : Type 0} (sector : X → ℕ) (calls : X → List Call) (right : X → Sector → Type 0) (n : ℕ) where
+  pub in_order_same : (h k : List Call) (xs : List X) → LeaveSame n h k → InOrder sector calls right n h xs → InOrder sector calls right n k xs
+  in_order_same h k [] same o = tt
+  in_order_same h k (x ∷ xs) same (here, rest) =
+      (subst (λ a. right x (sector_at a (sector x))) same here, in_order_same (h ++ calls x) (k ++ calls x) xs (same-append n h k (calls x) same) rest)
+
+  pub in_order_append : (h : List Call) (xs ys : List X) → InOrder sector calls right n h xs → InOrder sector calls right n (h ++ made calls xs) ys
+      → InOrder sector calls right n h (xs ++ ys)
+  in_order_append h [] ys o p = subst (λ k. InOrder sector calls right n k ys) (append-nil h) p
+  in_order_append h (x ∷ xs) ys (here, rest) p =
+      (here, in_order_append (h ++ calls x) xs ys rest (subst (λ k. InOrder sector calls right n k ys) (sym (append_assoc h (calls x) (made calls xs))) p))
 
 -- all of the first part of a list, and of the second
 All-first : {X : Type 0} (P : X → Type 0) (xs ys : List X) → All P (xs ++ ys) → All P xs

@@ -9,7 +9,7 @@ use Rattle.trace.specs.declared.commands.Op.TheVariants as op
 use Rattle.answers.specs.Answers.{answer_of, calls_of, history_before, lines_before, line_text}
 use Rattle.answers.proofs.Texts.{array_more, lines_more}
 use Rattle.rounds.specs.{declared.answer.Kind.Kind, Lines.calls_by, Lines.is_full, Lines.IsRight, Told.Line, Told.sector_of, Told.calls_in, Told.is_right}
-use Rattle.rounds.specs.{Orders.InOrder, Orders.LeaveSame, Texts.answer_text, Texts.lines_text, Texts.commands_in, Texts.refused_in, Texts.OrderIsText}
+use Rattle.rounds.specs.{Orders.InOrder, Orders.LeaveSame, Told.answer_text, Told.lines_text, Told.commands_in, Told.refused_in, Told.OrderIsText}
 use Rattle.rounds.specs.declared.answer.Kind.TheVariants as kind
 
 -- a right answer is the text that the array gives

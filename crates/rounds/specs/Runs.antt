@@ -3,7 +3,7 @@ use Rattle.std.specs.Prelude.{◌≡◌, ℕ, ◌<◌, All, true, List, [], ◌�
 use Rattle.geometry.specs.History.{Call}
 use Rattle.flash_rule.specs.declared.view.View.{View}
 use Rattle.trace.specs.declared.commands.Command.{Command}
-use Rattle.rounds.specs.{Lines.Said, Meetings.AreTied, Meetings.HavePlayed, Meetings.HaveMet, Texts.lines_text, Texts.IsTextOfSome, Rows.AreRounds}
+use Rattle.rounds.specs.{Lines.Said, Rounds.AreTied, Rounds.HavePlayed, Rounds.HaveMet, Told.lines_text, Told.IsTextOfSome, Merging.AreRounds}
 use Rattle.rounds.specs.Told.{worker_of, sector_of, calls_in, is_right, AreAnswered}
 use Rattle.rounds.specs.Merging.{is_meet, merge, rows_after, rounds_of, AreSameFor, AreDisjointCommands, IsDisjointTrace}
 

@@ -1,4 +1,4 @@
-ghost use Rattle.rounds.specs.{Told.RoundsAreInOrder, Texts.OrderIsText, Runs.RunBegins, Runs.RunGoesOn, Runs.MeetingGoesOn, Runs.RoundsGoOn, Runs.RunIsText};
+ghost use Rattle.rounds.specs.{Told.RoundsAreInOrder, Told.OrderIsText, Runs.RunBegins, Runs.RunGoesOn, Runs.MeetingGoesOn, Runs.RoundsGoOn, Runs.RunIsText};
 
 /// Lines that workers play concurrently, at disjoint sectors, are answered as if played one after another.
 pub fn rounds_are_answered_in_order()

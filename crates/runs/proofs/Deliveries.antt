@@ -6,7 +6,7 @@ use Rattle.geometry.specs.History.{Begins}
 use Rattle.trace.specs.declared.commands.Command.{Command}
 use Rattle.answers.specs.{Answers.end_text, Answers.line_text, Delivery.IsUnderWay}
 use Rattle.answers.proofs.Deliveries.{IsUnderWay-more, IsUnderWay-trans}
-use Rattle.rounds.specs.{Lines.Said, Told.Line, Texts.answer_text, Texts.lines_text, Merging.answer_for, Merging.merge, Merging.next_of, Merging.rows_after}
+use Rattle.rounds.specs.{Lines.Said, Told.Line, Told.answer_text, Told.lines_text, Merging.answer_for, Merging.merge, Merging.next_of, Merging.rows_after}
 use Rattle.rounds.proofs.{Merging.commands_in-merge, Merging.merge-append, Planning.commands_more}
 use Rattle.runs.specs.Delivering.{text_of}
 

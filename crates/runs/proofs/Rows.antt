@@ -8,7 +8,7 @@ use Rattle.std.proofs.Math.Seq.{take-append_seam}
 use mathlib.Core.Logic.{dite}
 use native.Mathlib.Decide.{ℕ_discrete}
 use Rattle.trace.specs.declared.commands.Command.{Command}
-use Rattle.rounds.specs.{Lines.Said, Rows.answers_by, Answers.first_place, Answers.page_size_of, Answers.answer_index, Answers.said_in, Answers.IsCursorOf}
+use Rattle.rounds.specs.{Lines.Said, Merging.answers_by, Answers.first_place, Answers.page_size_of, Answers.answer_index, Answers.said_in, Answers.IsCursorOf}
 use Rattle.rounds.specs.Merging.{is_meet, is_line_of, line_count, lines_for, next_of, rows_after, HaveAnswers}
 use Rattle.rounds.proofs.{Merging.own_line, Planning.at_place, Planning.commands_more, Pages.said_whole}
 use Rattle.rounds.specs.declared.answer_list.{Answers.Answers, Cursor.Cursor}

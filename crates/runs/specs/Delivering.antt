@@ -4,7 +4,7 @@ use Rattle.std.specs.Prelude.{◌≡◌, ℕ, ◌+◌, ◌*◌, ◌<◌, List, �
 use Rattle.trace.specs.declared.commands.Command.{Command}
 use Rattle.answers.specs.{Answers.end_text, Answers.line_text, Lines.page_digits_of}
 use Rattle.rounds.specs.{Lines.Said, Answers.answer_index, Answers.IsCursorOf, declared.answer.Kind.Kind, declared.answer_list.Answers.Answers}
-use Rattle.rounds.specs.{declared.answer_list.Cursor.Cursor, Merging.answer_for, Merging.is_meet, Merging.merge, Texts.answer_text, Texts.lines_text}
+use Rattle.rounds.specs.{declared.answer_list.Cursor.Cursor, Merging.answer_for, Merging.is_meet, Merging.merge, Told.answer_text, Told.lines_text}
 use Rattle.rounds.specs.declared.answer.Kind.TheVariants as kind
 use Rattle.runs.specs.declared.delivery.Delivery.{Delivery}
 

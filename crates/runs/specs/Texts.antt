@@ -3,7 +3,7 @@ use Rattle.std.specs.Prelude.{◌≡◌, ℕ, List, ◌++◌, Ok}
 use Rattle.geometry.specs.{Geometry.hosts_of, Geometry.sectors_of, declared.geometry.Geometry.Geometry}
 use Rattle.trace.specs.{Trace.commands_of, declared.commands.Command.Command}
 use Rattle.answers.specs.Answers.{end_text}
-use Rattle.rounds.specs.{Lines.Said, Merging.IsDisjointTrace, Rows.AreAtOneHistory, Texts.IsTextOfSome}
+use Rattle.rounds.specs.{Lines.Said, Merging.IsDisjointTrace, Merging.AreAtOneHistory, Told.IsTextOfSome}
 use Rattle.runs.specs.Delivering.{text_of}
 
 -- the text is the answers of the commands, with the writes turned away at some set of lines, and the last line

@@ -4,7 +4,7 @@ ghost use Rattle.hex.specs.Hex.{encode_lower};
 ghost use Rattle.answers.specs.{Answers.end_text, Lines.page_digits_of, Lines.waiting_of, Replies.reply_text, declared.line.TheConstants.PIECE_BYTES};
 ghost use Rattle.answers.specs.Streams.{WritesOut, over};
 ghost use Rattle.answers.specs.declared.reply.Reply.TheVariants as replies;
-ghost use Rattle.rounds.specs.{Answers.page_size_of, Lines.Said, Merging.is_meet, Merging.HaveAnswers, Texts.answer_text, Rows.answers_by};
+ghost use Rattle.rounds.specs.{Answers.page_size_of, Lines.Said, Merging.is_meet, Merging.HaveAnswers, Told.answer_text, Merging.answers_by};
 ghost use Rattle.rounds.specs.declared.answer.Kind.TheVariants as kinds;
 ghost use Rattle.runs.specs.Delivering.{AreAt, HasDigits, digits_in, line_of, next_of, passed, passed_in, said_as, text_of, workers_in};
 ghost use Rattle.runs.specs.Outputs.{written_by_workers};

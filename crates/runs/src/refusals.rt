@@ -1,6 +1,6 @@
 //! How many writes a run by workers refused.
 ghost use Rattle.std.specs.{Prelude.◌≡◌, Prelude.false, Prelude.length, Prelude.option_map, Prelude.replicate, Option.option_map_or};
-ghost use Rattle.rounds.specs.{Answers.first_place, Lines.Said, Lines.is_full, Merging.HaveAnswers, Rows.answers_by};
+ghost use Rattle.rounds.specs.{Answers.first_place, Lines.Said, Lines.is_full, Merging.HaveAnswers, Merging.answers_by};
 ghost use Rattle.runs.specs.{ByWorkers.IsAnswered, ByWorkers.answers_played, ByWorkers.commands_played, Delivering.said_as, Refusals.refused_by_workers};
 
 use crate::delivering::next_answer;

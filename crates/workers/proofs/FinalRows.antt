@@ -5,7 +5,7 @@ use Rattle.flash_table.specs.Flash.{geometry_of}
 use Rattle.trace.specs.declared.commands.Command.{Command}
 use Rattle.rounds.specs.{Lines.Said, Merging.merge, declared.answer_list.Answers.Answers, Answers.page_size_of, Answers.said_in}
 use Rattle.volume.specs.{declared.volume.Volume.Volume, Volume.flash_of}
-use Rattle.rounds.specs.{Rows.answers_by, Rows.AreAtOneHistory, Texts.lines_text, Texts.IsTextOfSome}
+use Rattle.rounds.specs.{Merging.answers_by, Merging.AreAtOneHistory, Told.lines_text, Told.IsTextOfSome}
 use Rattle.std.proofs.lemmas.{List.Elements.All-map, Simd.map-map}
 use Rattle.workers.specs.{Workers.answers_kept, Commands.ArePlayed, declared.worker.Worker.Worker, Runs.AreManned, Runs.HasEnded, Runs.rows_of}
 

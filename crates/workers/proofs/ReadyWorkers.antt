@@ -7,7 +7,7 @@ use Rattle.host.specs.Ready.{IsReady}
 use Rattle.trace.specs.declared.commands.Command.{Command}
 use Rattle.volume.specs.Volume.{flash_of}
 use Rattle.rounds.specs.{Answers.page_size_of, Answers.said_in, Answers.HasSpaceFor, declared.answer_list.Answers.Answers}
-use Rattle.rounds.proofs.Spaces.{space_of-append}
+use Rattle.rounds.proofs.Pages.{space_of-append}
 use Rattle.workers.specs.{Playable.HasAnswered, Playable.lines_at, declared.worker.Worker.Worker, Able.IsAble}
 use Rattle.workers.proofs.{PlayedLines.count_lines, Cursors.count_before, Cursors.lines_part, Cursors.All-part}
 use Rattle.workers.specs.Workers.{answered, is_before, round_lines, round_places}

@@ -9,7 +9,7 @@ use Rattle.geometry.specs.History.{Call, Begins}
 use Rattle.geometry.proofs.Histories.{Begins-refl, Begins-trans}
 use Rattle.flash_rule.specs.declared.view.View.{View}
 use Rattle.trace.specs.declared.commands.Command.{Command}
-use Rattle.rounds.specs.{Lines.Said, Lines.calls_made, Orders.made, Orders.lines_of, Meetings.HavePlayed, Plans.meetings_from}
+use Rattle.rounds.specs.{Lines.Said, Lines.calls_made, Orders.made, Orders.lines_of, Rounds.HavePlayed, Plans.meetings_from}
 use Rattle.rounds.specs.Playing.{Plays, Played, LinesFound, calls_done, writes_done}
 use Rattle.workers.proofs.{PlayedLines.found-append, RoundLines.StandsBehind, RoundLines.ends_from}
 use Rattle.volume.specs.Closing.{HasLooked}

@@ -15,7 +15,7 @@ use Rattle.trace.specs.declared.commands.Command.{Command}
 use Rattle.rounds.specs.{Lines.Said, Answers.said_in, Playing.Played, Playing.Plays, Plans.places_from, Plans.places_for, Plans.meetings_from}
 use Rattle.workers.specs.{Playable.added, Playable.lines_at, Meetings.Rest, Meetings.passes_of, Meetings.rest_of, Meetings.views_of}
 use Rattle.volume.specs.{declared.volume.Volume.Volume, Closing.HasLooked, Volume.flash_of}
-use Rattle.rounds.specs.{Meetings.AreTied, Meetings.HaveMet, Rows.RoundAnswered, Rows.AreRounds}
+use Rattle.rounds.specs.{Rounds.AreTied, Rounds.HaveMet, Merging.RoundAnswered, Merging.AreRounds}
 use Rattle.rounds.specs.Merging.{is_meet, lines_for, line_count, rows_after, rounds_of}
 use Rattle.rounds.proofs.{Meetings.tied_again, Runs.run_is_text, Planning.places_from-append}
 use Rattle.rounds.proofs.Chains.{flat, flat-append, lines_for-append, line_count-append, rows_count, round_answered, rounds_same, rounds_push, rounds_go_on}

@@ -12,7 +12,7 @@ use Rattle.rounds.specs.declared.answer_list.Answers.{Answers}
 use Rattle.volume.specs.Closing.{HasLooked}
 use Rattle.volume.specs.declared.volume.Volume.{Volume}
 use Rattle.volume.specs.Volume.{flash_of}
-use Rattle.rounds.specs.Meetings.{HaveMet}
+use Rattle.rounds.specs.Rounds.{HaveMet}
 use Rattle.workers.specs.declared.worker.Worker.{Worker}
 
 -- the worker is one of this volume

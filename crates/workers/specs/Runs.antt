@@ -10,10 +10,9 @@ use Rattle.rounds.specs.Answers.{said_in}
 use Rattle.rounds.specs.Playing.{Plays, LinesFound, calls_done, writes_done}
 use Rattle.volume.specs.declared.volume.Volume.{Volume}
 use Rattle.volume.specs.Volume.{flash_of}
-use Rattle.rounds.specs.Merging.{lines_for, merge, HaveAnswers, IsDisjointTrace}
+use Rattle.rounds.specs.Merging.{lines_for, merge, HaveAnswers, IsDisjointTrace, AreAtOneHistory}
 use Rattle.rounds.specs.Plans.{places_for, ends_of}
-use Rattle.rounds.specs.Rows.{AreAtOneHistory}
-use Rattle.rounds.specs.Texts.{lines_text, IsTextOfSome}
+use Rattle.rounds.specs.Told.{lines_text, IsTextOfSome}
 use Rattle.workers.specs.declared.worker.Worker.{Worker}
 use Rattle.workers.specs.Meetings.{AreSeated, IsAt, PassesMet, passes_of, rest_of, views_of}
 use Rattle.workers.specs.Shares.{HasPlayedNone}

@@ -5,7 +5,7 @@ ghost use Rattle.flash_table.specs.{Flash.geometry_of, Flash.view_of, declared.p
 ghost use Rattle.geometry.specs.{Geometry.page_bytes_of, Geometry.sectors_of, History.Call, declared.geometry.Geometry.Geometry};
 ghost use Rattle.geometry.specs.declared.words.MapWord.{MapWord};
 ghost use Rattle.rounds.specs.{Answers.page_size_of, Answers.said_in, Lines.Said, Merging.IsDisjointTrace, Merging.lines_for, Merging.merge, Plans.ends_of};
-ghost use Rattle.rounds.specs.{Playing.Plays, Playing.calls_done, Playing.writes_done, Rows.AreAtOneHistory, Texts.IsTextOfSome, Texts.lines_text};
+ghost use Rattle.rounds.specs.{Playing.Plays, Playing.calls_done, Playing.writes_done, Merging.AreAtOneHistory, Told.IsTextOfSome, Told.lines_text};
 ghost use Rattle.rounds.specs.declared.answer_list.Answers.{Answers};
 ghost use Rattle.rounds.specs.declared.answer.Kind.TheVariants as kind;
 ghost use Rattle.trace.specs.declared.commands.Command.{Command};

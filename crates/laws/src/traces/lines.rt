@@ -1,6 +1,6 @@
 ghost use Rattle.std.specs.Prelude.{◌≡◌, ◌⊎◌, ℕ, List, [], ◌∷◌, None, Some, true, false};
 ghost use Rattle.geometry.specs.Sectors.{Sector};
-ghost use Rattle.rounds.specs.{Lines.Said, Lines.IsRight, Playing.IsTried, Playing.LineFound, Playing.WriteFound, Rows.AreAtOneHistory, Texts.IsTextOfSome};
+ghost use Rattle.rounds.specs.{Lines.Said, Lines.IsRight, Playing.IsTried, Playing.LineFound, Playing.WriteFound, Merging.AreAtOneHistory, Told.IsTextOfSome};
 ghost use Rattle.rounds.specs.Merging.{AreDisjointCommands, IsDisjointTrace, merge, rounds_of};
 ghost use Rattle.rounds.specs.declared.answer.Kind.TheVariants as kind;
 ghost use Rattle.trace.specs.declared.commands.{Command.Command, Op.Op};

@@ -4,7 +4,7 @@ use Rattle.streams.specs.Watched.{inner_of}
 use Rattle.trace.specs.declared.commands.Command.{Command}
 use Rattle.answers.specs.{Playable.IsPlayable, Streams.over, Streams.stream_of}
 use Rattle.answers.specs.Streams.{Whole, Writes, WritesIf}
-use Rattle.rounds.specs.{Rows.answers_by, Answers.page_size_of, declared.answer_list.Answers.Answers}
+use Rattle.rounds.specs.{Merging.answers_by, Answers.page_size_of, declared.answer_list.Answers.Answers}
 use Rattle.geometry.specs.Geometry.{page_bytes_of}
 use Rattle.runs.specs.{Delivering.digits_in, Outputs.written_by_workers, Brooms.IsBroomLogOf, Brooms.brooms_text}
 use Rattle.runs.proofs.{BroomTexts.brooms_right, LogTexts.ends_file}

@@ -1,5 +1,5 @@
 use Rattle.std.proofs.Common.{◌≡◌, length}
-use Rattle.rounds.specs.Rows.{answers_by}
+use Rattle.rounds.specs.Merging.{answers_by}
 use Rattle.runs.{specs.Delivering.AreAt, specs.Delivering.passed_in, proofs.RefusedWrites.lines_refused, proofs.Rows.AreNext}
 use Rattle.runs.proofs.refusals.count_refused.Given as goal
 

@@ -2,7 +2,7 @@ use Rattle.std.proofs.Common.{◌≡◌, ℕ, suc, ◌+◌, ◌*◌, ◌<◌, �
 use Rattle.std.proofs.lemmas.{List.map_push, List.take_more, Option.get_or_from_slice_get}
 use Rattle.trace.specs.declared.commands.{Command.Command, Op.Op}
 use Rattle.rounds.specs.Answers.{space_for, space_of}
-use Rattle.rounds.proofs.Spaces.{space_of-append}
+use Rattle.rounds.proofs.Pages.{space_of-append}
 use Rattle.workers.specs.Playable.{lines_at, no_line}
 use Rattle.workers.proofs.worker.share.count_reads.Goals.{in-Read, in_default}
 use Rattle.trace.specs.declared.commands.Op.TheVariants as op
