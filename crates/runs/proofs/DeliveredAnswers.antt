@@ -10,7 +10,7 @@ use Rattle.answers.specs.{Delivery.AppendsBeginning, Delivery.AppendsPart, Deliv
 use Rattle.rounds.specs.{Playing.Plays, Lines.Said, Lines.calls_made, Answers.page_size_of, declared.answer_list.Answers.Answers, Merging.answers_by}
 use Rattle.rounds.specs.{Merging.is_meet, Merging.line_count, Merging.lines_for, Merging.merge, Merging.HaveAnswers, Told.lines_text}
 use Rattle.runs.specs.{Delivering.text_of, Outputs.IsOutputByWorkers, Outputs.written_by_workers, Texts.IsTextOf}
-use Rattle.workers.specs.Commands.{ArePlayed}
+use Rattle.workers.specs.Runs.{ArePlayed}
 
 -- each line that was played has one answer
 plays_long : (n t : ℕ) (seen : List Call) (lines : List Command) (answers : List Said) (last : List Call) → Plays n t seen lines answers last

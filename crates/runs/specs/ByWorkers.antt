@@ -4,7 +4,7 @@ use Rattle.geometry.specs.{Geometry.hosts_of, declared.geometry.Geometry.Geometr
 use Rattle.trace.specs.{Trace.commands_of, declared.commands.Command.Command}
 use Rattle.answers.specs.Streams.{Passage, Stream, Whole, Writes, WritesIf}
 use Rattle.rounds.specs.{Lines.Said, Merging.HaveAnswers, Merging.answers_by}
-use Rattle.workers.specs.{Commands.ArePlayed, Served.AllHaveServed}
+use Rattle.workers.specs.{Runs.ArePlayed, Served.AllHaveServed}
 use Rattle.runs.specs.{Brooms.brooms_text, Outputs.written_by_workers, declared.files.RunOptions.RunOptions}
 use Rattle.runs.specs.declared.played_by_workers.PlayedByWorkers.{PlayedByWorkers}
 

@@ -9,7 +9,7 @@ use Rattle.volume.specs.{declared.volume.Volume.Volume, Volume.flash_of}
 use Rattle.rounds.specs.{Lines.Said, Lines.is_full, Pages.bytes_of, Playing.Played, declared.answer.Kind.Kind, declared.answer_list.Answers.Answers}
 use Rattle.rounds.specs.Answers.{page_size_of, said_in, space_for, space_of, HasSpace, HasSpaceFor}
 use Rattle.host.specs.Ready.{IsReady}
-use Rattle.workers.specs.{Line.HasPlayedLine, Playable.added, Playable.lines_at}
+use Rattle.workers.specs.Playable.{HasPlayedLine, added, lines_at}
 use Rattle.workers.proofs.PlayedLines.{Playing, count_lines, other_page, playing_none, playing_more, playing_end}
 use Rattle.trace.specs.declared.commands.Op.TheVariants as op
 use Rattle.rounds.specs.declared.answer.Kind.TheVariants as kind

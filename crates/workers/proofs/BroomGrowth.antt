@@ -9,7 +9,7 @@ use Rattle.broom.specs.Handing.{DrainDeadOneTold, EraseOneTold, IsElse, TurnTold
 use Rattle.broom.specs.{Ready.blocks_of_broom, Ready.view_of_broom, Surveying.Chosen, Told.DidRestock, Told.HadSpare, Told.RestockTold}
 use Rattle.flash_table.specs.declared.broom_seat.BroomBlocks.{BroomBlocks}
 use Rattle.workers.specs.declared.collector.{broom_answer.BroomAnswer.BroomAnswer, tally.Tally.Tally}
-use Rattle.workers.specs.{Collecting.CallTold, Collecting.HasMadeCalls, Growing.GrowsBy, Growing.HasGrown}
+use Rattle.workers.specs.{Collecting.CallTold, Collecting.HasMadeCalls, Tallies.GrowsBy, Tallies.HasGrown}
 use Rattle.workers.specs.Tallies.{added, answer_adds, drain_adds, erase_adds, nothing_done, survey_adds, total_of}
 use Rattle.broom.specs.declared.answer.Drain.TheVariants as drain
 use Rattle.broom.specs.declared.answer.Erase.TheVariants as erase

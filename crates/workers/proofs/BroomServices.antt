@@ -9,7 +9,7 @@ use Rattle.broom.specs.{declared.broom.Broom.Broom, Ready.folded_view, Ready.vie
 use Rattle.volume.specs.{declared.volume.Volume.Volume, Volume.IsUnused, Volume.flash_of}
 use Rattle.workers.specs.declared.collector.{Collector.Collector, tally.Tally.Tally, collector_end.CollectorEnd.CollectorEnd}
 use Rattle.workers.specs.{Collecting.HasCollected, Collecting.HaveCollected, Tallies.added, Tallies.total_of, Tallies.wrapped}
-use Rattle.workers.specs.{Folding.HasFolded, Folding.HaveFolded, Growing.GrowsBy, Growing.HasGrown}
+use Rattle.workers.specs.{Served.HasFolded, Served.HaveFolded, Tallies.GrowsBy, Tallies.HasGrown}
 use Rattle.workers.specs.Served.{AllHaveServed, AreAtRunStart, HasCountedNone, HasDone, HasListed, HaveServed, IsAtRunStart, broom_of}
 use Rattle.workers.proofs.TallySums.{nothing_added}
 

@@ -6,7 +6,7 @@ use Rattle.flash_rule.specs.declared.view.View.{View}
 use Rattle.flash_table.specs.declared.broom_seat.BroomBlocks.{BroomBlocks}
 use Rattle.broom.specs.{declared.broom.Broom.Broom, declared.answer.Drain.Drain, Handing.DrainNextOneTold, Handing.DrainOneTold, Handing.IsElse}
 use Rattle.broom.specs.{Emptying.Programmed, Emptying.pages_to_fill, Ready.blocks_of_broom, Ready.view_of_broom}
-use Rattle.workers.specs.Growing.{GrowsBy}
+use Rattle.workers.specs.Tallies.{GrowsBy}
 use Rattle.broom.specs.declared.answer.Drain.TheVariants as drain
 
 -- the pages that are programmed between two brooms are those that there is no more room for

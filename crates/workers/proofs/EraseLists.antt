@@ -4,10 +4,9 @@ use Rattle.std.proofs.lemmas.List.{length-append}
 use Rattle.flash_rule.specs.declared.view.View.{View}
 use Rattle.broom.specs.declared.{broom.Broom.Broom, answer.Drain.Drain, answer.Erase.Erase}
 use Rattle.broom.specs.{Handing.EraseOneTold, Handing.IsElse, Ready.view_of_broom}
-use Rattle.workers.specs.{declared.collector.broom_answer.BroomAnswer.BroomAnswer, declared.collector.tally.Tally.Tally, Growing.busy_in}
-use Rattle.workers.specs.Growing.{stale_in}
+use Rattle.workers.specs.{declared.collector.broom_answer.BroomAnswer.BroomAnswer, declared.collector.tally.Tally.Tally, Tallies.busy_in}
+use Rattle.workers.specs.Tallies.{stale_in, answer_adds, drain_adds, erase_adds, survey_adds, total_of}
 use Rattle.workers.specs.Collecting.{CallTold, HasMadeCalls, listed_by_erase, listed_by_erases}
-use Rattle.workers.specs.Tallies.{answer_adds, drain_adds, erase_adds, survey_adds, total_of}
 use Rattle.broom.specs.declared.answer.Drain.TheVariants as drain
 use Rattle.broom.specs.declared.answer.Erase.TheVariants as erase
 use Rattle.workers.specs.declared.collector.broom_answer.BroomAnswer.TheVariants as by

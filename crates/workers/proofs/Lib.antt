@@ -1,14 +1,11 @@
 pub mod RoundMeetings
-pub mod Cursors
+pub mod WorkerRows
 pub mod ReadyWorkers
 pub mod RoundLines
 pub mod RoundStates
 pub mod PlayedRounds
 pub mod RunStates
-pub mod LentWorkers
-pub mod DealtRows
 pub mod Openings
-pub mod FinalRows
 pub mod BroomCalls
 pub mod BroomTurns
 pub mod TallySums

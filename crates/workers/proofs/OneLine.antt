@@ -12,7 +12,7 @@ use Rattle.host.specs.Told.{Searched, Programmed}
 use Rattle.trace.specs.declared.commands.Op.{Op}
 use Rattle.rounds.specs.{declared.answer.Kind.Kind, Lines.kind_of, Lines.is_full, Lines.calls_by, Lines.IsFound, Lines.IsRight}
 use Rattle.rounds.specs.Playing.{one_done, all_taken, with_play, WriteFound, LineFound, PlayAdds}
-use Rattle.workers.specs.Line.{PlayedLine, kind_found, write_call, write_op}
+use Rattle.workers.specs.Playable.{PlayedLine, kind_found, write_call, write_op}
 use Rattle.geometry.specs.declared.answer.Got.TheVariants as got
 use Rattle.geometry.specs.declared.answer.Was.TheVariants as was
 use Rattle.trace.specs.declared.commands.Op.TheVariants as op

@@ -13,7 +13,7 @@ use Rattle.workers.specs.{Playable.IsLine, Playable.lines_at, Runs.AreManned, Ru
 use Rattle.volume.specs.{declared.volume.Volume.Volume, Volume.flash_of}
 use Rattle.rounds.specs.{Merging.is_meet, Merging.is_line_of, Merging.lines_for, Plans.ends_of, Plans.items_of, Plans.places_for}
 use Rattle.workers.specs.{declared.worker.Worker.Worker, Dealing.AreDoable, Meetings.IsAt, Meetings.passes_of, Meetings.views_of}
-use Rattle.workers.specs.Shares.{HasPlayedNone, rows_for, with_commands, work_of}
+use Rattle.workers.specs.Dealing.{HasPlayedNone, rows_for, with_commands, work_of}
 use Rattle.workers.proofs.{RunStates.some_worker, RoundLines.lines_there, RoundLines.places_low}
 use Rattle.trace.specs.declared.commands.Op.TheVariants as op
 

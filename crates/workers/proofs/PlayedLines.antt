@@ -16,7 +16,7 @@ use Rattle.volume.specs.{declared.volume.Volume.Volume, Volume.flash_of}
 use Rattle.rounds.specs.declared.answer.{Answer.Answer, Kind.Kind}
 use Rattle.rounds.specs.Lines.{Said, said, calls_made, kind_of, is_full, IsRight}
 use Rattle.rounds.specs.Playing.{PlayAdds, Plays, Played, LineFound, LinesFound, calls_done, writes_done, one_done}
-use Rattle.workers.specs.{Line.PlayedLine, Line.HasPlayedLine, Playable.HasPage, Playable.lines_at, Playable.no_line}
+use Rattle.workers.specs.Playable.{PlayedLine, HasPlayedLine, HasPage, lines_at, no_line}
 use Rattle.workers.proofs.OneLine.{adds_calls, adds_then}
 use Rattle.trace.specs.declared.commands.Op.TheVariants as op
 use Rattle.rounds.specs.declared.answer.Kind.TheVariants as kind

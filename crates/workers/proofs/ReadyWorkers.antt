@@ -1,16 +1,29 @@
--- A worker that has played is able to play on.
-use Rattle.std.proofs.Common.{◌≡◌, ℕ, ◌+◌, ◌<◌, ◌≤◌, All, List, ◌++◌, get_or, take, drop, length, sym, ap, ◌∙◌, subst, arith, length-append}
-use Rattle.std.proofs.lemmas.List.{map-append, length-drop, drop-drop, take-append-drop, Folds.length-prefix_len, Sums.prefix_len-le-length}
-use Rattle.std.specs.{Arc.arc_value, List.prefix_len, List.slice_range, List.take_while}
+-- A worker that has played is able to play on, and so are a team's workers that were lent as a row and came back.
+use Rattle.std.proofs.Common.{◌≡◌, List, length, sym, ap, ◌∙◌, ℕ, ◌+◌, ◌<◌, ◌≤◌, All, ◌++◌, get_or, take, drop, subst, arith, length-append}
+use Rattle.std.proofs.lemmas.List.{with_items_is, map-append, length-drop, drop-drop, take-append-drop}
+use Rattle.std.specs.Prelude.{Vec}
+use Rattle.std.specs.Global.{Global}
+use Rattle.std.specs.Vec.{with_items}
+use Rattle.std.proofs.lemmas.List.Folds.{length-prefix_len}
+use Rattle.std.proofs.lemmas.List.Sums.{prefix_len-le-length}
+use Rattle.std.specs.Arc.{arc_value}
+use Rattle.std.specs.List.{prefix_len, slice_range, take_while}
 use Rattle.flash_table.specs.declared.pass.Pass.{Pass}
 use Rattle.host.specs.Ready.{IsReady}
 use Rattle.trace.specs.declared.commands.Command.{Command}
 use Rattle.volume.specs.Volume.{flash_of}
-use Rattle.rounds.specs.{Answers.page_size_of, Answers.said_in, Answers.HasSpaceFor, declared.answer_list.Answers.Answers}
+use Rattle.rounds.specs.Answers.{page_size_of, said_in, HasSpaceFor}
+use Rattle.rounds.specs.declared.answer_list.Answers.{Answers}
 use Rattle.rounds.proofs.Pages.{space_of-append}
-use Rattle.workers.specs.{Playable.HasAnswered, Playable.lines_at, declared.worker.Worker.Worker, Able.IsAble}
-use Rattle.workers.proofs.{PlayedLines.count_lines, Cursors.count_before, Cursors.lines_part, Cursors.All-part}
+use Rattle.workers.specs.Playable.{HasAnswered, lines_at}
+use Rattle.workers.specs.declared.worker.Worker.{Worker}
+use Rattle.workers.specs.Able.{IsAble}
+use Rattle.workers.proofs.PlayedLines.{count_lines}
+use Rattle.workers.proofs.WorkerRows.{count_before, lines_part, All-part}
 use Rattle.workers.specs.Workers.{answered, is_before, round_lines, round_places}
+
+pub lent_all : {X : Type 0} (row : Vec X Global) (lent new : List X) → lent ≡ row.items → length new ≡ length lent → (with_items row new).items ≡ new
+lent_all row lent new is long = with_items_is row new (long ∙ (ap (λ l. length l) is ∙ sym row.ok.0))
 
 module _ (end : ℕ) (worker : Worker) where
   -- the places that have no answer yet, and how many of them are in the round

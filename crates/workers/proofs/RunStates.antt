@@ -22,7 +22,7 @@ use Rattle.rounds.proofs.Chains.{flat, flat-append, lines_for-append, line_count
 use Rattle.workers.specs.declared.worker.{round_limits.RoundLimits.RoundLimits, Worker.Worker}
 use Rattle.workers.specs.Workers.{HasPlayed, answered, is_before, round_lines}
 use Rattle.workers.specs.Runs.{RoundPlayed, AreManned, HasOwnLines, HasBegun, HasEnded, HasRun, answers_of, denied_by, rows_of}
-use Rattle.workers.proofs.{RoundMeetings.ready_at, Cursors.front_is, PlayedRounds.played_long, PlayedRounds.played_at, PlayedRounds.rests_long}
+use Rattle.workers.proofs.{RoundMeetings.ready_at, WorkerRows.front_is, PlayedRounds.played_long, PlayedRounds.played_at, PlayedRounds.rests_long}
 use Rattle.workers.proofs.{PlayedRounds.rest_at}
 use Rattle.workers.proofs.RoundLines.{count_places, places_low, places_high, lines_there, FirstRound, first_round}
 use Rattle.workers.proofs.RoundStates.{WorkerRound, run_more, plays_to, round_played, Left, left_is, Closed, closed_is, Next, next_part}

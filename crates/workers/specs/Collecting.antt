@@ -1,4 +1,6 @@
--- What a broom does while the workers of a round play: one call after another.
+-- What a broom does while the workers of a round play, one call after another, and the brooms' threads of a round.
+use Rattle.workers.specs.declared.collector.Collector.{Collector}
+use Rattle.workers.specs.declared.collector.broom_thread.BroomThread.{BroomThread}
 use Rattle.std.specs.Prelude.{◌≡◌, ◌+◌, ◌-◌, ◌||◌, ℕ, Bool, List, [], ◌∷◌, length}
 use Rattle.std.specs.Arc.{arc_value}
 use Rattle.std.specs.List.{list_any}
@@ -10,12 +12,14 @@ use Rattle.broom.specs.Handing.{DrainDeadOneTold, DrainNextOneTold, DrainOneTold
 use Rattle.broom.specs.Ready.{view_of_broom}
 use Rattle.broom.specs.Told.{RestockTold, KeepsSurvey}
 use Rattle.volume.specs.Volume.{queue_of}
-use Rattle.workers.specs.declared.collector.broom_answer.BroomAnswer.{BroomAnswer}
 use Rattle.workers.specs.declared.collector.broom_answer.BroomAnswer.TheVariants as by
-use Rattle.workers.specs.declared.collector.Collector.{Collector}
-use Rattle.workers.specs.Growing.{GrowsBy, HasGrown, busy_in, stale_in}
-use Rattle.workers.specs.Tallies.{IsCounted, added, total_of, wrapped}
+use Rattle.workers.specs.declared.collector.broom_answer.BroomAnswer.{BroomAnswer}
+use Rattle.workers.specs.Tallies.{GrowsBy, HasGrown, busy_in, stale_in, IsCounted, added, total_of, wrapped}
 use Rattle.workers.specs.Turns.{AreTurns, Follows, IsSearch, IsTurn, has_drained, has_gained}
+
+-- the broom that a thread was given
+abbrev pub given_to : BroomThread → Collector
+given_to t = t.handle.promise.before.value
 
 -- A restock had this result. It doesn't use the queue, and the broom keeps its last survey
 pub record HasRestocked (before : Broom) (given : Bool) (after : Broom) : Type 0 where

@@ -1,22 +1,29 @@
--- A run over the rounds of a trace: what the workers hold, and what was answered so far.
-use Rattle.std.specs.Prelude.{◌≡◌, ℕ, ◌<◌, All, List, [], ◌++◌, map, length, slice_index_or}
-use Rattle.std.specs.Arc.{arc_value}
+-- A run over the rounds of a trace: what the workers hold, and what was answered so far; and a whole run over the commands of a trace.
+use Rattle.std.specs.Prelude.{ℕ, List, ◌≡◌, ◌<◌, All, [], ◌++◌, map, length, slice_index_or}
 use Rattle.geometry.specs.Geometry.{hosts_of, sectors_of}
-use Rattle.flash_rule.specs.declared.view.View.{View}
-use Rattle.flash_table.specs.Flash.{geometry_of}
+use Rattle.geometry.specs.declared.geometry.Geometry.{Geometry}
 use Rattle.trace.specs.declared.commands.Command.{Command}
 use Rattle.rounds.specs.Lines.{Said}
+use Rattle.rounds.specs.Merging.{merge, IsDisjointTrace, AreAtOneHistory, lines_for, HaveAnswers}
+use Rattle.rounds.specs.Told.{lines_text, IsTextOfSome}
+use Rattle.std.specs.Arc.{arc_value}
+use Rattle.flash_rule.specs.declared.view.View.{View}
+use Rattle.flash_table.specs.Flash.{geometry_of}
 use Rattle.rounds.specs.Answers.{said_in}
 use Rattle.rounds.specs.Playing.{Plays, LinesFound, calls_done, writes_done}
 use Rattle.volume.specs.declared.volume.Volume.{Volume}
 use Rattle.volume.specs.Volume.{flash_of}
-use Rattle.rounds.specs.Merging.{lines_for, merge, HaveAnswers, IsDisjointTrace, AreAtOneHistory}
 use Rattle.rounds.specs.Plans.{places_for, ends_of}
-use Rattle.rounds.specs.Told.{lines_text, IsTextOfSome}
 use Rattle.workers.specs.declared.worker.Worker.{Worker}
 use Rattle.workers.specs.Meetings.{AreSeated, IsAt, PassesMet, passes_of, rest_of, views_of}
-use Rattle.workers.specs.Shares.{HasPlayedNone}
+use Rattle.workers.specs.Dealing.{HasPlayedNone}
 use Rattle.workers.specs.Tasks.{HavePlayed}
+
+-- The commands of a trace were played on a device of this geometry, by a worker for each of its hosts: all lines were answered at one history, and
+-- if the trace is disjoint, the text of the answers is that of the trace, with the writes turned away at some set of lines
+pub record ArePlayed (geo : Geometry) (commands : List Command) (rows : ℕ → List Said) : Type 0 where
+  pub told : AreAtOneHistory (sectors_of geo) (hosts_of geo) commands rows
+  pub text : IsDisjointTrace commands → IsTextOfSome (sectors_of geo) commands (lines_text 0 (merge commands rows))
 
 -- A round was played: each worker has played its lines before the end, and then all passes have met
 pub record RoundPlayed (volume : Volume) (patience end : ℕ) (workers back : List Worker) : Type 0 where

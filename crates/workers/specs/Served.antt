@@ -1,5 +1,11 @@
 -- What the brooms of a run have done at its end, each by its number.
-use Rattle.std.specs.Prelude.{◌≡◌, ℕ, ◌+◌, ◌%◌, ◌^◌, List, [], ◌∷◌, length}
+use Rattle.std.specs.Prelude.{◌≡◌, List, [], ◌∷◌, ℕ, ◌+◌, ◌%◌, ◌^◌, length}
+use Rattle.flash_table.specs.GivingUp.{closed_broom}
+use Rattle.broom.specs.Ready.{folded_place, folded_view, blocks_of_broom, view_of_broom}
+use Rattle.broom.specs.Handing.{LeftAt}
+use Rattle.workers.specs.declared.collector.Collector.{Collector}
+use Rattle.workers.specs.declared.collector.collector_end.CollectorEnd.{CollectorEnd}
+use Rattle.workers.specs.Collecting.{limit_at, HasCollected, listed_by_erases}
 use Rattle.std.specs.Arc.{arc_value}
 use Rattle.geometry.specs.Geometry.{brooms_of}
 use Rattle.geometry.specs.declared.geometry.Geometry.{Geometry}
@@ -8,16 +14,24 @@ use Rattle.flash_rule.specs.declared.facts.Role.TheVariants.{Player}
 use Rattle.flash_rule.specs.declared.view.View.{View}
 use Rattle.flash_table.specs.Flash.{geometry_of}
 use Rattle.broom.specs.declared.broom.Broom.{Broom}
-use Rattle.broom.specs.Ready.{folded_view}
 use Rattle.volume.specs.declared.volume.Volume.{Volume}
 use Rattle.volume.specs.Volume.{IsUnused, flash_of}
-use Rattle.workers.specs.declared.collector.Collector.{Collector}
-use Rattle.workers.specs.declared.collector.collector_end.CollectorEnd.{CollectorEnd}
 use Rattle.workers.specs.declared.collector.tally.Tally.{Tally}
-use Rattle.workers.specs.Collecting.{HasCollected, limit_at, listed_by_erases}
-use Rattle.workers.specs.Folding.{HasFolded}
-use Rattle.workers.specs.Growing.{busy_in, stale_in}
-use Rattle.workers.specs.Tallies.{nothing_done}
+use Rattle.workers.specs.Tallies.{busy_in, stale_in, nothing_done}
+
+-- A broom was given up, and its tally kept. The blocks that it had are closed. What it had set aside was put into the queue, or the queue
+-- was full
+pub record HasFolded (s : Collector) (end : CollectorEnd) : Type 0 where
+  pub tally : end.tally ≡ s.tally
+  pub view : folded_view end.folded ≡ closed_broom (view_of_broom s.broom) (blocks_of_broom s.broom)
+  pub place : LeftAt (limit_at s) s.broom (folded_place end.folded)
+
+-- each broom was, in order
+abbrev pub HaveFolded : List Collector → List CollectorEnd → Type 0
+HaveFolded [] [] = Unit {0}
+HaveFolded [] (end ∷ ends) = ⊥
+HaveFolded (s ∷ collectors) [] = ⊥
+HaveFolded (s ∷ collectors) (end ∷ ends) = HasFolded s end × HaveFolded collectors ends
 
 -- the broom of a collector
 abbrev pub broom_of : Collector → Broom

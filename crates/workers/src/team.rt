@@ -2,8 +2,7 @@
 //! to stop.
 ghost use Rattle.std.specs.Prelude.{◌≡◌, ◌+◌, ◌≤◌, ◌++◌, IfOk, OnOk, length, map};
 ghost use Rattle.std.specs.VecDeque.{deque_capacity, deque_len};
-ghost use Rattle.workers.specs.Collecting.{HaveCollected};
-ghost use Rattle.workers.specs.BroomThreads.{given_to};
+ghost use Rattle.workers.specs.Collecting.{HaveCollected, given_to};
 ghost use Rattle.workers.specs.Tasks.{asked, HaveGone, HaveSetOut, WerePlayed, HavePlayed};
 
 pub(crate) mod dealing;

@@ -12,7 +12,7 @@ ghost use Rattle.flash_table.specs.Flash.{geometry_of};
 ghost use Rattle.geometry.specs.{Geometry.brooms_of, declared.geometry.Geometry.Geometry};
 ghost use Rattle.volume.specs.{Volume.flash_of, declared.volume.Volume.Volume};
 ghost use Rattle.workers.specs.Collecting.{HasCollected, HasCollectedBy, HasMadeCalls, limit_at};
-ghost use Rattle.workers.specs.{Folding.HasFolded, Folding.HaveFolded, Growing.GrowsBy, Growing.busy_in, Growing.stale_in, Turns.AreTurns, Turns.IsTurn};
+ghost use Rattle.workers.specs.{Served.HasFolded, Served.HaveFolded, Tallies.GrowsBy, Tallies.busy_in, Tallies.stale_in, Turns.AreTurns, Turns.IsTurn};
 ghost use Rattle.workers.specs.Served.{AllHaveServed, HasServed, IsAtRunStart, listed_in};
 ghost use Rattle.workers.specs.{Tallies.nothing_done, declared.collector.Collector.Collector};
 ghost use Rattle.workers.specs.declared.collector.collector_end.CollectorEnd.{CollectorEnd};

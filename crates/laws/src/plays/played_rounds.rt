@@ -10,7 +10,7 @@ ghost use Rattle.rounds.specs.declared.answer_list.Answers.{Answers};
 ghost use Rattle.rounds.specs.declared.answer.Kind.TheVariants as kind;
 ghost use Rattle.trace.specs.declared.commands.Command.{Command};
 ghost use Rattle.volume.specs.{Volume.flash_of, declared.volume.Volume.Volume};
-ghost use Rattle.workers.specs.{Able.IsAble, Commands.ArePlayed, Meetings.PassesMet, declared.worker.Worker.Worker};
+ghost use Rattle.workers.specs.{Able.IsAble, Runs.ArePlayed, Meetings.PassesMet, declared.worker.Worker.Worker};
 ghost use Rattle.workers.specs.Runs.{HasBegun, HasEnded, HasRun, HasOwnLines, denied_by, rows_of};
 ghost use Rattle.laws.specs.Rounds.{meeting, read, write_by};
 

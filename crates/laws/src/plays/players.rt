@@ -15,7 +15,7 @@ ghost use Rattle.rounds.specs.declared.answer.Kind.TheVariants as kind;
 ghost use Rattle.trace.specs.declared.commands.Command.{Command};
 ghost use Rattle.trace.specs.declared.commands.Op.TheVariants as op;
 ghost use Rattle.volume.specs.{Volume.IsBroomReady, Volume.flash_of, declared.volume.Volume.Volume};
-ghost use Rattle.workers.specs.{Able.IsAble, Commands.ArePlayed, Dealing.AreReady, Folding.HaveFolded, Tasks.HavePlayed, declared.worker.Worker.Worker};
+ghost use Rattle.workers.specs.{Able.IsAble, Runs.ArePlayed, Dealing.AreReady, Served.HaveFolded, Tasks.HavePlayed, declared.worker.Worker.Worker};
 ghost use Rattle.workers.specs.Meetings.{AreSeated, IsAt, PassesMet, passes_of, rest_of};
 ghost use Rattle.workers.specs.Playable.{HasAnswered, HasPage, HasPlayedLines, IsLine, added, lines_at, no_line};
 ghost use Rattle.workers.specs.{Runs.AreManned, Runs.EndsRun, Runs.HasBegun, Runs.RoundPlayed, Runs.rows_of, Workers.HasPlayed, Workers.round_lines};

@@ -1,7 +1,7 @@
 ghost use Rattle.std.specs.Prelude.{◌≡◌, ◌-◌, ◌^◌, ℕ, [], ◌∷◌, true, false};
 ghost use Rattle.flash_rule.specs.declared.view.View.{View};
 ghost use Rattle.broom.specs.declared.answer.Drain.TheVariants as drain;
-ghost use Rattle.workers.specs.{Growing.GrowsBy, Growing.HasGrown, Served.HasDone, Tallies.IsCounted, Tallies.nothing_done, Tallies.total_of};
+ghost use Rattle.workers.specs.{Tallies.GrowsBy, Tallies.HasGrown, Served.HasDone, Tallies.IsCounted, Tallies.nothing_done, Tallies.total_of};
 ghost use Rattle.workers.specs.declared.collector.broom_answer.BroomAnswer.TheVariants as by;
 ghost use Rattle.laws.specs.Brooms.{some_calls, some_counts};
 

@@ -9,7 +9,7 @@ ghost use Rattle.rounds.specs.{Lines.Said, Merging.HaveAnswers};
 ghost use Rattle.runs.specs.{Brooms.brooms_text, ByWorkers.WasPlayed, ByWorkers.answers_played, ByWorkers.commands_played, Delivering.text_of};
 ghost use Rattle.runs.specs.{Outputs.written_by_workers, declared.files.RunOptions.RunOptions, declared.played_by_workers.PlayedByWorkers.PlayedByWorkers};
 ghost use Rattle.trace.specs.{Trace.commands_of, declared.commands.Command.Command};
-ghost use Rattle.workers.specs.{Collecting.HasCollected, Collecting.HaveCollected, Commands.ArePlayed, Served.AllHaveServed, Turns.Follows};
+ghost use Rattle.workers.specs.{Collecting.HasCollected, Collecting.HaveCollected, Runs.ArePlayed, Served.AllHaveServed, Turns.Follows};
 ghost use Rattle.workers.specs.declared.collector.Collector.{Collector};
 ghost use Rattle.workers.specs.declared.collector.broom_answer.BroomAnswer.TheVariants as by;
 

@@ -1,7 +1,6 @@
 //! A broom's thread: it collects until the round ends.
 ghost use Rattle.std.specs.Prelude.{◌≡◌, IfOk};
-ghost use Rattle.workers.specs.Collecting.{HasCollected};
-ghost use Rattle.workers.specs.BroomThreads.{given_to};
+ghost use Rattle.workers.specs.Collecting.{HasCollected, given_to};
 
 use crate::collector::Collector;
 use crate::collector::collecting::collect;

@@ -5,7 +5,7 @@ ghost use Rattle.geometry.specs.Geometry.{brooms_of, hosts_of, page_bytes_of};
 ghost use Rattle.answers.specs.Playable.{IsPlayable};
 ghost use Rattle.rounds.specs.Answers.{page_size_of};
 ghost use Rattle.rounds.specs.Merging.{answers_by};
-ghost use Rattle.workers.specs.Commands.{ArePlayed};
+ghost use Rattle.workers.specs.Runs.{ArePlayed};
 ghost use Rattle.workers.specs.Served.{AllHaveServed};
 
 use crate::fault::RoundFault;

@@ -10,7 +10,7 @@ ghost use Rattle.host.specs.Ready.{IsReady};
 ghost use Rattle.volume.specs.Volume.{IsBroomReady, flash_of};
 ghost use Rattle.workers.specs.Meetings.{IsAt, passes_of};
 ghost use Rattle.workers.specs.Served.{AreAtRunStart, HasCountedNone, broom_of};
-ghost use Rattle.workers.specs.Shares.{HasFitShare, HasPlayedNone, IsOwner, rows_for, work_in, work_of};
+ghost use Rattle.workers.specs.Dealing.{HasFitShare, HasPlayedNone, IsOwner, rows_for, work_in, work_of};
 
 use crate::collector::Collector;
 use crate::collector::tally::Tally;

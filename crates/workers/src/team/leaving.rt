@@ -4,7 +4,7 @@ ghost use Rattle.std.specs.Vec.Iter.{into_iter_items};
 ghost use Rattle.host.specs.Ready.{IsReady};
 ghost use Rattle.volume.specs.Volume.{IsBroomReady, flash_of};
 ghost use Rattle.workers.specs.Dealing.{AreReady};
-ghost use Rattle.workers.specs.Folding.{HaveFolded};
+ghost use Rattle.workers.specs.Served.{HaveFolded};
 ghost use Rattle.workers.specs.Workers.{answers_kept};
 
 use crate::collector::Collector;

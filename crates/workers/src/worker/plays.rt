@@ -5,8 +5,7 @@ ghost use Rattle.host.specs.{Ready.IsReady, Told.Programmed, Told.Refused};
 ghost use Rattle.volume.specs.Volume.{flash_of};
 ghost use Rattle.rounds.specs.Lines.{said};
 ghost use Rattle.rounds.specs.Answers.{page_size_of, HasSpaceFor};
-ghost use Rattle.workers.specs.Playable.{IsLine, HasPage, HasAnswered, HasPlayedLines, added, lines_at};
-ghost use Rattle.workers.specs.Line.{kind_found, HasPlayedLine, write_call, write_op};
+ghost use Rattle.workers.specs.Playable.{IsLine, HasPage, HasAnswered, HasPlayedLines, added, lines_at, kind_found, HasPlayedLine, write_call, write_op};
 
 use flash_table::{Gate, Pass, Point};
 use geometry::{Got, Was};

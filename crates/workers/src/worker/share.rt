@@ -4,8 +4,7 @@ ghost use Rattle.std.specs.Arc.{arc_value};
 ghost use Rattle.rounds.specs.Answers.{space_of};
 ghost use Rattle.workers.specs.Playable.{lines_at};
 ghost use Rattle.rounds.specs.Plans.{items_of};
-ghost use Rattle.workers.specs.Dealing.{AreDoable, IsFit};
-ghost use Rattle.workers.specs.Shares.{HasFitShare, work_in, with_commands};
+ghost use Rattle.workers.specs.Dealing.{AreDoable, IsFit, HasFitShare, work_in, with_commands};
 
 use geometry::Geometry;
 use rounds::Answers;

@@ -1,6 +1,6 @@
 use Rattle.std.proofs.Common.{List, length, sym, ap, ◌∙◌, subst}
 use Rattle.workers.specs.{declared.worker.Worker.Worker, Runs.AreManned}
-use Rattle.workers.proofs.{LentWorkers.lent_all, PlayedRounds.played_long, PlayedRounds.manned_played, PlayedRounds.manned_met}
+use Rattle.workers.proofs.{ReadyWorkers.lent_all, PlayedRounds.played_long, PlayedRounds.manned_played, PlayedRounds.manned_met}
 use Rattle.workers.proofs.runs.play_round.{Given.Over, Goals.After-deref_mut}
 use Rattle.workers.proofs.runs.play_round.Goals as goal
 

@@ -1,7 +1,7 @@
 use Rattle.std.proofs.Common.{◌≡◌, List, [], sym, ◌∙◌, subst, map, append-nil}
 use Rattle.std.proofs.lemmas.List.{nil_from_length}
 use Rattle.workers.specs.declared.collector.{Collector.Collector, broom_thread.BroomThread.BroomThread}
-use Rattle.workers.specs.{Collecting.HaveCollected, BroomThreads.given_to}
+use Rattle.workers.specs.Collecting.{HaveCollected, given_to}
 use Rattle.workers.proofs.team.join_collectors.Goals as goal
 
 pub returns-clause-collected : goal.returns-clause-collected

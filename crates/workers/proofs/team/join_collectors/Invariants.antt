@@ -1,5 +1,5 @@
 use Rattle.std.proofs.Common.{◌≡◌, ◌+◌, ◌++◌, List, deque_capacity, deque_len, map}
-use Rattle.workers.specs.{declared.collector.Collector.Collector, Collecting.HaveCollected, BroomThreads.given_to}
+use Rattle.workers.specs.{declared.collector.Collector.Collector, Collecting.HaveCollected, Collecting.given_to}
 use Rattle.workers.proofs.team.join_collectors.Given as goal
 
 abbrev pub invariant-loop-next : goal.invariant-loop-next

@@ -1,5 +1,5 @@
 use Rattle.std.proofs.Common.{◌≡◌, ◌+◌, ◌++◌, deque_capacity, deque_len, length, map}
-use Rattle.workers.specs.BroomThreads.{given_to}
+use Rattle.workers.specs.Collecting.{given_to}
 use Rattle.workers.proofs.team.start_collectors.Given as goal
 
 abbrev pub invariant-loop-gate : goal.invariant-loop-gate

@@ -1,5 +1,5 @@
 use Rattle.std.proofs.Common.{◌≡◌, List, length, ap, length-append, arith}
-use Rattle.workers.specs.Growing.{GrowsBy}
+use Rattle.workers.specs.Tallies.{GrowsBy}
 use Rattle.laws.proofs.plays.tallies.what_a_broom_has_done.Goals as goal
 
 -- a list that is the same has not grown by one

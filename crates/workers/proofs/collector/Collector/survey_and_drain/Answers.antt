@@ -3,7 +3,7 @@ use Rattle.erase_queue.specs.Queue.{limit_of}
 use Rattle.geometry.specs.Limits.{Numbers}
 use Rattle.broom.specs.{Handing.DrainOneTold, Ready.view_of_broom}
 use Rattle.volume.specs.{declared.volume.Volume.Volume, Volume.queue_of}
-use Rattle.workers.specs.{Collecting.limit_at, Growing.GrowsBy}
+use Rattle.workers.specs.{Collecting.limit_at, Tallies.GrowsBy}
 use Rattle.workers.proofs.{BroomCalls.collected_one, DrainPrograms.survey_fills}
 use Rattle.workers.specs.declared.collector.broom_answer.BroomAnswer.TheVariants as by
 use Rattle.workers.proofs.collector.Collector.survey_and_drain.Goals as goal

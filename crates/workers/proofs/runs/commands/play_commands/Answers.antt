@@ -4,7 +4,7 @@ use Rattle.rounds.specs.{Plans.ends_of}
 use Rattle.volume.specs.{declared.volume.Volume.Volume, Volume.flash_of}
 use Rattle.flash_table.specs.Flash.{geometry_of}
 use Rattle.workers.specs.{Served.AreAtRunStart, Runs.HasBegun}
-use Rattle.workers.proofs.{FinalRows.all_paged, FinalRows.all_played, BroomCalls.collected_long, BroomServices.all_served}
+use Rattle.workers.proofs.{WorkerRows.all_paged, WorkerRows.all_played, BroomCalls.collected_long, BroomServices.all_served}
 use Rattle.workers.proofs.runs.commands.play_commands.Goals as goal
 
 pub fold_collectors-requires-clause-room : goal.fold_collectors-requires-clause-room

@@ -8,7 +8,7 @@ use Rattle.trace.specs.declared.commands.Command.{Command}
 use Rattle.volume.specs.{declared.volume.Volume.Volume, Volume.flash_of, Volume.IsBroomReady, Volume.IsUnused}
 use Rattle.rounds.specs.Plans.{ends_of}
 use Rattle.workers.specs.{Meetings.IsAt, Runs.AreManned, Runs.HasBegun, Served.AreAtRunStart, Served.HasCountedNone}
-use Rattle.workers.specs.Shares.{HasFitShare, IsOwner, with_commands, work_in}
+use Rattle.workers.specs.Dealing.{HasFitShare, IsOwner, with_commands, work_in}
 use Rattle.workers.proofs.{TallySums.zero_plus, BroomServices.all_first, Openings.at_first, Openings.row_count, Openings.rows_doable}
 use Rattle.workers.proofs.team.dealing.deal.Goals.{After-make_collectors}
 use Rattle.workers.proofs.team.dealing.deal.Goals as goal

@@ -2,8 +2,8 @@ use Rattle.std.proofs.{Common.length, Common.refl, Common.sym, Common.ap, Common
 use Rattle.broom.specs.declared.broom.Broom.{Broom}
 use Rattle.volume.specs.{declared.volume.Volume.Volume, Volume.IsBroomReady}
 use Rattle.volume.proofs.FreshBrooms.{taken}
-use Rattle.workers.specs.{Served.HasCountedNone, Served.broom_of, Shares.IsOwner}
-use Rattle.workers.proofs.DealtRows.{moved_in, pushed_all}
+use Rattle.workers.specs.{Served.HasCountedNone, Served.broom_of, Dealing.IsOwner}
+use Rattle.workers.proofs.WorkerRows.{moved_in, pushed_all}
 use Rattle.workers.proofs.team.dealing.make_collectors.Goals as goal
 
 pub invariant_of-push_reserved : goal.invariant_of-push_reserved

@@ -1,6 +1,6 @@
 use Rattle.std.proofs.Common.{◌≡◌, ◌+◌, ◌≤◌, ◌++◌, All, length, map, vec_len, vec_capacity}
 use Rattle.volume.specs.Volume.{IsBroomReady}
-use Rattle.workers.specs.{Served.HasCountedNone, Served.broom_of, Shares.IsOwner}
+use Rattle.workers.specs.{Served.HasCountedNone, Served.broom_of, Dealing.IsOwner}
 use Rattle.workers.proofs.team.dealing.make_collectors.Given as goal
 
 abbrev pub invariant-loop-broom : goal.invariant-loop-broom

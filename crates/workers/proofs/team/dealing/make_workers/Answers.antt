@@ -4,8 +4,8 @@ use Rattle.host.specs.Ready.{IsReady}
 use Rattle.volume.specs.{declared.volume.Volume.Volume, Volume.flash_of}
 use Rattle.volume.proofs.FreshBrooms.{taken}
 use Rattle.workers.specs.{declared.worker.Worker.Worker, declared.worker.share.Share.Share, Meetings.IsAt}
-use Rattle.workers.specs.Shares.{HasFitShare, HasPlayedNone, IsOwner, work_in, work_of}
-use Rattle.workers.proofs.DealtRows.{moved, moved_in, pushed_all}
+use Rattle.workers.specs.Dealing.{HasFitShare, HasPlayedNone, IsOwner, work_in, work_of}
+use Rattle.workers.proofs.WorkerRows.{moved, moved_in, pushed_all}
 use Rattle.workers.proofs.team.dealing.make_workers.Goals as goal
 
 pub make_worker-requires-clause-ready : goal.make_worker-requires-clause-ready

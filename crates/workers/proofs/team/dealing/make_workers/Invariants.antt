@@ -2,7 +2,7 @@ use Rattle.std.proofs.Common.{◌≡◌, ◌+◌, ◌≤◌, ◌++◌, All, leng
 use Rattle.flash_table.specs.Flash.{geometry_of}
 use Rattle.host.specs.Ready.{IsReady}
 use Rattle.volume.specs.Volume.{flash_of}
-use Rattle.workers.specs.{Meetings.IsAt, Meetings.passes_of, Shares.HasFitShare, Shares.HasPlayedNone, Shares.IsOwner, Shares.work_in, Shares.work_of}
+use Rattle.workers.specs.{Meetings.IsAt, Meetings.passes_of, Dealing.HasFitShare, Dealing.HasPlayedNone, Dealing.IsOwner, Dealing.work_in, Dealing.work_of}
 use Rattle.workers.proofs.team.dealing.make_workers.Given as goal
 
 abbrev pub invariant-loop-pass : goal.invariant-loop-pass

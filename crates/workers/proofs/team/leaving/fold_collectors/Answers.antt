@@ -1,7 +1,7 @@
 use Rattle.std.proofs.Common.{◌≡◌, List, [], ◌∷◌, length, sym, ap, ◌∙◌, subst, append-nil, append_assoc, arith}
 use Rattle.std.proofs.lemmas.List.{nil_from_length}
-use Rattle.workers.specs.{declared.collector.Collector.Collector, declared.collector.collector_end.CollectorEnd.CollectorEnd, Folding.HasFolded}
-use Rattle.workers.specs.Folding.{HaveFolded}
+use Rattle.workers.specs.{declared.collector.Collector.Collector, declared.collector.collector_end.CollectorEnd.CollectorEnd, Served.HasFolded}
+use Rattle.workers.specs.Served.{HaveFolded}
 use Rattle.workers.proofs.team.leaving.fold_collectors.Goals as goal
 
 pub loop-collector-preserved : goal.loop-collector-preserved

@@ -1,5 +1,5 @@
 use Rattle.std.proofs.Common.{◌+◌, ◌≤◌, ◌++◌, List, length, vec_len, vec_capacity}
-use Rattle.workers.specs.{declared.collector.collector_end.CollectorEnd.CollectorEnd, Folding.HaveFolded}
+use Rattle.workers.specs.{declared.collector.collector_end.CollectorEnd.CollectorEnd, Served.HaveFolded}
 use Rattle.workers.proofs.team.leaving.fold_collectors.Given as goal
 
 abbrev pub invariant-loop-collector : goal.invariant-loop-collector

@@ -4,7 +4,7 @@ use Rattle.flash_table.specs.Flash.{view_of, geometry_of}
 use Rattle.trace.specs.declared.commands.Op.{Op}
 use Rattle.volume.specs.Volume.{flash_of}
 use Rattle.rounds.specs.Lines.{is_full}
-use Rattle.workers.specs.Line.{PlayedLine}
+use Rattle.workers.specs.Playable.{PlayedLine}
 use Rattle.workers.proofs.OneLine.{read_line, trim_line}
 use Rattle.workers.proofs.worker.plays.play_line.Goals as goal
 

@@ -2,7 +2,7 @@ use Rattle.std.proofs.Common.{Bool, subst, sym}
 use Rattle.geometry.specs.declared.answer.Was.TheVariants as was
 use Rattle.flash_table.specs.Flash.{view_of}
 use Rattle.host.specs.Told.{Programmed}
-use Rattle.workers.specs.Line.{write_call}
+use Rattle.workers.specs.Playable.{write_call}
 use Rattle.workers.proofs.worker.plays.try_write.Goals as goal
 
 pub returns-in-Ok-clause-wrote : goal.returns-in-Ok-clause-wrote

@@ -3,8 +3,8 @@ use Rattle.std.specs.{Prelude.Vec, Arc.arc_value, Global.Global}
 use Rattle.std.proofs.lemmas.List.Elements.{All-nil}
 use Rattle.volume.proofs.FreshBrooms.{taken}
 use Rattle.rounds.specs.Plans.{items_of}
-use Rattle.workers.specs.{Dealing.AreDoable, Shares.HasFitShare, Shares.work_in, Shares.with_commands}
-use Rattle.workers.proofs.DealtRows.{moved, pushed_all}
+use Rattle.workers.specs.Dealing.{AreDoable, HasFitShare, work_in, with_commands}
+use Rattle.workers.proofs.WorkerRows.{moved, pushed_all}
 use Rattle.workers.proofs.worker.share.make_shares.Goals as goal
 
 pub loop-row-init : goal.loop-row-init

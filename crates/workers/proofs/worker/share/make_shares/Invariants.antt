@@ -1,7 +1,7 @@
 use Rattle.std.proofs.Common.{◌≡◌, ◌+◌, ◌≤◌, ◌++◌, All, length, map, vec_len, vec_capacity}
 use Rattle.std.specs.Arc.{arc_value}
 use Rattle.rounds.specs.Plans.{items_of}
-use Rattle.workers.specs.{Dealing.AreDoable, Shares.HasFitShare, Shares.work_in, Shares.with_commands}
+use Rattle.workers.specs.Dealing.{AreDoable, HasFitShare, work_in, with_commands}
 use Rattle.workers.proofs.worker.share.make_shares.Given as goal
 
 abbrev pub invariant-loop-row : goal.invariant-loop-row
