@@ -9,10 +9,9 @@ use Rattle.clap.specs.{Words.Text}
 use Rattle.clap.specs.declared.error.kind.ErrorKind.TheVariants as kind
 use Rattle.player.specs.{declared.command_line.Options.Options, Session.outcome_of, Session.refusal_by}
 use Rattle.player.specs.declared.{refusal.Refusal.Refusal, stop.Stop.Stop}
-use Rattle.player.specs.Session.{EndsOn, Explains, Filing, Filings, IsDescribed, IsLogFor}
-use Rattle.player.specs.Session.{IsOpened, WritesFile, Finishes}
+use Rattle.player.specs.Session.{EndsOn, Explains, Filing, Filings, IsDescribed, IsLogFor, IsOpened, WritesFile, Finishes}
 use Rattle.player.specs.Session.{IsUntouched, PlaysOn, counted_refusals, name_given}
-use Rattle.runs.specs.{Wear.IsWearOf}
+use Rattle.runs.specs.Logs.{IsWearOf}
 use Rattle.player.specs.declared.run_files.RunFile.TheVariants as run_file
 use Rattle.player.specs.declared.stop.Stop.TheVariants as stop
 

@@ -6,8 +6,8 @@ use Rattle.answers.specs.{Delivery.AppendsText, Streams.Passage, Streams.Stream,
 use Rattle.answers.specs.declared.{delivery.OutputFailed.OutputFailed}
 use Rattle.answers.specs.declared.fault.RunFault.TheVariants as run
 use Rattle.answers.specs.Streams.{Portion, TellsIf}
-use Rattle.runs.specs.{Brooms.IsBroomLogOf, Collections.IsLogOf, ByWorkers.WasPlayed, ByWorkers.answers_played, ByWorkers.commands_played}
-use Rattle.runs.specs.{Outputs.IsOutputByWorkers, Outputs.IsOutputOf, Refusals.IsRefusedCount, Refusals.refused_by_workers}
+use Rattle.runs.specs.{Logs.IsBroomLogOf, Logs.IsLogOf, ByWorkers.WasPlayed, ByWorkers.answers_played, ByWorkers.commands_played}
+use Rattle.runs.specs.{Outputs.IsOutputByWorkers, Outputs.IsOutputOf, Playing.IsRefusedCount, Playing.refused_by_workers}
 use Rattle.runs.specs.declared.played_by_workers.PlayedByWorkers.{PlayedByWorkers}
 use Rattle.player.specs.declared.command_line.Options.{Options}
 use Rattle.player.specs.Session.{IsLogBy, IsLogFor, IsOneRun, IsTextBy, IsTextFor, refusal_by, run_options_of}

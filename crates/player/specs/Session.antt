@@ -13,8 +13,8 @@ use Rattle.answers.specs.{Outcome.ExplainsRun, declared.fault.RunFault.RunFault,
 use Rattle.answers.specs.Streams.{Passage, Stream, Tells, over, stream_of, Portion, Nothing, Whole, WritesOut, TellsIf}
 use Rattle.streams.specs.declared.named_file.OpenFault.TheVariants as open_fault
 use Rattle.answers.specs.declared.fault.RunFault.TheVariants as run
-use Rattle.runs.specs.{Brooms.IsBroomLogOf, Collections.IsLogOf, ByWorkers.WasPlayed, ByWorkers.answers_played, ByWorkers.commands_played}
-use Rattle.runs.specs.{Outputs.IsOutputByWorkers, Outputs.IsOutputOf, Refusals.IsRefusedCount, Refusals.refused_by_workers, Wear.IsWearOf}
+use Rattle.runs.specs.{Logs.IsBroomLogOf, Logs.IsLogOf, ByWorkers.WasPlayed, ByWorkers.answers_played, ByWorkers.commands_played}
+use Rattle.runs.specs.{Outputs.IsOutputByWorkers, Outputs.IsOutputOf, Playing.IsRefusedCount, Playing.refused_by_workers, Logs.IsWearOf}
 use Rattle.runs.specs.declared.{files.RunFiles.RunFiles, files.RunOptions.RunOptions, played_by_workers.PlayedByWorkers.PlayedByWorkers}
 use Rattle.runs.specs.Logs.{portion_left}
 use Rattle.player.specs.{CommandLine.AreOptionsOf, CommandLine.faults_given, CommandLine.numbers_given, Telling.TellsEnding}

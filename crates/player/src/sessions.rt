@@ -4,7 +4,7 @@ ghost use Rattle.streams.specs.declared.named_file.OpenFault.{OpenFault};
 ghost use Rattle.answers.specs.Streams.{over, stream_of};
 ghost use Rattle.player.specs.{CommandLine.numbers_given, Session.outcome_of, Session.stop_of_open};
 ghost use Rattle.player.specs.Session.{AnswersClap, EndsOn, EndsSession, Explains, HasFailedToOpen, IsOpened, OpensFiles, counted_refusals, filing, filings};
-ghost use Rattle.runs.specs.{ByWorkers.IsAnswered, ByWorkers.answers_played, ByWorkers.commands_played, Refusals.refused_by_workers};
+ghost use Rattle.runs.specs.{ByWorkers.IsAnswered, ByWorkers.answers_played, ByWorkers.commands_played, Playing.refused_by_workers};
 
 use crate::arguments::options;
 use crate::command_line::Options;

@@ -8,7 +8,7 @@ use Rattle.answers.specs.{Answers.end_text, Answers.line_text, Delivery.IsUnderW
 use Rattle.answers.proofs.Deliveries.{IsUnderWay-more, IsUnderWay-trans}
 use Rattle.rounds.specs.{Lines.Said, Told.Line, Told.answer_text, Told.lines_text, Merging.answer_for, Merging.merge, Merging.next_of, Merging.rows_after}
 use Rattle.rounds.proofs.{Merging.commands_in-merge, Merging.merge-append, Planning.commands_more}
-use Rattle.runs.specs.Delivering.{text_of}
+use Rattle.runs.specs.Texts.{text_of}
 
 -- lines in two parts
 pub lines_text-append : (k : ℕ) (xs ys : List Line) → lines_text k (xs ++ ys) ≡ lines_text k xs ++ lines_text (k + length xs) ys

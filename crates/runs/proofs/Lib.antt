@@ -1,9 +1,7 @@
 mod Plays
-pub mod WearTexts
 pub mod LogTexts
 pub mod DueCollections
 mod Rows
 mod Deliveries
 mod RefusedWrites
 pub mod DeliveredAnswers
-pub mod BroomTexts

@@ -1,20 +1,95 @@
--- The log of one command more, and how a log ends.
-use Rattle.std.proofs.Common.{◌≡◌, ◌≢◌, ℕ, ◌+◌, ◌-◌, ◌≤◌, Bool, true, List, ◌++◌, Option, None, Some, length, refl, subst, sym, ap, ◌∙◌, append_assoc}
-use Rattle.std.{proofs.Common.append-nil, proofs.Common.arith, specs.List.flat_map, specs.List.range_with_len, specs.Io.KnownBytes.Appends}
-use Rattle.std.specs.Prelude.{IfSome, Result}
-use Rattle.geometry.specs.{History.Begins, declared.geometry.Geometry.Geometry}
-use Rattle.ftl_one.specs.{Collections.collection_between, Stock.Stock, declared.collection.Collection.Collection}
-use Rattle.trace.specs.{declared.commands.Command.Command}
-use Rattle.answers.specs.{Answers.collection_names, Lines.waiting_of, Streams.Passage, Streams.Stream, Streams.WritesOut, declared.lines.Lines.Lines}
-use Rattle.answers.specs.Delivery.{AppendsBeginning, AppendsPart, AppendsText, IsUnderWay}
-use Rattle.answers.specs.Streams.{Nothing, Part, Portion, Tells, TellsIf, Whole, Writes, WritesIf, portion_of}
-use Rattle.answers.{specs.declared.delivery.OutputFailed.OutputFailed, proofs.Texts.flat_map_begins, proofs.Texts.flat_map_more}
-use Rattle.answers.proofs.Deliveries.{AppendsBeginning-part, IsUnderWay-more, IsUnderWay-trans, WritesOut-rest}
-use Rattle.runs.specs.Collections.{log_before, log_line, log_part, log_text, told_at}
-use Rattle.runs.specs.{Logs.IsLogged, Logs.is_wanted, Playing.stock_before}
-use Rattle.runs.specs.{Wear.IsStockOf, Wear.IsWearOf, Wear.wear_text, declared.log.Log.Log}
+-- The logs: of one command more and how a log ends, of one broom more, and the wear of one block more.
+use Rattle.std.proofs.Common.{◌≡◌, ℕ, ◌+◌, ◌-◌, ◌<◌, ◌≤◌, List, [], ◌++◌, Option, None, Some, get_or, length, refl, subst, sym, ap, ◌∙◌, append_assoc, arith}
+use Rattle.std.proofs.Common.{◌≢◌, Bool, true, append-nil}
+use Rattle.std.specs.List.{flat_map, range_with_len}
+use Rattle.std.proofs.lemmas.Option.{slice_get_read}
+use Rattle.std.specs.Prelude.{IfSome, Ok, Result}
+use Rattle.std.specs.Option.{option_map_or}
+use Rattle.geometry.specs.History.{Begins}
+use Rattle.geometry.specs.declared.geometry.Geometry.{Geometry}
+use Rattle.trace.specs.Trace.{commands_of}
+use Rattle.trace.specs.declared.commands.Command.{Command}
+use Rattle.answers.specs.Answers.{broom_names, wear_names, collection_names}
+use Rattle.answers.specs.Delivery.{IsUnderWay, AppendsBeginning, AppendsPart, AppendsText}
+use Rattle.answers.proofs.Deliveries.{IsUnderWay-more, IsUnderWay-trans, AppendsBeginning-part, WritesOut-rest}
+use Rattle.answers.proofs.Texts.{flat_map_begins, flat_map_more}
+use Rattle.workers.specs.Served.{AllHaveServed}
+use Rattle.workers.specs.declared.collector.collector_end.CollectorEnd.{CollectorEnd}
+use Rattle.runs.specs.Logs.{IsBroomLogOf, brooms_before, brooms_text, end_line, line_of_broom, block_line, wear_before, log_before, log_line, log_part}
+use Rattle.runs.specs.Logs.{log_text, told_at, beginning_if, IsLogged, is_wanted, IsStockOf, IsWearOf, wear_text}
+use Rattle.ftl_one.specs.Stock.{Stock}
+use Rattle.std.specs.Io.KnownBytes.{Appends}
+use Rattle.ftl_one.specs.Collections.{collection_between}
+use Rattle.ftl_one.specs.declared.collection.Collection.{Collection}
+use Rattle.answers.specs.Lines.{waiting_of}
+use Rattle.answers.specs.Streams.{Passage, Stream, WritesOut, Nothing, Part, Portion, Tells, TellsIf, Whole, Writes, WritesIf, portion_of}
+use Rattle.answers.specs.declared.lines.Lines.{Lines}
+use Rattle.answers.specs.declared.delivery.OutputFailed.{OutputFailed}
+use Rattle.runs.specs.Playing.{stock_before}
 use Rattle.runs.specs.declared.log.Log.TheVariants as log
-use Rattle.runs.specs.Logs.{beginning_if}
+use Rattle.runs.specs.declared.log.Log.{Log}
+
+pub line_is : (ends : List CollectorEnd) (k : ℕ) (end : CollectorEnd) → k < length ends → end ≡ get_or ends k end → line_of_broom ends k ≡ end_line k end
+line_is ends k end low is = ap (λ (o : Option CollectorEnd). option_map_or (end_line k) o []) (slice_get_read ends (length ends) k end refl low is)
+
+brooms_more : (ends : List CollectorEnd) (n : ℕ) → brooms_before ends n ++ line_of_broom ends n ≡ brooms_before ends (n + 1)
+brooms_more ends n =
+    append_assoc broom_names (flat_map (line_of_broom ends) (range_with_len 0 n)) (line_of_broom ends n)
+    ∙ ap (λ rest. broom_names ++ rest) (sym (flat_map_more (line_of_broom ends) n))
+
+-- the text of the first brooms begins that of all
+pub brooms_begins : (ends : List CollectorEnd) (n m : ℕ) → n ≤ m → Begins (brooms_before ends n) (brooms_before ends m)
+brooms_begins ends n m low =
+    let e : n + (m - n) ≡ m = omega arith in
+    let rest = flat_map_begins (line_of_broom ends) n (m - n) in (
+      rest.0,
+      append_assoc broom_names (flat_map (line_of_broom ends) (range_with_len 0 n)) rest.0
+          ∙ (ap (λ lines. broom_names ++ lines) rest.1 ∙ ap (brooms_before ends) e),
+    )
+
+-- a turn of the loop: there is room for a line, then the line of a broom waits
+pub brooms_turn : (ends : List CollectorEnd) (n : ℕ) (end : CollectorEnd) (old new newer : Option (List ℕ)) (waiting later last : List ℕ)
+    → n < length ends → end ≡ get_or ends n end
+    → IsUnderWay old new waiting (brooms_before ends n) → IsUnderWay new newer later waiting → last ≡ later ++ end_line n end
+    → IsUnderWay old newer last (brooms_before ends (n + 1))
+brooms_turn ends n end old new newer waiting later last low is under moved adds =
+    subst (λ l. IsUnderWay old newer l (brooms_before ends (n + 1))) (sym (adds ∙ ap (λ line. later ++ line) (sym (line_is ends n end low is))))
+    (subst (IsUnderWay old newer (later ++ line_of_broom ends n)) (brooms_more ends n)
+    (IsUnderWay-more old newer later (brooms_before ends n) (line_of_broom ends n)
+    (IsUnderWay-trans old new newer later waiting (brooms_before ends n) under moved)))
+
+-- the log of the commands that the bytes mean
+pub brooms_right : (geo : Geometry) (input : Option (List ℕ)) (commands : List Command) (drains : ℕ) (ends : List CollectorEnd)
+    → IfSome input (λ bytes. commands_of bytes geo ≡ Ok commands) → AllHaveServed geo drains ends
+    → IfSome input (λ bytes. IsBroomLogOf drains geo bytes (brooms_text ends))
+brooms_right geo None commands drains ends means served = tt
+brooms_right geo (Some bytes) commands drains ends means served =
+    record { commands = commands; meaning = means; ends = ends; served = served; log = refl }
+
+pub wear_more : (stock : Stock) (n : ℕ) → wear_before stock n ++ block_line stock n ≡ wear_before stock (n + 1)
+wear_more stock n =
+    append_assoc wear_names (flat_map (block_line stock) (range_with_len 0 n)) (block_line stock n)
+    ∙ ap (λ rest. wear_names ++ rest) (sym (flat_map_more (block_line stock) n))
+
+-- the text of the first blocks begins that of all
+pub wear_begins : (stock : Stock) (n m : ℕ) → n ≤ m → Begins (wear_before stock n) (wear_before stock m)
+wear_begins stock n m low =
+    let e : n + (m - n) ≡ m = omega arith in
+    let rest = flat_map_begins (block_line stock) n (m - n) in (
+      rest.0,
+      append_assoc wear_names (flat_map (block_line stock) (range_with_len 0 n)) rest.0
+          ∙ (ap (λ lines. wear_names ++ lines) rest.1 ∙ ap (wear_before stock) e),
+    )
+
+-- a turn of the loop: there is room for a line, then the line of a block waits
+pub wear_turn : (stock : Stock) (n : ℕ) (old new newer : Option (List ℕ)) (waiting later last : List ℕ)
+    → IsUnderWay old new waiting (wear_before stock n) → IsUnderWay new newer later waiting → last ≡ later ++ block_line stock n
+    → IsUnderWay old newer last (wear_before stock (n + 1))
+wear_turn stock n old new newer waiting later last under moved adds =
+    subst (λ l. IsUnderWay old newer l (wear_before stock (n + 1))) (sym adds)
+    (subst (IsUnderWay old newer (later ++ block_line stock n)) (wear_more stock n)
+    (IsUnderWay-more old newer later (wear_before stock n) (block_line stock n)
+    (IsUnderWay-trans old new newer later waiting (wear_before stock n) under moved)))
 
 pub log_none : (geo : Geometry) (commands : List Command) → log_before geo commands 0 ≡ collection_names
 log_none geo commands = append-nil collection_names

@@ -10,7 +10,7 @@ use Rattle.trace.specs.declared.commands.Command.{Command}
 use Rattle.answers.specs.Answers.{calls_of, history_before, line_at, lines_before, line_text, answer_of}
 use Rattle.answers.{specs.Delivery.IsUnderWay, proofs.Texts.array_more, proofs.Texts.flat_map_begins, proofs.Texts.lines_more}
 use Rattle.answers.proofs.Deliveries.{IsUnderWay-more, IsUnderWay-start, IsUnderWay-trans}
-use Rattle.runs.specs.{Outputs.written_of, Steps.ArePlayed, Steps.answers_written}
+use Rattle.runs.specs.{Outputs.written_of, Playing.ArePlayed, Playing.answers_written}
 use Rattle.runs.specs.Playing.{is_refused, stock_after, stock_before, refused_at, end_text, last_line}
 
 -- what holds of each command holds of the one at a place

@@ -10,7 +10,7 @@ use Rattle.trace.specs.declared.commands.Command.{Command}
 use Rattle.answers.proofs.Texts.{range_with_len_more}
 use Rattle.rounds.specs.{Answers.first_place, Lines.Said, Lines.is_full, Merging.answer_for, Merging.merge, Merging.next_of, Merging.rows_after, Told.Line}
 use Rattle.rounds.{specs.declared.answer_list.Cursor.Cursor, proofs.Merging.merge-append, proofs.Planning.commands_more}
-use Rattle.runs.specs.{Playing.is_refused, Playing.refused_at, Playing.stock_before, Refusals.is_full_line, Refusals.refused_before}
+use Rattle.runs.specs.Playing.{is_refused, refused_at, stock_before, is_full_line, refused_before}
 use Rattle.runs.proofs.{Deliveries.length-merge, Plays.refused_is}
 
 -- of a list and one more, as many pass a test as of the list, and perhaps one

@@ -12,7 +12,7 @@ use Rattle.rounds.specs.{Lines.Said, Merging.answers_by, Answers.first_place, An
 use Rattle.rounds.specs.Merging.{is_meet, is_line_of, line_count, lines_for, next_of, rows_after, HaveAnswers}
 use Rattle.rounds.proofs.{Merging.own_line, Planning.at_place, Planning.commands_more, Pages.said_whole}
 use Rattle.rounds.specs.declared.answer_list.{Answers.Answers, Cursor.Cursor}
-use Rattle.runs.specs.Delivering.{AreAt, HasDigits, passed_in}
+use Rattle.runs.specs.Texts.{AreAt, HasDigits, passed_in}
 
 -- the row of a worker
 pub row_is : (rows : List Answers) (w : ℕ) (row : Answers) → row ≡ get_or rows w row → w < length rows → answers_by rows w ≡ said_in row

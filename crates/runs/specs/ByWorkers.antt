@@ -5,7 +5,7 @@ use Rattle.trace.specs.{Trace.commands_of, declared.commands.Command.Command}
 use Rattle.answers.specs.Streams.{Passage, Stream, Whole, Writes, WritesIf}
 use Rattle.rounds.specs.{Lines.Said, Merging.HaveAnswers, Merging.answers_by}
 use Rattle.workers.specs.{Runs.ArePlayed, Served.AllHaveServed}
-use Rattle.runs.specs.{Brooms.brooms_text, Outputs.written_by_workers, declared.files.RunOptions.RunOptions}
+use Rattle.runs.specs.{Logs.brooms_text, Outputs.written_by_workers, declared.files.RunOptions.RunOptions}
 use Rattle.runs.specs.declared.played_by_workers.PlayedByWorkers.{PlayedByWorkers}
 
 -- the commands that a run has played

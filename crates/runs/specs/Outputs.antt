@@ -6,7 +6,7 @@ use Rattle.trace.specs.{Trace.commands_of, declared.commands.Command.Command}
 use Rattle.answers.specs.{Answers.end_text, Outcome.ExplainsRun, Streams.Passage, Streams.Tells, declared.fault.RunFault.RunFault}
 use Rattle.answers.specs.Streams.{Whole}
 use Rattle.rounds.specs.Lines.{Said}
-use Rattle.runs.specs.{Delivering.text_of, Playing.IsTextOf, Playing.last_line, Playing.text_of_commands, Texts.IsTextOf as IsSharedTextOf}
+use Rattle.runs.specs.{Texts.text_of, Playing.IsTextOf, Playing.last_line, Playing.text_of_commands, Texts.IsTextOf as IsSharedTextOf}
 
 -- what a run by one thread writes of the text of its commands: all of it, or if the answers aren't wanted only the last line
 abbrev pub written_of : Bool → Geometry → List Command → List ℕ

@@ -1,10 +1,21 @@
--- The whole text of a run with one thread.
-use Rattle.std.specs.Prelude.{◌≡◌, ℕ, Bool, false, List, ◌++◌, length, take, codes, is_none, slice_get, unwrap_or, Ok}
-use Rattle.std.specs.{Option.option_map_or, List.fold}
-use Rattle.geometry.specs.{Geometry.sectors_of, History.Call, Sectors.sector_at, declared.geometry.Geometry.Geometry}
-use Rattle.ftl_one.specs.{OneFtl.geometry_of, OneFtl.stock_of, OneFtl.array_of, Stock.Stock, Stock.opening, Stock.next, declared.one_ftl.OneFtl.OneFtl}
-use Rattle.trace.specs.{Trace.commands_of, declared.commands.Command.Command}
-use Rattle.answers.specs.Answers.{answer_of, answers, call_of, line_text, totals_text}
+-- The whole text of a run with one thread, the run while it is played, and the writes that it refuses, by how many there are.
+use Rattle.std.specs.Prelude.{◌≡◌, ℕ, Bool, false, List, ◌++◌, length, take, codes, is_none, slice_get, unwrap_or, Ok, true, [], Option}
+use Rattle.std.specs.Option.{option_map_or}
+use Rattle.std.specs.List.{fold, filter, range_with_len}
+use Rattle.geometry.specs.Geometry.{sectors_of}
+use Rattle.geometry.specs.History.{Call, after}
+use Rattle.geometry.specs.Sectors.{sector_at, Sector}
+use Rattle.geometry.specs.declared.geometry.Geometry.{Geometry}
+use Rattle.ftl_one.specs.OneFtl.{geometry_of, stock_of, array_of}
+use Rattle.ftl_one.specs.Stock.{Stock, opening, next}
+use Rattle.ftl_one.specs.declared.one_ftl.OneFtl.{OneFtl}
+use Rattle.trace.specs.Trace.{commands_of}
+use Rattle.trace.specs.declared.commands.Command.{Command}
+use Rattle.answers.specs.Answers.{answer_of, answers, call_of, line_text, totals_text, history_before, lines_before}
+use Rattle.rounds.specs.Lines.{Said, is_full}
+use Rattle.rounds.specs.Merging.{merge}
+use Rattle.rounds.specs.Told.{Line}
+use Rattle.answers.specs.Delivery.{IsUnderWay}
 
 -- whether a call is refused at a stock
 abbrev pub is_worn : Geometry → Stock → Call → Bool
@@ -55,3 +66,33 @@ pub record IsTextOf (geo : Geometry) (bytes text : List ℕ) : Type 0 where
   pub commands : List Command
   pub meaning : commands_of bytes geo ≡ Ok commands
   pub answers : text ≡ text_of_commands geo commands
+
+-- how many of the first commands a run by one thread refuses
+abbrev pub refused_before : Geometry → List Command → ℕ → ℕ
+refused_before geo commands n = length (filter (refused_at geo commands) (range_with_len 0 n))
+
+-- a run by one thread of the commands that these bytes mean refuses so many of them
+pub record IsRefusedCount (geo : Geometry) (bytes : List ℕ) (count : ℕ) : Type 0 where
+  pub commands : List Command
+  pub meaning : commands_of bytes geo ≡ Ok commands
+  pub count_is : count ≡ refused_before geo commands (length commands)
+
+-- whether a line was refused, since it found no block
+abbrev pub is_full_line : Line → Bool
+is_full_line line = is_full line.kind
+
+-- how many lines of a run by workers were refused, by the answers of each worker
+abbrev pub refused_by_workers : List Command → (ℕ → List Said) → ℕ
+refused_by_workers commands rows = length (filter is_full_line (merge commands rows))
+
+-- the answers of the first n commands, if they are written
+abbrev pub answers_written : Bool → Geometry → List Command → ℕ → List ℕ
+answers_written true geo commands n = lines_before (codes "worn") (sectors_of geo) (refused_at geo commands) commands n
+answers_written false geo commands n = []
+
+-- the first n commands were played: this is the array, the stock, and the text so far
+pub record ArePlayed (wanted : Bool) (geo : Geometry) (commands : List Command) (n : ℕ) (array : List Sector) (stock : Stock)
+    (old new : Option (List ℕ)) (waiting : List ℕ) : Type 0 where
+  pub array_is : array ≡ after (sectors_of geo) (history_before (refused_at geo commands) commands n)
+  pub stock_is : stock ≡ stock_before geo commands n
+  pub text : IsUnderWay old new waiting (answers_written wanted geo commands n)

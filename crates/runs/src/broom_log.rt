@@ -2,7 +2,7 @@
 ghost use Rattle.std.specs.Prelude.{◌≡◌, [], IfOk, IfSome, is_some};
 ghost use Rattle.answers.specs.{Lines.waiting_of, Streams.WritesOut, Streams.over};
 ghost use Rattle.answers.specs.Streams.{WritesIf};
-ghost use Rattle.runs.specs.{Brooms.brooms_text, Brooms.counts_of};
+ghost use Rattle.runs.specs.Logs.{brooms_text, counts_of};
 
 use answers::{BroomLine, Lines, OutputFailed};
 use geometry::Geometry;

@@ -6,7 +6,7 @@ ghost use Rattle.answers.specs.Streams.{WritesOut, over};
 ghost use Rattle.answers.specs.declared.reply.Reply.TheVariants as replies;
 ghost use Rattle.rounds.specs.{Answers.page_size_of, Lines.Said, Merging.is_meet, Merging.HaveAnswers, Told.answer_text, Merging.answers_by};
 ghost use Rattle.rounds.specs.declared.answer.Kind.TheVariants as kinds;
-ghost use Rattle.runs.specs.Delivering.{AreAt, HasDigits, digits_in, line_of, next_of, passed, passed_in, said_as, text_of, workers_in};
+ghost use Rattle.runs.specs.Texts.{AreAt, HasDigits, digits_in, line_of, next_of, passed, passed_in, said_as, text_of, workers_in};
 ghost use Rattle.runs.specs.Outputs.{written_by_workers};
 
 use crate::delivery::Delivery;

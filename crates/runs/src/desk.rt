@@ -6,7 +6,7 @@ ghost use Rattle.trace.specs.declared.commands.Op.TheVariants as ops;
 ghost use Rattle.answers.specs.{Answers.calls_of, Answers.found_text, Answers.line_text, Answers.wear_names, Lines.page_digits_of, Lines.waiting_of};
 ghost use Rattle.answers.specs.{Playable.IsPlayable, declared.line.TheConstants.PIECE_BYTES};
 ghost use Rattle.answers.specs.Streams.{FailsBy, Moves, Part, Writes, WritesOut, over};
-ghost use Rattle.runs.specs.{Playing.end_text, Playing.is_refused, Playing.line_by, Playing.stock_after, Wear.block_line};
+ghost use Rattle.runs.specs.{Playing.end_text, Playing.is_refused, Playing.line_by, Playing.stock_after, Logs.block_line};
 
 use crate::perform::perform;
 use answers::{Lines, OutputFailed, Reply};

@@ -2,7 +2,7 @@
 ghost use Rattle.std.specs.Prelude.{◌≡◌, ℕ, [], ◌∷◌};
 ghost use Rattle.answers.specs.Lines.{page_digits_of};
 ghost use Rattle.rounds.specs.declared.answer_list.Cursor.{Cursor};
-ghost use Rattle.runs.specs.{Delivering.digits_in, Delivering.workers_in, declared.delivery.Delivery.Delivery};
+ghost use Rattle.runs.specs.{Texts.digits_in, Texts.workers_in, declared.delivery.Delivery.Delivery};
 
 /// For how many workers, and for how many digits of a page, a delivery has room.
 pub fn room_for_a_delivery()

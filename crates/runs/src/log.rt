@@ -2,7 +2,7 @@ ghost use Rattle.std.specs.Prelude.{◌≡◌, [], ◌++◌, List, ℕ, IfOk};
 ghost use Rattle.ftl_one.specs.OneFtl.{geometry_of, stock_of};
 ghost use Rattle.answers.specs.{Answers.collection_names, Streams.Stream, Streams.stream_of};
 ghost use Rattle.answers.specs.Streams.{WritesIf};
-ghost use Rattle.runs.specs.{Collections.log_part, Logs.IsLogged, Logs.IsOpen, Logs.due_before, Logs.is_wanted};
+ghost use Rattle.runs.specs.Logs.{log_part, IsLogged, IsOpen, due_before, is_wanted};
 
 use answers::{Lines, OutputFailed};
 use ftl_one::{Collection, OneFtl};

@@ -4,7 +4,7 @@ ghost use Rattle.geometry.specs.Geometry.{brooms_of, hosts_of};
 ghost use Rattle.streams.specs.Watched.{failures_of, inner_of};
 ghost use Rattle.answers.specs.{Outcome.ExplainsRun, Streams.Tells, Streams.over, Streams.stream_of};
 ghost use Rattle.answers.specs.Streams.{Whole, TellsIf};
-ghost use Rattle.runs.specs.{Brooms.IsBroomLogOf, ByWorkers.WasPlayed, Outputs.ExplainsEnd, Outputs.IsOutputByWorkers, Texts.IsTextOf};
+ghost use Rattle.runs.specs.{Logs.IsBroomLogOf, ByWorkers.WasPlayed, Outputs.ExplainsEnd, Outputs.IsOutputByWorkers, Texts.IsTextOf};
 
 use crate::broom_log::{log_room, tell_brooms_if};
 use crate::delivery::Delivery;

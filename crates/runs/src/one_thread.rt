@@ -5,10 +5,9 @@ ghost use Rattle.ftl_one.specs.{OneFtl.geometry_of, OneFtl.array_of, OneFtl.stoc
 ghost use Rattle.streams.specs.Watched.{failures_of, inner_of};
 ghost use Rattle.answers.specs.{Answers.collection_names, Lines.waiting_of, Outcome.ExplainsRun, Playable.IsPlayable};
 ghost use Rattle.answers.specs.Streams.{Tells, WritesOut, over, stream_of, Whole, Writes, TellsIf};
-ghost use Rattle.runs.specs.{Collections.IsLogOf, Collections.log_text, Wear.IsStockOf, Wear.IsWearOf};
+ghost use Rattle.runs.specs.Logs.{IsLogOf, log_text, IsStockOf, IsWearOf, beginning_if, portion_left};
 ghost use Rattle.runs.specs.{Logs.IsLogUnderWay, Logs.IsLogged, Logs.is_wanted, Outputs.ExplainsEnd, Outputs.IsOutputOf, Outputs.written_of};
-ghost use Rattle.runs.specs.{Playing.IsTextOf, Playing.stock_before, Refusals.IsRefusedCount, Refusals.refused_before};
-ghost use Rattle.runs.specs.Logs.{beginning_if, portion_left};
+ghost use Rattle.runs.specs.Playing.{IsTextOf, stock_before, IsRefusedCount, refused_before};
 
 use crate::desk::Desk;
 use crate::files::{RunFiles, Wanted, Written};

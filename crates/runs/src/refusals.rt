@@ -1,7 +1,7 @@
 //! How many writes a run by workers refused.
 ghost use Rattle.std.specs.{Prelude.◌≡◌, Prelude.false, Prelude.length, Prelude.option_map, Prelude.replicate, Option.option_map_or};
 ghost use Rattle.rounds.specs.{Answers.first_place, Lines.Said, Lines.is_full, Merging.HaveAnswers, Merging.answers_by};
-ghost use Rattle.runs.specs.{ByWorkers.IsAnswered, ByWorkers.answers_played, ByWorkers.commands_played, Delivering.said_as, Refusals.refused_by_workers};
+ghost use Rattle.runs.specs.{ByWorkers.IsAnswered, ByWorkers.answers_played, ByWorkers.commands_played, Texts.said_as, Playing.refused_by_workers};
 
 use crate::delivering::next_answer;
 use crate::played_by_workers::PlayedByWorkers;

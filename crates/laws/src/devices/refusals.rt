@@ -8,7 +8,7 @@ ghost use Rattle.player.specs.{Telling.refusal_text, Telling.text_of, declared.c
 ghost use Rattle.player.specs.declared.refusal.Refusal.TheVariants as refusal;
 ghost use Rattle.player.specs.declared.stop.Stop.TheVariants as stop;
 ghost use Rattle.rounds.specs.declared.answer.Kind.TheVariants as kind;
-ghost use Rattle.runs.specs.{Playing.refused_at, Refusals.IsRefusedCount, Refusals.refused_before, Refusals.refused_by_workers};
+ghost use Rattle.runs.specs.Playing.{refused_at, IsRefusedCount, refused_before, refused_by_workers};
 ghost use Rattle.trace.specs.{Trace.commands_of, declared.commands.Command.Command, declared.fault.TraceFault.TraceFault};
 ghost use Rattle.trace.specs.declared.commands.Op.TheVariants as op;
 ghost use Rattle.laws.specs.Rounds.{meeting, plain_line, rows_with, says};

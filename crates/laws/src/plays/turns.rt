@@ -6,7 +6,7 @@ ghost use Rattle.broom.specs.declared.answer.{Drain.Drain, Erase.Erase};
 ghost use Rattle.broom.specs.declared.answer.Drain.TheVariants as drain;
 ghost use Rattle.geometry.specs.{Geometry.hosts_of, declared.geometry.Geometry.Geometry};
 ghost use Rattle.rounds.specs.{Lines.Said, Merging.HaveAnswers};
-ghost use Rattle.runs.specs.{Brooms.brooms_text, ByWorkers.WasPlayed, ByWorkers.answers_played, ByWorkers.commands_played, Delivering.text_of};
+ghost use Rattle.runs.specs.{Logs.brooms_text, ByWorkers.WasPlayed, ByWorkers.answers_played, ByWorkers.commands_played, Texts.text_of};
 ghost use Rattle.runs.specs.{Outputs.written_by_workers, declared.files.RunOptions.RunOptions, declared.played_by_workers.PlayedByWorkers.PlayedByWorkers};
 ghost use Rattle.trace.specs.{Trace.commands_of, declared.commands.Command.Command};
 ghost use Rattle.workers.specs.{Collecting.HasCollected, Collecting.HaveCollected, Runs.ArePlayed, Served.AllHaveServed, Turns.Follows};

@@ -26,7 +26,7 @@ ghost use Rattle.player.specs.declared.run_files.FileStop.TheVariants as file_st
 ghost use Rattle.player.specs.declared.run_files.RunFile.TheVariants as run_file;
 ghost use Rattle.player.specs.declared.stop.Stop.TheVariants as stop;
 ghost use Rattle.rounds.specs.{Answers.HasSpace, Answers.HasSpaceFor, Answers.page_size_of, Lines.Said, declared.answer_list.Answers.Answers};
-ghost use Rattle.runs.specs.{Delivering.text_of, Playing.end_text, Playing.is_refused, Playing.stock_after, Wear.block_line, Wear.wear_text};
+ghost use Rattle.runs.specs.{Texts.text_of, Playing.end_text, Playing.is_refused, Playing.stock_after, Logs.block_line, Logs.wear_text};
 ghost use Rattle.trace.specs.{Faults.kind_name, Trace.checked, Trace.command_of, Trace.records_of};
 ghost use Rattle.streams.specs.Watched.{failures_of, inner_of};
 ghost use Rattle.trace.specs.declared.fault.TraceFault.{TraceFault};

@@ -16,9 +16,8 @@ ghost use Rattle.player.specs.declared.run_files.RunFile.TheVariants as run_file
 ghost use Rattle.player.specs.Session.{Finishes, IsLogFor, counted_refusals, outcome_of, refusal_by};
 ghost use Rattle.player.specs.declared.stop.Stop.{Stop};
 ghost use Rattle.player.specs.declared.stop.Stop.TheVariants as stop;
-ghost use Rattle.runs.specs.Wear.{IsWearOf};
-ghost use Rattle.runs.specs.{Brooms.IsBroomLogOf, Outputs.IsLastLineOf, Outputs.IsOutputByWorkers, Outputs.IsOutputOf};
-ghost use Rattle.runs.specs.Collections.{IsLogOf};
+ghost use Rattle.runs.specs.Logs.{IsWearOf, IsLogOf};
+ghost use Rattle.runs.specs.{Logs.IsBroomLogOf, Outputs.IsLastLineOf, Outputs.IsOutputByWorkers, Outputs.IsOutputOf};
 ghost use Rattle.streams.specs.{Watched.failures_of, Watched.inner_of, declared.named_file.OpenFault.OpenFault, declared.watched.Watched.Watched};
 ghost use Rattle.streams.specs.declared.named_file.OpenFault.TheVariants as open_fault;
 ghost use Rattle.laws.specs.Sessions.{EndsBy, EndsWith, Gives, PlaysAll, Reports, in_use, named_b, system_refused, unknown_files, untold, untold_bytes};

@@ -1,7 +1,7 @@
 ghost use Rattle.std.specs.Prelude.{◌≡◌, ℕ, List, [], Ok, Err};
 ghost use Rattle.answers.specs.Answers.{broom_names, collection_names, end_text, totals_text};
 ghost use Rattle.geometry.specs.{Geometry.brooms_of, declared.geometry.Geometry.Geometry};
-ghost use Rattle.runs.specs.{Brooms.IsBroomLogOf, Brooms.brooms_text, Collections.IsLogOf, Playing.IsTextOf, Texts.IsTextOf as IsSharedTextOf, Wear.IsWearOf};
+ghost use Rattle.runs.specs.{Logs.IsBroomLogOf, Logs.brooms_text, Logs.IsLogOf, Playing.IsTextOf, Texts.IsTextOf as IsSharedTextOf, Logs.IsWearOf};
 ghost use Rattle.trace.specs.{Trace.commands_of, declared.fault.TraceFault.TraceFault};
 ghost use Rattle.workers.specs.Served.{AllHaveServed};
 

@@ -1,6 +1,6 @@
 use Rattle.std.{proofs.Common.ap, proofs.Common.sym}
 use Rattle.answers.specs.Streams.{over, stream_of}
-use Rattle.runs.specs.Wear.{IsWearOf}
+use Rattle.runs.specs.Logs.{IsWearOf}
 use Rattle.player.specs.{Session.IsLogFor, Session.filings, Session.refusal_by}
 use Rattle.player.proofs.Endings.{file_ended, run_ended}
 use Rattle.player.proofs.RunTexts.{one_log, one_run, one_text}

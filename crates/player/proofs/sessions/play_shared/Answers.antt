@@ -2,7 +2,7 @@ use Rattle.std.proofs.Common.{◌∙◌, subst, sym}
 use Rattle.std.specs.Prelude.{Bool, Ok, not}
 use Rattle.answers.specs.Streams.{Stream, over, stream_of, Whole}
 use Rattle.geometry.specs.Geometry.{hosts_of}
-use Rattle.runs.specs.{ByWorkers.WasPlayed, ByWorkers.answers_played, ByWorkers.commands_played, Refusals.refused_by_workers, Wear.IsWearOf}
+use Rattle.runs.specs.{ByWorkers.WasPlayed, ByWorkers.answers_played, ByWorkers.commands_played, Playing.refused_by_workers, Logs.IsWearOf}
 use Rattle.player.specs.{Session.IsLogFor, Session.filings, Session.run_options_of}
 use Rattle.player.proofs.Endings.{file_ended, run_ended, unnamed}
 use Rattle.player.proofs.RunTexts.{shared_log, shared_refusal, shared_run, shared_text}

@@ -2,7 +2,7 @@ use Rattle.std.proofs.Common.{◌≡◌, ◌++◌, ◌∙◌, ap, length, arith,
 use Rattle.streams.specs.Watched.{inner_of}
 use Rattle.answers.specs.{Answers.broom_line, Delivery.IsUnderWay, Lines.waiting_of, Streams.stream_of}
 use Rattle.answers.proofs.Deliveries.{WritesOut-rest, WritesOut-stopped}
-use Rattle.runs.{specs.Brooms.brooms_before, specs.Brooms.brooms_text, proofs.BroomTexts.brooms_begins, proofs.BroomTexts.brooms_turn}
+use Rattle.runs.{specs.Logs.brooms_before, specs.Logs.brooms_text, proofs.LogTexts.brooms_begins, proofs.LogTexts.brooms_turn}
 use Rattle.runs.proofs.broom_log.tell_brooms.Goals as goal
 
 pub loop-k-preserved : goal.loop-k-preserved

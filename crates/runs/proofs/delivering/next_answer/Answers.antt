@@ -1,7 +1,7 @@
 use Rattle.std.proofs.{Common.◌+◌, Common.◌<◌, Common.get_or, Common.length, Common.ap, Common.arith, Common.sym, Common.◌∙◌, lemmas.List.get_or-map}
 use Rattle.std.{proofs.lemmas.List.map-set, specs.Prelude.if◌then◌else◌, specs.Prelude.slice_get, specs.Prelude.slice_set, specs.Prelude.None}
 use Rattle.rounds.{specs.Answers.first_place, specs.Answers.answer_index, proofs.Planning.is_line, specs.Merging.answers_by}
-use Rattle.runs.{specs.Delivering.passed_in, proofs.Rows.at_more, proofs.Rows.row_is, proofs.Rows.row_there}
+use Rattle.runs.{specs.Texts.passed_in, proofs.Rows.at_more, proofs.Rows.row_is, proofs.Rows.row_there}
 use Rattle.runs.proofs.delivering.next_answer.Goals as goal
 
 pub returns : goal.returns

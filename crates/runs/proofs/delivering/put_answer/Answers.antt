@@ -1,5 +1,5 @@
 use Rattle.std.proofs.Common.{ap, option_map}
-use Rattle.runs.specs.Delivering.{said_as}
+use Rattle.runs.specs.Texts.{said_as}
 use Rattle.runs.proofs.delivering.put_answer.Goals as goal
 
 pub answer-requires-in-Some-clause-page : goal.answer-requires-in-Some-clause-page

@@ -1,6 +1,6 @@
 use Rattle.std.proofs.Common.{◌∙◌, ap, cond, ltb, sym, None}
 use Rattle.ftl_one.specs.{Collections.collection_between, OneFtl.geometry_of, OneFtl.stock_of}
-use Rattle.runs.{specs.Collections.log_part, proofs.DueCollections.made_is}
+use Rattle.runs.{specs.Logs.log_part, proofs.DueCollections.made_is}
 use Rattle.runs.proofs.logged.answer_logged.Goals as goal
 
 pub returns-clause-logged : goal.returns-clause-logged

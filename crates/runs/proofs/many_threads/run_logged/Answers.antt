@@ -6,8 +6,8 @@ use Rattle.answers.specs.{Playable.IsPlayable, Streams.over, Streams.stream_of}
 use Rattle.answers.specs.Streams.{Whole, Writes, WritesIf}
 use Rattle.rounds.specs.{Merging.answers_by, Answers.page_size_of, declared.answer_list.Answers.Answers}
 use Rattle.geometry.specs.Geometry.{page_bytes_of}
-use Rattle.runs.specs.{Delivering.digits_in, Outputs.written_by_workers, Brooms.IsBroomLogOf, Brooms.brooms_text}
-use Rattle.runs.proofs.{BroomTexts.brooms_right, LogTexts.ends_file}
+use Rattle.runs.specs.{Texts.digits_in, Outputs.written_by_workers, Logs.IsBroomLogOf, Logs.brooms_text}
+use Rattle.runs.proofs.LogTexts.{brooms_right, ends_file}
 use Rattle.runs.proofs.DeliveredAnswers.{all_digits, enough_answers, part_sent, renamed, renamed_meaning, some_meaning, text_sent}
 use Rattle.workers.specs.{declared.collector.collector_end.CollectorEnd.CollectorEnd, Served.AllHaveServed}
 use Rattle.runs.proofs.many_threads.run_logged.Goals as goal

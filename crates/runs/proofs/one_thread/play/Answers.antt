@@ -3,7 +3,7 @@ use Rattle.ftl_one.specs.OneFtl.{geometry_of, array_of, stock_of}
 use Rattle.streams.specs.Watched.{inner_of}
 use Rattle.answers.specs.{Lines.waiting_of, Streams.over, Streams.stream_of, Playable.IsPlayable}
 use Rattle.answers.proofs.Deliveries.{OnErr-any, WritesOut-rest, WritesOut-stopped}
-use Rattle.runs.specs.{Collections.log_before, Logs.IsLogged, Outputs.written_of, Steps.ArePlayed, Steps.answers_written}
+use Rattle.runs.specs.{Logs.log_before, Logs.IsLogged, Outputs.written_of, Playing.ArePlayed, Playing.answers_written}
 use Rattle.runs.proofs.{LogTexts.log_left_of, LogTexts.log_none, LogTexts.log_turn, RefusedWrites.refused_few, RefusedWrites.refused_turn}
 use Rattle.runs.proofs.Plays.{All-at, ArePlayed-none, ArePlayed-turn, text_whole, lines_begin}
 use Rattle.runs.proofs.one_thread.play.Goals as goal

@@ -3,7 +3,7 @@ use Rattle.geometry.specs.Geometry.{page_bytes_of}
 use Rattle.ftl_one.specs.OneFtl.{geometry_of, array_of, stock_of}
 use Rattle.streams.specs.Watched.{failures_of, inner_of}
 use Rattle.answers.specs.{Lines.waiting_of, Streams.over}
-use Rattle.runs.specs.{Collections.log_before, Logs.IsLogged, Logs.is_wanted, Refusals.refused_before, Steps.ArePlayed}
+use Rattle.runs.specs.{Logs.log_before, Logs.IsLogged, Logs.is_wanted, Playing.refused_before, Playing.ArePlayed}
 use Rattle.runs.proofs.one_thread.play.Given as goal
 
 abbrev pub invariant-loop-i : goal.invariant-loop-i

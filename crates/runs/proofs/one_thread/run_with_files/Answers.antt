@@ -2,7 +2,7 @@ use Rattle.std.proofs.Common.{subst}
 use Rattle.ftl_one.specs.OneFtl.{stock_of}
 use Rattle.geometry.specs.declared.geometry.Geometry.{Geometry}
 use Rattle.answers.specs.Streams.{over, stream_of, WritesIf}
-use Rattle.runs.specs.{Collections.IsLogOf, Wear.IsWearOf, Wear.wear_text}
+use Rattle.runs.specs.Logs.{IsLogOf, IsWearOf, wear_text}
 use Rattle.runs.proofs.LogTexts.{ends_file, wear_right}
 use Rattle.runs.proofs.one_thread.run_with_files.Goals as goal
 

@@ -1,7 +1,7 @@
 use Rattle.std.proofs.Common.{◌+◌, ◌≤◌, ◌∙◌, length, ap, arith, refl, subst, sym}
 use Rattle.std.{proofs.lemmas.List.length-map}
 use Rattle.rounds.specs.{Answers.answer_index, Merging.answers_by}
-use Rattle.runs.{specs.Delivering.passed_in, proofs.RefusedWrites.lines_few, proofs.RefusedWrites.lines_turn}
+use Rattle.runs.{specs.Texts.passed_in, proofs.RefusedWrites.lines_few, proofs.RefusedWrites.lines_turn}
 use Rattle.runs.proofs.{RefusedWrites.bit_is, RefusedWrites.bit_low, Rows.all_at, Rows.next_is, Rows.next_more, Rows.next_there, Rows.none_passed}
 use Rattle.runs.proofs.refusals.count_refused.Goals as goal
 

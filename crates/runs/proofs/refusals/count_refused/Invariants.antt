@@ -1,6 +1,6 @@
 use Rattle.std.proofs.Common.{◌≡◌, length}
 use Rattle.rounds.specs.Merging.{answers_by}
-use Rattle.runs.{specs.Delivering.AreAt, specs.Delivering.passed_in, proofs.RefusedWrites.lines_refused, proofs.Rows.AreNext}
+use Rattle.runs.{specs.Texts.AreAt, specs.Texts.passed_in, proofs.RefusedWrites.lines_refused, proofs.Rows.AreNext}
 use Rattle.runs.proofs.refusals.count_refused.Given as goal
 
 abbrev pub invariant-loop-i : goal.invariant-loop-i

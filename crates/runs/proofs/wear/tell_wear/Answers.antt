@@ -4,7 +4,7 @@ use Rattle.ftl_one.specs.OneFtl.{geometry_of, stock_of}
 use Rattle.streams.specs.Watched.{inner_of}
 use Rattle.answers.specs.{Delivery.IsUnderWay, Lines.waiting_of, Streams.stream_of}
 use Rattle.answers.proofs.Deliveries.{WritesOut-rest, WritesOut-stopped}
-use Rattle.runs.{specs.Wear.wear_before, specs.Wear.wear_text, proofs.WearTexts.wear_begins, proofs.WearTexts.wear_turn}
+use Rattle.runs.{specs.Logs.wear_before, specs.Logs.wear_text, proofs.LogTexts.wear_begins, proofs.LogTexts.wear_turn}
 use Rattle.runs.proofs.wear.tell_wear.Goals as goal
 
 pub loop-block-preserved : goal.loop-block-preserved

@@ -3,7 +3,7 @@ use Rattle.std.proofs.lemmas.{Grind.common_steps, List.length-map}
 use Rattle.answers.{specs.Lines.waiting_of, specs.Streams.stream_of, proofs.Deliveries.WritesOut-rest, proofs.Deliveries.WritesOut-stopped}
 use Rattle.streams.specs.Watched.{inner_of}
 use Rattle.rounds.specs.{Merging.answers_by, Answers.answer_index, declared.answer_list.Cursor.Cursor}
-use Rattle.runs.specs.Delivering.{AreAt, digits_in, passed_in, text_of, HasDigits}
+use Rattle.runs.specs.Texts.{AreAt, digits_in, passed_in, text_of, HasDigits}
 use Rattle.runs.proofs.Deliveries.{delivery_turn, delivery_whole, text_before, text_begins}
 use Rattle.runs.proofs.Rows.{all_digits, answer_found, lent, none_passed, all_at, next_is, next_more, next_there, AreNext}
 use Rattle.runs.proofs.delivery.Delivery.deliver.Goals as goal

@@ -2,7 +2,7 @@ use Rattle.std.proofs.Common.{◌≡◌, length}
 use Rattle.streams.specs.Watched.{failures_of, inner_of}
 use Rattle.answers.specs.{Delivery.IsUnderWay, Lines.page_digits_of, Lines.waiting_of}
 use Rattle.rounds.specs.Merging.{answers_by}
-use Rattle.runs.{specs.Delivering.AreAt, specs.Delivering.digits_in, specs.Delivering.passed_in, proofs.Deliveries.text_before, proofs.Rows.AreNext}
+use Rattle.runs.{specs.Texts.AreAt, specs.Texts.digits_in, specs.Texts.passed_in, proofs.Deliveries.text_before, proofs.Rows.AreNext}
 use Rattle.runs.proofs.delivery.Delivery.deliver.Given as goal
 
 abbrev pub invariant-loop-i : goal.invariant-loop-i

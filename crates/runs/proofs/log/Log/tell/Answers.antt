@@ -1,6 +1,6 @@
 use Rattle.std.proofs.Common.{◌∙◌, ap, refl, subst, sym}
 use Rattle.answers.specs.Streams.{stream_of}
-use Rattle.runs.specs.{Collections.log_part, Logs.IsLogged, Logs.IsOpen, declared.log.Log.Log}
+use Rattle.runs.specs.{Logs.log_part, Logs.IsLogged, Logs.IsOpen, declared.log.Log.Log}
 use Rattle.runs.proofs.LogTexts.{fails_open, shut_more, tells_open}
 use Rattle.runs.proofs.log.Log.tell.Goals as goal
 
