@@ -2,6 +2,4 @@
 pub mod Pages
 pub mod Die
 -- How the die keeps its pages: internal.
-pub mod Slots
 pub mod Storage
-pub mod Sound

@@ -1,6 +1,6 @@
 ghost use Rattle.std.specs.Prelude.{◌≡◌, ℕ, ◌+◌, ◌*◌, ◌<◌, ◌≤◌, IfOk, length, slice_index_or, if◌then◌else◌, ◌==◌};
 ghost use Rattle.geometry.specs.Geometry.{blocks_of, pages_of, page_bytes_of, endurance_of, lun_of};
-ghost use Rattle.die.specs.Sound.{IsSound, unused};
+ghost use Rattle.die.specs.Storage.{IsSound, unused};
 
 use crate::block_state::BlockState;
 use crate::slots::{get_page, lend_page, move_page, put_page};

@@ -1,5 +1,5 @@
 ghost use Rattle.std.specs.Prelude.{◌≡◌, ◌≢◌, ◌+◌, ◌*◌, ◌≤◌, length};
-ghost use Rattle.die.specs.Slots.{slot, PutsSlot};
+ghost use Rattle.die.specs.Storage.{slot, PutsSlot};
 
 /// Copies the page at an index out of the bytes of all pages.
 pub(crate) fn get_page(bytes: &[u8], place: usize, out: &mut [u8])

@@ -2,8 +2,8 @@
 ghost use Rattle.std.specs.Prelude.{◌≡◌, ◌+◌, ◌-◌, ◌^◌, [], ◌∷◌, length, true, false};
 ghost use Rattle.die.specs.Die as die;
 ghost use Rattle.die.specs.Die.{ChangesBlock, IsNext, IsProgrammed, IsUsable, block_of, copybacks_of, geometry_of, one_more};
-ghost use Rattle.die.specs.{Pages.Block, Pages.Page, Pages.erased, Pages.new_block, Pages.page_at, Pages.programmed, Slots.PutsSlot, Slots.slot};
-ghost use Rattle.die.specs.{Sound.IsSound, Sound.unused, declared.die.Die.Die};
+ghost use Rattle.die.specs.{Pages.Block, Pages.Page, Pages.erased, Pages.new_block, Pages.page_at, Pages.programmed, Storage.PutsSlot, Storage.slot};
+ghost use Rattle.die.specs.{Storage.IsSound, Storage.unused, declared.die.Die.Die};
 ghost use Rattle.geometry.specs.{Geometry.blocks_of, Geometry.pages_of, declared.geometry.Geometry.Geometry};
 ghost use Rattle.laws.specs.Blocks.{at, in_state};
 

@@ -1,5 +1,5 @@
 use Rattle.std.proofs.Common.{◌≡◌, ◌∙◌, ℕ, ◌+◌, ◌-◌, ◌*◌, length, take, drop, ap, arith}
-use Rattle.die.specs.Slots.{slot}
+use Rattle.die.specs.Storage.{slot}
 use Rattle.die.proofs.slots.get_page.Goals as goal
 
 pub returns : goal.returns

@@ -1,7 +1,7 @@
 use Rattle.std.proofs.Common.{◌≡◌, ℕ, ◌+◌, ◌*◌, ◌<◌, ◌≤◌, List, ◌++◌, length, take, drop, sym, ap, ◌∙◌, subst, arith, length-drop}
 use Rattle.std.proofs.{Math.Nat.mul-le-mul_right, Math.Seq.paste, lemmas.List.length-take-le, lemmas.List.take_all}
-use Rattle.die.proofs.Cells.{PutsSlot-paste, PutsSlot-below, paste-above, slot-front}
-use Rattle.die.specs.Slots.{PutsSlot, slot}
+use Rattle.die.proofs.Blocks.{PutsSlot-paste, PutsSlot-below, paste-above, slot-front}
+use Rattle.die.specs.Storage.{PutsSlot, slot}
 use Rattle.die.proofs.slots.move_page.Goals as goal
 
 pub returns-then-from-to : goal.returns-then-from-to

@@ -1,6 +1,6 @@
 use Rattle.std.proofs.Common.{◌≡◌, ◌+◌, ◌*◌, length, sym, refl, subst, arith, List, ℕ, take, ◌-◌}
 use Rattle.std.proofs.{Math.Seq.paste, lemmas.Slice.put_mid-paste, lemmas.List.take_all}
-use Rattle.die.{proofs.Cells.PutsSlot-paste, specs.Slots.PutsSlot}
+use Rattle.die.{proofs.Blocks.PutsSlot-paste, specs.Storage.PutsSlot}
 use Rattle.die.proofs.slots.put_page.Goals as goal
 
 pub returns : goal.returns

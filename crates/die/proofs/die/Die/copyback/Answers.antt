@@ -3,7 +3,7 @@ use Rattle.std.specs.Vec.{with_items, vec_len}
 use Rattle.std.proofs.{lemmas.List.get_or_read, lemmas.List.with_items_is, lemmas.Nat.same_from_place}
 use Rattle.geometry.specs.Geometry.{blocks_of, pages_of, page_bytes_of}
 use Rattle.die.specs.{Die.block_of, Die.ChangesBlock, Pages.Page, Pages.page_at, Pages.programmed, Storage.stored}
-use Rattle.die.{specs.declared.die.Die.Die, specs.Slots.PutsSlot, specs.Slots.slot, proofs.Blocks.Adds}
+use Rattle.die.{specs.declared.die.Die.Die, specs.Storage.PutsSlot, specs.Storage.slot, proofs.Blocks.Adds}
 use Rattle.die.proofs.Dies.{state_of, state_read, next_small, counted, sound-set, sound-counted, adds_page, changes_by_adding, pages_within, page-stored}
 use Rattle.die.proofs.die.Die.copyback.Goals as goal
 use Rattle.die.proofs.die.Die.copyback.Goals.{After-index_mut-2}

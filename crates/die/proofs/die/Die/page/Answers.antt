@@ -1,6 +1,6 @@
 use Rattle.std.proofs.Common.{◌∙◌, ℕ, List, ap, sym, arith}
 use Rattle.geometry.specs.Geometry.{page_bytes_of}
-use Rattle.die.{specs.Pages.Page, specs.Slots.slot, specs.Storage.stored, proofs.Dies.pages_within, proofs.Dies.page-stored}
+use Rattle.die.{specs.Pages.Page, specs.Storage.slot, specs.Storage.stored, proofs.Dies.pages_within, proofs.Dies.page-stored}
 use Rattle.die.proofs.die.Die.page.Goals as goal
 
 pub place_of-requires-clause-page : goal.place_of-requires-clause-page

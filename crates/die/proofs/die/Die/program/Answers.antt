@@ -1,7 +1,7 @@
 use Rattle.std.proofs.Common.{◌≡◌, ◌∙◌, ℕ, List, length, sym, ap, refl, subst, arith, rules, length-set}
 use Rattle.std.{specs.Vec.with_items, specs.Vec.vec_len, proofs.lemmas.List.with_items_is, proofs.lemmas.List.take_all}
 use Rattle.geometry.specs.Geometry.{page_bytes_of}
-use Rattle.die.specs.{Pages.Page, Slots.PutsSlot}
+use Rattle.die.specs.{Pages.Page, Storage.PutsSlot}
 use Rattle.die.proofs.Dies.{state_of, state_read, next_small, counted, sound-set, sound-counted, adds_page, changes_by_adding}
 use Rattle.die.proofs.die.Die.program.Goals as goal
 use Rattle.die.proofs.die.Die.program.Goals.{After-index_mut-2}

@@ -1,5 +1,5 @@
 use Rattle.std.proofs.Common.{◌≡◌, ◌≤◌, ◌+◌, ◌*◌, ℕ, zero, suc, [], ◌∷◌, refl, ap, arith}
-use Rattle.die.specs.Slots.{slot}
+use Rattle.die.specs.Storage.{slot}
 use Rattle.std.specs.Prelude.{◌≢◌, slice_index}
 use Rattle.laws.proofs.devices.dies.bytes_of_a_die.Goals as goal
 
