@@ -5,7 +5,7 @@ use Rattle.std.specs.List.{range_with_len, position, position_or_len, prefix_len
 use Rattle.std.proofs.lemmas.{List.length-map, List.get_or-map, List.Sums.position_or_len_is, Bool.cases_eq, Bool.cases_Bool, Bool.lt-ltb, Bool.le-ltb}
 use Rattle.std.proofs.lemmas.List.FromFn.{length-map-range_with_len, get_or-map-range_with_len, fill_by_all}
 use Rattle.geometry.specs.{Geometry.blocks_of, Greedy.greedy_of}
-use Rattle.ftl_one.specs.{declared.role.Role.Role, Entries.live_count, Store.geometry_of, Store.entries_of, Store.counts_of, Blocks.block_in, Blocks.blocks_in}
+use Rattle.ftl_one.specs.{declared.role.Role.Role, Entries.live_count, Store.geometry_of, Store.entries_of, Store.counts_of, Lawful.block_in, Lawful.blocks_in}
 use Rattle.ftl_one.{specs.declared.role.Role.TheVariants.Retired, specs.declared.store.Store.Store, specs.Lawful.role_in, proofs.Stores.count-entries_of}
 use Rattle.ftl_one.specs.Stock.{Block, is_open, is_free, is_spare, is_closed, open_of, free_of, spare_of, live_of, victim_of, change_at, unused}
 

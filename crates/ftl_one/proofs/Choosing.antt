@@ -2,7 +2,7 @@
 use Rattle.std.{specs.Prelude.min, proofs.Common.get_or-drop, proofs.Common.length-take, proofs.Common.length-drop}
 use Rattle.std.proofs.Common.{◌≡◌, ◌≢◌, ◌⊎◌, inl, inr, ℕ, ◌+◌, ◌-◌, ◌<◌, ◌≤◌, List, length, get_or, take, drop, sym, ap, ◌∙◌, refl, subst, arith, get_or-take}
 use Rattle.std.proofs.lemmas.Bool.{cases_eq, cases_lt, cases_order}
-use Rattle.ftl_one.specs.Fewest.{IsFewest, IsLeast, IsFirst}
+use Rattle.ftl_one.specs.Collections.{IsFewest, IsLeast, IsFirst}
 
 -- one count more is looked at
 pub IsLeast-keeps : (counts : List ℕ) (many least : ℕ) → IsLeast counts many least → least ≤ get_or counts many 0 → IsLeast counts (many + 1) least

@@ -5,7 +5,7 @@ use Rattle.std.proofs.lemmas.List.{length-map, get_or-map, get_or_past, Sums.sum
 use Rattle.std.proofs.lemmas.Bool.{false≢true, cases_lt}
 use Rattle.geometry.{specs.Geometry.blocks_of, specs.Geometry.pages_of, specs.Greedy.IsGreedy, specs.Greedy.IsClosed, proofs.Choosing.greedy_of-best}
 use Rattle.ftl_one.specs.declared.role.Role.{Role, TheVariants.Open, TheVariants.Closed, TheVariants.Spare, TheVariants.Retired}
-use Rattle.ftl_one.specs.{declared.store.Store.Store, declared.one_ftl.OneFtl.OneFtl, Entries.live_count, Fewest.IsFewest, OneFtl.stock_of}
+use Rattle.ftl_one.specs.{declared.store.Store.Store, declared.one_ftl.OneFtl.OneFtl, Entries.live_count, Collections.IsFewest, OneFtl.stock_of}
 use Rattle.ftl_one.specs.Stock.{Entry, live_entries, is_free, is_closed, open_of, free_of, spare_of, victim_of, is_retired}
 use Rattle.ftl_one.specs.Store.{geometry_of, entries_of, retired_of, counts_of, HasRoomFor, Clears, ErasesBlock}
 use Rattle.ftl_one.{specs.Lawful.IsLawful, specs.Lawful.role_in, specs.Lawful.has_pages, proofs.Stores.entries_within, proofs.Stores.count-entries_of}

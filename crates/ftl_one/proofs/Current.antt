@@ -10,7 +10,7 @@ use Rattle.geometry.specs.declared.answer.Was.TheVariants as was
 use Rattle.die.specs.{Die.block_of, Pages.Block, Pages.page_at}
 use Rattle.ftl_one.specs.{declared.one_ftl.OneFtl.OneFtl, declared.role.Role.TheVariants.Retired, OneFtl.geometry_of, OneFtl.array_of, OneFtl.stock_of}
 use Rattle.ftl_one.specs.Stock.{Entry, Stock, Block as StockBlock, unused, is_current, has_page, next, write_of, ready}
-use Rattle.ftl_one.specs.{Entries.names, Entries.is_page, Entries.entries_in, Entries.value_in, Blocks.blocks_in}
+use Rattle.ftl_one.specs.{Entries.names, Entries.is_page, Entries.entries_in, Entries.value_in, Lawful.blocks_in}
 use Rattle.ftl_one.proofs.{Entries.length-entries, Entries.get_or-entries, Entries.is_page-at, Maps.sector-at, Stores.size_of}
 use Rattle.ftl_one.proofs.Layers.{length-blocks, get_or-blocks}
 use Rattle.ftl_one.specs.Store as pages

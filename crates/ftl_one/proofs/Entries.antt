@@ -1,12 +1,35 @@
--- The entries of a block as the map and the die's pages change.
-use Rattle.std.proofs.Common.{◌≡◌, ◌≢◌, inl, inr, ℕ, ◌<◌, Bool, true, false, eqb, List, [], ◌∷◌, ◌++◌, length, get_or, set, map, Option, None, Some, sym, ap}
-use Rattle.std.proofs.{Common.◌∙◌, Common.refl, Common.arith, Common.length-set, Common.get_or-set_same, Common.get_or-set_other, lemmas.List.get_or-map}
-use Rattle.std.{specs.List.range_with_len, proofs.lemmas.List.get_or_push, proofs.lemmas.List.get_or_append_left, proofs.lemmas.List.length_push}
-use Rattle.std.proofs.lemmas.List.{length-map, same_lists, FromFn.length-map-range_with_len, FromFn.get_or-map-range_with_len, FromFn.map-range_with_len_more}
-use Rattle.std.proofs.lemmas.Bool.{false≢true, eqb-true, eq-eqb, ne_eqb, and_from, and_parts, and_left, and_right, cases_eq}
+-- What the bits of an entry of the map name, and the entries of a block as the map and the die's pages change.
+use Rattle.std.proofs.Common.{◌≡◌, ◌≢◌, ◌∙◌, ℕ, ◌+◌, ◌*◌, ◌/◌, ◌%◌, ◌<◌, Option, None, Some, ap, refl, arith, inl, inr, Bool, true, false, eqb, List, [], ◌∷◌}
+use Rattle.std.proofs.Common.{◌++◌, length, get_or, set, map, sym, length-set, get_or-set_same, get_or-set_other}
+use Rattle.std.proofs.lemmas.Bool.{eq-eqb, ne_eqb, false≢true, eqb-true, and_from, and_parts, and_left, and_right, cases_eq}
+use Rattle.geometry.specs.declared.limits.TheConstants.{MAX_BLOCKS, MAX_PAGES}
 use Rattle.geometry.specs.declared.page_addr.PageAddr.{PageAddr}
-use Rattle.die.{specs.Pages.Block, specs.Pages.Page, specs.Pages.page_at, specs.Pages.programmed, specs.Pages.erased_page, proofs.Blocks.map_range_same}
-use Rattle.ftl_one.specs.{Stock.Entry, Stock.forgotten, Entries.is_page, Entries.names, Entries.entry_of, Entries.entries_in}
+use Rattle.ftl_one.specs.declared.map_entry.TheConstants.{NO_PAGE}
+use Rattle.ftl_one.specs.Entries.{named_by, is_page, names, entry_of, entries_in}
+use Rattle.std.proofs.lemmas.List.{get_or-map, get_or_push, get_or_append_left, length_push, length-map, same_lists}
+use Rattle.std.specs.List.{range_with_len}
+use Rattle.std.proofs.lemmas.List.FromFn.{length-map-range_with_len, get_or-map-range_with_len, map-range_with_len_more}
+use Rattle.die.specs.Pages.{Block, Page, page_at, programmed, erased_page}
+use Rattle.die.proofs.Blocks.{map_range_same}
+use Rattle.ftl_one.specs.Stock.{Entry, forgotten}
+
+pub named_none : (bits : ℕ) → bits ≡ NO_PAGE → named_by bits ≡ None
+unfolding named_by
+named_none bits e = rw (eq-eqb bits NO_PAGE e) refl
+
+pub named_some : (bits : ℕ) → bits ≢ NO_PAGE → named_by bits ≡ Some (record { block = bits / MAX_PAGES; page = bits % MAX_PAGES })
+unfolding named_by
+named_some bits other = rw (ne_eqb bits NO_PAGE other) refl
+
+-- the bits of a page name that page
+pub named_of : (at : PageAddr) → at.block < MAX_BLOCKS → at.page < MAX_PAGES → named_by (at.block * MAX_PAGES + at.page) ≡ Some at
+named_of at block page =
+    let bits : ℕ = at.block * MAX_PAGES + at.page in
+    let page_of : ℕ → ℕ → Option PageAddr = λ b p. Some (record { block = b; page = p }) in
+    let same_block : bits / MAX_PAGES ≡ at.block = omega (arith, page) in
+    let same_page : bits % MAX_PAGES ≡ at.page = omega (arith, page) in
+    named_some bits (λ e. omega (arith, e, block, page))
+    ∙ (ap (λ (b : ℕ). page_of b (bits % MAX_PAGES)) same_block ∙ ap (page_of at.block) same_page)
 
 pub length-entries : (n : ℕ) (current : List (Option PageAddr)) (b : ℕ) (block : Block) → length (entries_in n current b block) ≡ length block.pages
 unfolding entries_in

@@ -9,7 +9,7 @@ use Rattle.geometry.specs.{Geometry.blocks_of, Geometry.pages_of, Geometry.endur
 use Rattle.geometry.specs.declared.limits.TheConstants.{MAX_BLOCKS, MAX_ENDURANCE, MAX_PAGES}
 use Rattle.die.proofs.Dies.{erases-block}
 use Rattle.ftl_one.specs.declared.role.Role.{Role, TheVariants.Free, TheVariants.Open, TheVariants.Closed, TheVariants.Spare, TheVariants.Retired}
-use Rattle.ftl_one.specs.{declared.store.Store.Store, Lawful.role_in, Blocks.block_in, Blocks.blocks_in, Blocks.weight, Laws.HasRetired, Laws.block_at}
+use Rattle.ftl_one.specs.{declared.store.Store.Store, Lawful.role_in, Lawful.block_in, Lawful.blocks_in, Lawful.weight, Laws.HasRetired, Laws.block_at}
 use Rattle.ftl_one.{specs.declared.one_ftl.OneFtl.OneFtl, specs.OneFtl.stock_of, proofs.Blocks.spare_of-blocks, proofs.Blocks.victim_of-blocks}
 use Rattle.ftl_one.specs.Stock.{Block, Entry, is_open, is_free, is_spare, is_closed, open_of, free_of, spare_of, live_of, victim_of, change_at, unused, forget}
 use Rattle.ftl_one.specs.Stock.{forgotten, with_page, closed_if_full, filled, emptied, live_entries, is_retired}

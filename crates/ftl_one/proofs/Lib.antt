@@ -1,9 +1,7 @@
 pub mod Rows
-pub mod MapEntries
 pub mod Entries
 pub mod Maps
 pub mod Stores
-pub mod Relocating
 pub mod Clearing
 pub mod Blocks
 pub mod Lawful

@@ -4,7 +4,7 @@ use Rattle.std.proofs.{Common.arith, lemmas.Bool.cases_order}
 use Rattle.std.proofs.lemmas.List.{length-replicate, get_or-replicate, get_or_append_left, get_or_push, get_or_past, set_at, replicate_more, length_push}
 use Rattle.geometry.specs.{declared.geometry.Geometry.Geometry, Geometry.blocks_of}
 use Rattle.ftl_one.specs.declared.role.Role.{Role, TheVariants.Free, TheVariants.Open, TheVariants.Closed, TheVariants.Spare, TheVariants.Retired}
-use Rattle.ftl_one.specs.{declared.store.Store.Store, Stock.Block, Stock.Entry, Stock.unused, Store.entries_of, Store.IsNew, Blocks.block_in, Blocks.blocks_in}
+use Rattle.ftl_one.specs.{declared.store.Store.Store, Stock.Block, Stock.Entry, Stock.unused, Store.entries_of, Store.IsNew, Lawful.block_in, Lawful.blocks_in}
 use Rattle.ftl_one.{specs.Stock.is_retired, specs.Lawful.IsLawful, specs.Lawful.KnowsSpare, specs.Lawful.role_in, proofs.Blocks.table_is}
 
 -- the roles of a new layer with n free blocks

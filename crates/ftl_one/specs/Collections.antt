@@ -1,9 +1,37 @@
--- What a collection does, from the stock before a call and the one after it.
-use Rattle.std.specs.Prelude.{ℕ, ◌+◌, ◌==◌, Bool, if◌then◌else◌, nat_lt, length, Option, None, Some, option_map}
+-- What a collection does, from the stock before a call and the one after it; what a page that is moved costs a die, and the smallest of the blocks' counts.
+use Rattle.std.specs.Prelude.{ℕ, ◌==◌, if◌then◌else◌, ◌≡◌, ◌≢◌, ◌<◌, ◌≤◌, ◌⊎◌, List, length, slice_index, ◌+◌, Bool, nat_lt, Option, None, Some, option_map}
+use Rattle.geometry.specs.Geometry.{lun_of, endurance_of}
+use Rattle.geometry.specs.declared.page_addr.PageAddr.{PageAddr}
+use Rattle.die.specs.Die.{copybacks_of, geometry_of, one_more}
+use Rattle.die.specs.declared.die.Die.{Die}
 use Rattle.std.specs.List.{position, range_with_len}
-use Rattle.geometry.specs.{Geometry.endurance_of, Geometry.lun_of, declared.geometry.Geometry.Geometry}
-use Rattle.ftl_one.specs.{Laws.block_at, declared.collection.Collection.Collection}
+use Rattle.geometry.specs.declared.geometry.Geometry.{Geometry}
+use Rattle.ftl_one.specs.Laws.{block_at}
+use Rattle.ftl_one.specs.declared.collection.Collection.{Collection}
 use Rattle.ftl_one.specs.Stock.{Stock, free_of, is_retired, live_of, open_of, spare_of, victim_of}
+
+-- how many copybacks there are after a page was moved: one more if both blocks are on one LUN
+abbrev pub copybacks_after : Die → PageAddr → PageAddr → ℕ
+copybacks_after die from to =
+    if lun_of (geometry_of die) from.block == lun_of (geometry_of die) to.block then one_more (copybacks_of die) else copybacks_of die
+
+-- the index isn't the one that is left out, no other such index has a smaller count, and each such index below it has a greater one
+pub record IsFewest (counts : List ℕ) (left_out b : ℕ) : Type 0 where
+  pub within : b < length counts
+  pub apart : b ≢ left_out
+  pub least : (k : ℕ) → k < length counts → k ≢ left_out → slice_index counts b ≤ slice_index counts k
+  pub lowest : (k : ℕ) → k < b → k ≢ left_out → slice_index counts b < slice_index counts k
+
+-- none of the first counts, as many as given, is less than this one, which is one of them or the largest number of sixteen bits
+pub record IsLeast (counts : List ℕ) (many least : ℕ) : Type 0 where
+  pub low : (k : ℕ) → k < many → least ≤ slice_index counts k
+  pub found : (least ≡ 65535) ⊎ ((k : ℕ) × (k < many) × (slice_index counts k ≡ least))
+
+-- the count is at this index, and at none before; if the index is the length, it is at none
+pub record IsFirst (counts : List ℕ) (count place : ℕ) : Type 0 where
+  pub within : place ≤ length counts
+  pub stands : place < length counts → slice_index counts place ≡ count
+  pub before : (k : ℕ) → k < place → slice_index counts k ≢ count
 
 -- whether a block's erases grew from one stock to the next
 abbrev pub was_erased : Stock → Stock → ℕ → Bool

@@ -1,10 +1,34 @@
--- The sectors and the entries of pages, as a map over the blocks of a die gives them.
-use Rattle.std.specs.Prelude.{◌≡◌, ℕ, ◌+◌, ◌<◌, ◌==◌, ◌&&◌, Bool, false, if◌then◌else◌, List, length, map, count_by, sum, is_some, Option, None, Some}
-use Rattle.std.specs.{Prelude.option_map, Prelude.slice_index, Prelude.slice_index_or, List.range_with_len}
-use Rattle.geometry.specs.{declared.page_addr.PageAddr.PageAddr, declared.answer.Was.Was, Sectors.Sector}
+-- The sectors and the entries of pages, as a map over the blocks of a die gives them, and an entry of the map in four bytes.
+use Rattle.std.specs.Prelude.{◌≡◌, ℕ, ◌+◌, ◌*◌, ◌/◌, ◌%◌, ◌==◌, if◌then◌else◌, Option, None, Some, ◌<◌, ◌&&◌, Bool, false, List, length, map, count_by, sum}
+use Rattle.std.specs.Prelude.{is_some, option_map, slice_index, slice_index_or}
+use Rattle.std.proofs.Common.{inl, inr, sym, arith}
+use Rattle.std.proofs.lemmas.Bool.{cases_eq, eq-eqb, ne_eqb}
+use Rattle.geometry.specs.declared.limits.TheConstants.{MAX_PAGES}
+use Rattle.geometry.specs.declared.page_addr.PageAddr.{PageAddr}
+use Rattle.ftl_one.specs.declared.map_entry.TheConstants.{NO_PAGE}
+use Rattle.std.specs.List.{range_with_len}
 use Rattle.geometry.specs.declared.answer.Was.TheVariants as was
+use Rattle.geometry.specs.declared.answer.Was.{Was}
+use Rattle.geometry.specs.Sectors.{Sector}
 use Rattle.die.specs.Pages.{Block, Page, page_at}
 use Rattle.ftl_one.specs.Stock.{Entry}
+
+-- the page that these bits name, its block above its place in the block, or none
+unfoldable pub named_by : ℕ → Option PageAddr
+named_by bits = if bits == NO_PAGE then None else Some (record { block = bits / MAX_PAGES; page = bits % MAX_PAGES })
+
+-- the bits of the entry that names a page, or none
+abbrev pub bits_of : Option PageAddr → ℕ
+bits_of None = NO_PAGE
+bits_of (Some at) = at.block * MAX_PAGES + at.page
+
+-- an entry's bits are those of the page that it names
+pub bits_back : (bits : ℕ) → bits_of (named_by bits) ≡ bits
+unfolding named_by
+bits_back bits = elim (cases_eq bits NO_PAGE) [
+  | inl none ↦ rw (eq-eqb bits NO_PAGE none) (sym none)
+  | inr some ↦ rw (ne_eqb bits NO_PAGE some) (omega arith)
+]
 
 -- the map's entry of a sector names this page
 abbrev pub is_page : Option PageAddr → ℕ → ℕ → Bool

@@ -1,7 +1,12 @@
--- What the layer keeps true of its blocks: by their roles, how many pages they have and whether they are retired.
-use Rattle.std.specs.Prelude.{◌≡◌, ℕ, ◌<◌, ◌≤◌, Bool, true, false, List, Option, Some, slice_index_or}
-use Rattle.ftl_one.specs.{declared.role.Role.Role, Stock.is_retired}
+-- The blocks of a stock as a store and the roles give them, and what the layer keeps true of them: by their roles, how many pages they have and
+-- whether they are retired.
+use Rattle.std.specs.Prelude.{◌≡◌, ℕ, ◌<◌, ◌≤◌, Bool, true, false, List, Option, Some, slice_index_or, ◌+◌, ◌*◌, length, map}
+use Rattle.ftl_one.specs.declared.role.Role.{Role}
+use Rattle.ftl_one.specs.Stock.{is_retired, Block}
 use Rattle.ftl_one.specs.declared.role.Role.TheVariants.{Open, Closed, Spare, Retired}
+use Rattle.std.specs.List.{range_with_len}
+use Rattle.ftl_one.specs.declared.store.Store.{Store}
+use Rattle.ftl_one.specs.Store.{entries_of, erases_of}
 
 -- a block of this role has pages
 abbrev pub has_pages : Role → Bool
@@ -30,3 +35,15 @@ pub record IsLawful (count pages : ℕ) (size : ℕ → ℕ) (retired : ℕ → 
 pub record KnowsSpare (role : ℕ → Role) (spare : Option ℕ) : Type 0 where
   pub spare_is : (b : ℕ) → role b ≡ Spare → spare ≡ Some b
   pub spare_at : (b : ℕ) → spare ≡ Some b → role b ≡ Spare
+
+-- a block
+abbrev pub block_in : Store → List Role → ℕ → Block
+block_in store roles b = record { role = role_in roles b; erases = erases_of store b; entries = entries_of store b }
+
+-- all blocks
+unfoldable pub blocks_in : Store → List Role → List Block
+blocks_in store roles = map (block_in store roles) (range_with_len 0 (length roles))
+
+-- what a block's programmed pages and erases so far add to a bound of the totals
+abbrev pub weight : ℕ → Block → ℕ
+weight pages block = (pages + 1) * block.erases + length block.entries

@@ -5,9 +5,5 @@ pub mod Laws
 pub mod Collections
 -- How the layer keeps its pages and roles: internal.
 pub mod Entries
-pub mod MapEntries
 pub mod Store
-pub mod Copying
 pub mod Lawful
-pub mod Fewest
-pub mod Blocks

@@ -2,7 +2,7 @@
 use Rattle.std.specs.Prelude.{List, Result, Ok, Err}
 use Rattle.geometry.specs.{declared.geometry.Geometry.Geometry, Sectors.Sector, declared.answer.Was.Was}
 use Rattle.geometry.specs.declared.answer.Was.TheVariants as was
-use Rattle.ftl_one.specs.{declared.one_ftl.OneFtl.OneFtl, declared.one_ftl.NewOneFault.NewOneFault, Blocks.blocks_in, Stock.Stock}
+use Rattle.ftl_one.specs.{declared.one_ftl.OneFtl.OneFtl, declared.one_ftl.NewOneFault.NewOneFault, Lawful.blocks_in, Stock.Stock}
 use Rattle.ftl_one.specs.declared.one_ftl.NewOneFault.TheVariants as fault
 use Rattle.ftl_one.specs.Store as pages
 

@@ -1,7 +1,7 @@
 ghost use Rattle.std.specs.Prelude.{◌≡◌, ◌==◌, length};
 ghost use Rattle.geometry.specs.Geometry.{lun_of, page_bytes_of};
 ghost use Rattle.die.specs.{Die.geometry_of, Die.block_of, Die.copybacks_of, Die.ChangesBlock, Die.IsProgrammed, Die.IsNext, Pages.page_at, Pages.programmed};
-ghost use Rattle.ftl_one.specs.Copying.{copybacks_after};
+ghost use Rattle.ftl_one.specs.Collections.{copybacks_after};
 
 use die::Die;
 use geometry::PageAddr;

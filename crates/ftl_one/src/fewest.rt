@@ -1,5 +1,5 @@
 ghost use Rattle.std.specs.Prelude.{◌≡◌, ℕ, ◌≢◌, ◌+◌, ◌<◌, ◌≤◌, length, slice_index, false};
-ghost use Rattle.ftl_one.specs.Fewest.{IsFewest, IsLeast, IsFirst};
+ghost use Rattle.ftl_one.specs.Collections.{IsFewest, IsLeast, IsFirst};
 
 /// How many counts are looked at together.
 const LANES: usize = 16;

@@ -18,7 +18,7 @@ impl Model for MapEntry {
 
     ghost Value = { Option PageAddr };
 
-    ghost use Rattle.ftl_one.specs.MapEntries.{named_by, bits_of, bits_back};
+    ghost use Rattle.ftl_one.specs.Entries.{named_by, bits_of, bits_back};
 
     ghost view = { λ entry. named_by entry.bits };
 
@@ -29,7 +29,7 @@ impl Model for MapEntry {
 
 impl MapEntry {
     /// The entry that names no page.
-    #[tactic(auto, unfolding(crate::specs::MapEntries::named_by))]
+    #[tactic(auto, unfolding(crate::specs::Entries::named_by))]
     pub fn none() -> MapEntry
         ensures { result ≡ None }
     {

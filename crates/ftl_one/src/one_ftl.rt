@@ -1,6 +1,6 @@
 ghost use Rattle.std.specs.Prelude.{◌≡◌, ℕ, ◌+◌, ◌<◌, ◌≤◌, ◌==◌, if◌then◌else◌, false, length, sum_by, None, Some};
 ghost use Rattle.geometry.specs.Geometry.{blocks_of, pages_of, page_bytes_of, endurance_of, lun_of, sectors_of, hosts_of};
-ghost use Rattle.ftl_one.specs.{Store.geometry_of as store_geometry_of, Store.entries_of, Store.retired_of, Stock.is_free, Blocks.blocks_in, Blocks.weight};
+ghost use Rattle.ftl_one.specs.{Store.geometry_of as store_geometry_of, Store.entries_of, Store.retired_of, Stock.is_free, Lawful.blocks_in, Lawful.weight};
 ghost use Rattle.ftl_one.specs.Lawful.{IsLawful, KnowsSpare, role_in};
 
 use crate::collection::Collection;
@@ -59,9 +59,8 @@ pub struct OneFtl {
 impl OneFtl {
     ghost use Rattle.ftl_one.specs.Collections.{collection_between, collection_due, collection_into};
     ghost use Rattle.ftl_one.specs.Laws.{CollectsAtMostOne, ErasesNothing, HasNoPage, HasRetired, block_at};
-    ghost use Rattle.std.specs.Prelude.{◌≢◌, [], IfOk, IfSome, IfNone, OnOk, OnErr, ◌^◌};
+    ghost use Rattle.std.specs.Prelude.{◌≢◌, [], IfOk, IfSome, IfNone, OnOk, OnErr, ◌^◌, Err};
     ghost use Rattle.geometry.specs.Sectors.{sector_at, was_of, Answers};
-    ghost use Rattle.std.specs.Prelude.{Err};
     ghost use Rattle.geometry.specs.History.{Write, WriteNew, Trim, step, after};
     ghost use Rattle.ftl_one.specs.OneFtl.{geometry_of, array_of, stock_of, was_found};
     ghost use Rattle.ftl_one.specs.declared.one_ftl.NewOneFault.TheVariants as fault;

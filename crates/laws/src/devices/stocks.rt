@@ -1,7 +1,7 @@
 //! Laws of the blocks of a device for one thread.
 ghost use Rattle.std.specs.Prelude.{◌≡◌, ◌+◌, ◌<◌, ◌≤◌, ℕ, List, [], ◌∷◌, Some, None, Ok, Err, true, false};
-ghost use Rattle.ftl_one.specs.{Blocks.weight, Collections.collection_between, Collections.collection_due, Entries.Recounts, Entries.live_count};
-ghost use Rattle.ftl_one.specs.{Fewest.IsFewest, Lawful.IsLawful, Lawful.KnowsSpare, Lawful.role_in, MapEntries.bits_of, MapEntries.named_by, OneFtl.was_found};
+ghost use Rattle.ftl_one.specs.{Lawful.weight, Collections.collection_between, Collections.collection_due, Entries.Recounts, Entries.live_count};
+ghost use Rattle.ftl_one.specs.{Collections.IsFewest, Lawful.IsLawful, Lawful.KnowsSpare, Lawful.role_in, Entries.bits_of, Entries.named_by, OneFtl.was_found};
 ghost use Rattle.ftl_one.specs.Laws.{Collects, CollectsAtMostOne, ErasesNothing, HasNoPage, HasRetired, block_at};
 ghost use Rattle.ftl_one.specs.Stock.{Stock, is_free, is_retired, live_of, next_of, opening_of};
 ghost use Rattle.ftl_one.specs.declared.one_ftl.NewOneFault.TheVariants as one_fault;
@@ -66,7 +66,7 @@ pub fn pages_left_in_a_stock()
 {}
 
 /// What is counted of blocks, and which of them is the one with the fewest live pages.
-#[tactic(auto, unfolding(ftl_one::specs::MapEntries::named_by))]
+#[tactic(auto, unfolding(ftl_one::specs::Entries::named_by))]
 pub fn counts_of_a_stock()
     ensures live { (live_count (live 0 ∷ dead 0 ∷ live 1 ∷ []) ≡ 2)
         × (live_of (block_with role.Closed (dead 0 ∷ live 1 ∷ [])) ≡ 1) }

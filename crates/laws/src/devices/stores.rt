@@ -2,7 +2,7 @@
 ghost use Rattle.std.specs.Prelude.{◌≡◌, ◌+◌, [], ◌∷◌, None, true, false, length, replicate, Some};
 ghost use Rattle.die.specs.Die as die;
 ghost use Rattle.die.specs.{declared.die.Die.Die, Pages.new_block};
-ghost use Rattle.ftl_one.specs.{Copying.copybacks_after, Entries.IsMapped, Stock.Entry, declared.store.Store.Store};
+ghost use Rattle.ftl_one.specs.{Collections.copybacks_after, Entries.IsMapped, Stock.Entry, declared.store.Store.Store};
 ghost use Rattle.ftl_one.specs.Store.{Clears, ErasesBlock, Forgets, HasRoom, HasRoomFor, KeepsBlocks, Puts, array_of, entries_of, erases_of, retired_of};
 ghost use Rattle.ftl_one.specs.Store as store;
 ghost use Rattle.geometry.specs.Geometry.{blocks_of, endurance_of, luns_of, pages_of, sectors_of};

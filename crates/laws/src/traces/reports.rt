@@ -13,7 +13,7 @@ ghost use Rattle.flash_rule.specs.declared.facts.Name.TheVariants as name;
 ghost use Rattle.flash_table.specs.{Flash.IsBroomOf, Flash.geometry_of, declared.pass.OpenBlock.OpenBlock};
 ghost use Rattle.flash_table.specs.{Flash.broom_view, Flash.own_blocks, Owning.owned_of, declared.broom_seat.BroomSeat.BroomSeat, declared.flash.Flash.Flash};
 ghost use Rattle.flash_table.specs.declared.broom_seat.Reclaiming.TheVariants as reclaiming;
-ghost use Rattle.ftl_one.specs.{Blocks.blocks_in, Stock.Stock, Stock.next, Store.entries_of, Store.erases_of, declared.store.Store.Store};
+ghost use Rattle.ftl_one.specs.{Lawful.blocks_in, Stock.Stock, Stock.next, Store.entries_of, Store.erases_of, declared.store.Store.Store};
 ghost use Rattle.ftl_one.specs.declared.role.Role.TheVariants as role;
 ghost use Rattle.geometry.specs.Geometry.{blocks_of, hosts_of, pages_of};
 ghost use Rattle.geometry.specs.{Limits.fault_name, History.Trim, Words.phase_bits, Sectors.was_of};
@@ -71,7 +71,7 @@ pub fn names_of_faults()
 {}
 
 /// The lines that a run writes of its stock, and the stock after a command.
-#[tactic(auto, unfolding(ftl_one::specs::Blocks::blocks_in))]
+#[tactic(auto, unfolding(ftl_one::specs::Lawful::blocks_in))]
 pub fn texts_of_a_stock()
     ensures totals { end_text (record { blocks = []; programs = 1; copies = 2; erases = 3 })
         ≡ codes "end,1,2,3\n" }

@@ -1,6 +1,6 @@
 use Rattle.std.proofs.Common.{◌≡◌, ◌+◌, ◌-◌, ◌≤◌, ℕ, List, length, drop, get_or, take, arith, subst, length-drop}
 use Rattle.std.proofs.lemmas.List.{take_all}
-use Rattle.ftl_one.specs.Fewest.{IsLeast, IsFirst}
+use Rattle.ftl_one.specs.Collections.{IsLeast, IsFirst}
 use Rattle.ftl_one.proofs.Choosing.{fewest_below, fewest_above, min_either}
 use Rattle.ftl_one.proofs.fewest.fewest_beside.Goals as goal
 

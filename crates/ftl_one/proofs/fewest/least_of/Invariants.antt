@@ -1,4 +1,4 @@
-use Rattle.ftl_one.specs.Fewest.{IsLeast}
+use Rattle.ftl_one.specs.Collections.{IsLeast}
 use Rattle.ftl_one.proofs.fewest.least_of.Given as goal
 
 abbrev pub invariant-loop-i : goal.invariant-loop-i

@@ -1,4 +1,4 @@
-use Rattle.ftl_one.proofs.MapEntries.{named_of}
+use Rattle.ftl_one.proofs.Entries.{named_of}
 use Rattle.ftl_one.proofs.map_entry.MapEntry.of.Goals as goal
 
 pub returns : goal.returns

@@ -1,5 +1,5 @@
 use Rattle.std.proofs.Common.{◌∙◌, sym}
-use Rattle.ftl_one.proofs.MapEntries.{named_none, named_some}
+use Rattle.ftl_one.proofs.Entries.{named_none, named_some}
 use Rattle.ftl_one.proofs.map_entry.MapEntry.page.Goals as goal
 
 pub returns-then-self : goal.returns-then-self

@@ -5,9 +5,9 @@ use Rattle.geometry.specs.{declared.geometry.Geometry.Geometry, Geometry.blocks_
 use Rattle.geometry.specs.Greedy.{IsGreedy, IsClosed}
 use Rattle.ftl_one.specs.declared.role.Role.{Role, TheVariants.Open, TheVariants.Spare, TheVariants.Retired}
 use Rattle.ftl_one.specs.Stock.{Stock, Block, is_free, is_closed, is_retired, victim_of, collect, change_at, unused, live_of, filled, emptied}
-use Rattle.ftl_one.specs.{Lawful.IsLawful, Lawful.KnowsSpare, Lawful.role_in, Blocks.blocks_in, Blocks.weight, OneFtl.geometry_of, OneFtl.stock_of}
+use Rattle.ftl_one.specs.{Lawful.IsLawful, Lawful.KnowsSpare, Lawful.role_in, Lawful.blocks_in, Lawful.weight, OneFtl.geometry_of, OneFtl.stock_of}
 use Rattle.ftl_one.proofs.Layers.{open_of-stock, blocks-collect, weight-collect, length-blocks, get_or-blocks, total_small, free-kept}
-use Rattle.ftl_one.{specs.Store.counts_of, proofs.Lawful.spare-collected, specs.Fewest.IsFewest}
+use Rattle.ftl_one.{specs.Store.counts_of, proofs.Lawful.spare-collected, specs.Collections.IsFewest}
 use Rattle.ftl_one.proofs.Collecting.{spare_within, victim_within, victim_role, victim_apart, greedy_by, victim_by, spare_room, law_after}
 use Rattle.ftl_one.specs.Store as pages
 use Rattle.ftl_one.proofs.one_ftl.OneFtl.collect.Goals as goal

@@ -1,6 +1,6 @@
 use Rattle.std.proofs.Common.{◌∙◌, ◌+◌, ◌<◌, ℕ, eqb, cond, List, ap, subst, arith}
 use Rattle.geometry.specs.Geometry.{blocks_of, endurance_of, lun_of}
-use Rattle.ftl_one.specs.{Fewest.IsFewest, Laws.block_at, OneFtl.geometry_of, OneFtl.stock_of, Store.counts_of}
+use Rattle.ftl_one.specs.{Collections.IsFewest, Laws.block_at, OneFtl.geometry_of, OneFtl.stock_of, Store.counts_of}
 use Rattle.ftl_one.proofs.Collecting.{greedy_by, spare_within, victim_by, victim_within}
 use Rattle.ftl_one.proofs.{Collections.same_collection, Layers.erases_at}
 use Rattle.ftl_one.specs.Store as pages

@@ -1,6 +1,6 @@
 use Rattle.std.proofs.Common.{◌≡◌, ◌∙◌, ℕ, ◌+◌, ◌-◌, ◌<◌, List, [], ◌∷◌, ◌++◌, length, set, replicate, None, Some, sym, ap, subst, arith, rules}
 use Rattle.geometry.specs.Geometry.{blocks_of, pages_of, hosts_of}
-use Rattle.ftl_one.specs.{declared.role.Role.Role, declared.role.Role.TheVariants.Free, declared.role.Role.TheVariants.Spare, Blocks.blocks_in, OneFtl.stock_of}
+use Rattle.ftl_one.specs.{declared.role.Role.Role, declared.role.Role.TheVariants.Free, declared.role.Role.TheVariants.Spare, Lawful.blocks_in, OneFtl.stock_of}
 use Rattle.ftl_one.specs.{Stock.Stock, Stock.Block, Stock.opening, Stock.unused, Stock.Entry, Lawful.IsLawful, Lawful.KnowsSpare, Lawful.role_in}
 use Rattle.ftl_one.proofs.Openings.{roles_new, roles_new-set, length-roles_new, lawful-new, spare_new, blocks_new}
 use Rattle.ftl_one.specs.Store as pages

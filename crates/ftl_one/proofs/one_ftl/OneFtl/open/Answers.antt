@@ -2,7 +2,7 @@ use Rattle.std.proofs.Common.{◌≡◌, ◌≢◌, inl, inr, ◌∙◌, ℕ, �
 use Rattle.std.proofs.lemmas.Bool.{cases_eq}
 use Rattle.geometry.specs.Geometry.{blocks_of, pages_of}
 use Rattle.ftl_one.specs.declared.{role.Role.Role, role.Role.TheVariants.Open, role.Role.TheVariants.Retired, one_ftl.OneFtl.OneFtl}
-use Rattle.ftl_one.specs.{Stock.Stock, Stock.Block, Stock.is_free, Stock.change_at, Lawful.role_in, Blocks.blocks_in, Blocks.weight, OneFtl.stock_of}
+use Rattle.ftl_one.specs.{Stock.Stock, Stock.Block, Stock.is_free, Stock.change_at, Lawful.role_in, Lawful.blocks_in, Lawful.weight, OneFtl.stock_of}
 use Rattle.ftl_one.proofs.Lawful.{lawful-open, free≢spare, open≢spare, spare-kept}
 use Rattle.ftl_one.proofs.Layers.{open_of-stock, blocks-role, weight-role, length-blocks, free_found, none_below}
 use Rattle.ftl_one.specs.Store as pages

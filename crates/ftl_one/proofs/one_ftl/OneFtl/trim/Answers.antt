@@ -1,7 +1,7 @@
 use Rattle.std.proofs.Common.{◌≡◌, ◌∙◌, ◌+◌, ◌≤◌, List, length, sum_by, Some, sym, ap, subst, arith}
 use Rattle.std.proofs.lemmas.List.{length-map}
 use Rattle.geometry.specs.{declared.geometry.Geometry.Geometry, Geometry.blocks_of, Geometry.pages_of, Geometry.hosts_of}
-use Rattle.ftl_one.specs.{Stock.Stock, Stock.Block, Stock.next, Stock.Entry, Stock.forgotten, Lawful.IsLawful, Lawful.role_in, Blocks.blocks_in, Blocks.weight}
+use Rattle.ftl_one.specs.{Stock.Stock, Stock.Block, Stock.next, Stock.Entry, Stock.forgotten, Lawful.IsLawful, Lawful.role_in, Lawful.blocks_in, Lawful.weight}
 use Rattle.ftl_one.{specs.OneFtl.stock_of, proofs.Lawful.lawful-same, proofs.Layers.blocks-forget, proofs.Layers.weight-forget}
 use Rattle.ftl_one.specs.Store as pages
 use Rattle.ftl_one.proofs.one_ftl.OneFtl.trim.Goals as goal

@@ -2,7 +2,7 @@ use Rattle.std.proofs.Common.{◌≡◌, ◌≢◌, ◌∙◌, ℕ, ◌+◌, ◌
 use Rattle.std.proofs.{Common.arith, Common.length-set, Common.get_or-set_same, Common.get_or-set_other, lemmas.List.length-map, lemmas.List.length_push}
 use Rattle.std.proofs.lemmas.Bool.{eqb-true, eqb-false}
 use Rattle.geometry.specs.{declared.geometry.Geometry.Geometry, Geometry.blocks_of, Geometry.pages_of, Geometry.hosts_of}
-use Rattle.ftl_one.specs.{declared.role.Role.Role, Lawful.IsLawful, Lawful.role_in, Blocks.blocks_in, Blocks.weight, OneFtl.geometry_of, OneFtl.stock_of}
+use Rattle.ftl_one.specs.{declared.role.Role.Role, Lawful.IsLawful, Lawful.role_in, Lawful.blocks_in, Lawful.weight, OneFtl.geometry_of, OneFtl.stock_of}
 use Rattle.ftl_one.{specs.declared.role.Role.TheVariants.Closed, specs.declared.role.Role.TheVariants.Retired, proofs.Stores.entries_within}
 use Rattle.ftl_one.specs.Stock.{Stock, Block, write_of, write_into, forget, change_at, with_page, closed_if_full, Entry, forgotten}
 use Rattle.ftl_one.proofs.Lawful.{lawful-put, lawful-close, open≢spare, closed≢spare, spare-kept}

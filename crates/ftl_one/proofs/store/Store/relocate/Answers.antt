@@ -5,7 +5,7 @@ use Rattle.die.specs.Die.{geometry_of as die_geometry_of, block_of, IsNext}
 use Rattle.ftl_one.specs.{Stock.Entry, Store.array_of, Store.entries_of, Store.erases_of, Store.retired_of}
 use Rattle.ftl_one.specs.Entries.{Recounts, IsMapped, sectors_in, entries_in}
 use Rattle.ftl_one.proofs.Stores.{programmed_page, next_of_block, count_small, named_counted, recounted, put-mapped, put-erases, put-retired}
-use Rattle.ftl_one.proofs.Relocating.{page_of, sector_of-page, names_live, stamp_below, relocate-copied, relocate-dead, relocate-others, relocate-sectors}
+use Rattle.ftl_one.proofs.Clearing.{page_of, sector_of-page, names_live, stamp_below, relocate-copied, relocate-dead, relocate-others, relocate-sectors}
 use Rattle.ftl_one.proofs.store.Store.relocate.Goals as goal
 use Rattle.ftl_one.proofs.store.Store.relocate.Goals.{After-next_page-to, After-recount}
 
