@@ -8,7 +8,7 @@ use Rattle.std.proofs.lemmas.Simd.{map-map, mask_l-mod, length-chunk, get_or-chu
 use Rattle.std.proofs.lemmas.Simd.{run_in_chunk_stops, length-put_chunk, take_more_put_chunk, get_or-put_chunk_at, get_or-replicate}
 use lib.Lanes.{chunk, put_chunk, zip2, sel_l, mask_l, pick_l, top}
 use Rattle.hex.{specs.Hex.decode_pairs, specs.Hex.hex_digit_value, specs.Hex.is_hex_digit, specs.Hex.pair_value, proofs.Pairs.decode_step, proofs.Pairs.prepend}
-use Rattle.text.{specs.Lanes.is_field_end, proofs.Decoding.pair_read}
+use Rattle.text.{specs.Lanes.is_field_end, proofs.Encodings.pair_read}
 use Rattle.text.specs.Lanes.{AreDigits, Decodes, IsDigitRun, IsRun, digit_lane, first_set}
 
 -- ---- where fields end

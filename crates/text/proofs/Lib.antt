@@ -1,5 +1,4 @@
 pub mod Chunks
-pub mod Decoding
 pub mod Encodings
 pub mod Numbers
 pub mod Places

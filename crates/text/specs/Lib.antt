@@ -2,5 +2,3 @@
 pub mod Digits
 pub mod Lanes
 pub mod Putting
--- Internal.
-pub mod Encoding

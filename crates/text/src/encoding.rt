@@ -2,7 +2,7 @@
 
 ghost use Rattle.std.specs.Prelude.{◌≡◌, ◌*◌, ◌++◌, length, map};
 ghost use Rattle.hex.specs.Hex.{encode_lower};
-ghost use Rattle.text.specs.Encoding.{AreValues, digit_of};
+ghost use Rattle.text.specs.Digits.{AreValues, digit_of};
 
 use std::simd::prelude::*;
 

@@ -1,7 +1,7 @@
 -- Digits as data.
 use Rattle.std.proofs.Common.{◌≡◌, ℕ, ◌*◌, ◌/◌, ◌≤◌, List, [], ◌∷◌, length, Ok, refl, arith}
 use Rattle.hex.{specs.Hex.decode_of, proofs.HexLemmas.decode_of-ok}
-use Rattle.text.{specs.Digits.bytes_of, proofs.Decoding.pairs_are}
+use Rattle.text.{specs.Digits.bytes_of, proofs.Encodings.pairs_are}
 use Rattle.trace.specs.{Digits.IsData, Parsing.page_len, declared.commands.Op.Op}
 use Rattle.trace.specs.declared.commands.Op.TheVariants as op
 

@@ -15,7 +15,7 @@ use Rattle.trace.specs.{Trace.number_below, Trace.op_of, Trace.records_of, Trace
 use Rattle.trace.specs.Usual.{IsLineStart, IsNumber, IsOpName, IsUsual, IsUsualData, part}
 use Rattle.trace.specs.declared.{fault.TraceFaultKind.TraceFaultKind, usual.Number.Number, usual.OpName.OpName}
 use Rattle.trace.proofs.{Checks.accepts, Data.few_digits, Pages.makes_none, Pages.makes_write}
-use Rattle.text.proofs.Decoding.{pairs_are}
+use Rattle.text.proofs.Encodings.{pairs_are}
 use Rattle.trace.proofs.Cuts.{begins, begins-at, behind, joins-none, part-more, plain-field, plain-more, plain-run, stops-at, within}
 use Rattle.trace.proofs.Records.{Reads, lf_records, reads-last, reads-next, record-begins, stays}
 use Rattle.trace.specs.declared.commands.Op.TheVariants as op

@@ -1,4 +1,4 @@
-use Rattle.text.proofs.Decoding.{pairs_told}
+use Rattle.text.proofs.Encodings.{pairs_told}
 use Rattle.text.proofs.digits.are_pairs.Goals as goal
 
 pub returns-then-digits-eq0 : goal.returns-then-digits-eq0

@@ -1,7 +1,7 @@
 use Rattle.std.proofs.Common.{◌≡◌, ◌+◌, ◌*◌, ◌%◌, length, slice_index, ℕ, sym, ap, ◌∙◌, arith}
 use Rattle.std.proofs.lemmas.{List.length-set, Simd.length-put_chunk}
 use Rattle.hex.proofs.{HexLemmas.decode_of-even, HexLemmas.decode_of-same, Pairs.decode_done, Pairs.decode_step}
-use Rattle.text.proofs.{Decoding.digit_at, Decoding.pair_read, Decoding.value_below, Chunks.decoded_block}
+use Rattle.text.proofs.{Encodings.digit_at, Encodings.pair_read, Encodings.value_below, Chunks.decoded_block}
 use Rattle.text.proofs.digits.decode.Goals as goal
 
 pub decode_block-requires-clause-digits : goal.decode_block-requires-clause-digits
