@@ -2,7 +2,7 @@
 use Rattle.std.proofs.Common.{◌≡◌, ◌≤◌, List, [], ◌∷◌, ℕ, Result, Ok, Err, codes, length, refl, arith}
 use Rattle.std.specs.Prelude.{IsErr}
 use Rattle.hex.specs.{Hex.decode_of, Hex.decode_pairs, declared.error.FromHexError.FromHexError}
-use Rattle.trace.specs.{Digits.IsData, Stored.IsKept, Stored.IsWhole, declared.stored.Stored.Stored}
+use Rattle.trace.specs.{Page.IsData, Stored.IsKept, Stored.IsWhole, declared.stored.Stored.Stored}
 use Rattle.text.specs.Digits.{bytes_of}
 
 pub bytes-0a : bytes_of (codes "0a") ≡ 10 ∷ []

@@ -7,7 +7,7 @@ use Rattle.csv.specs.Reading.{NextIs, pending_of, ReadRecord, ReadsNext, Ready, 
 use Rattle.csv.specs.{Records.field_at, declared.parser.Action.Action, declared.parser.State.State, declared.reader.Reader.Reader}
 use Rattle.csv.specs.declared.parser.State.TheVariants as st
 use Rattle.csv.specs.declared.reader.Trim.TheVariants as trim
-use Rattle.trace.specs.Rows.{IsReading, TakesNext, records_after, unread}
+use Rattle.trace.specs.Cutting.{IsReading, TakesNext, records_after, unread}
 
 -- a field that is there
 pub field_at-some : (fields : List (List ℕ)) (i : ℕ) → i < length fields → IsSome (field_at fields i)

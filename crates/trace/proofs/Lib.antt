@@ -5,7 +5,5 @@ pub mod Examples
 pub mod Fields
 pub mod Loads
 pub mod Meanings
-pub mod Numbers
-pub mod Pages
-pub mod Records
 pub mod UsualLines
+pub mod Records

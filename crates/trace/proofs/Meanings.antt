@@ -3,7 +3,7 @@ use Rattle.std.proofs.Common.{◌≡◌, ℕ, zero, suc, ◌+◌, ◌<◌, ◌�
 use Rattle.std.proofs.{Common.append_assoc, Common.arith, Common.length-append, Math.Seq.drop-append_seam}
 use Rattle.std.proofs.lemmas.List.{length-map, map-append, take-append-le, take_all, Elements.All-append, Elements.All-cons, Elements.All-nil}
 use Rattle.std.specs.Prelude.{All, Some, slice_get, slice_index_or}
-use Rattle.trace.specs.{Digits.IsData, Parsing.page_len}
+use Rattle.trace.specs.{Page.IsData, Parsing.page_len}
 use Rattle.trace.specs.Stored.{IsKept, command_at, digits_at, drafted, head_of, stored_in, with_digits}
 use Rattle.trace.specs.declared.{commands.Command.Command, draft.Draft.Draft, stored.Head.Head, stored.Stored.Stored}
 

@@ -9,7 +9,7 @@ use Rattle.csv.proofs.RoundTrip.{record-same}
 use Rattle.csv.specs.declared.parser.Action.TheVariants as act
 use Rattle.csv.specs.declared.parser.State.TheVariants as st
 use Rattle.trace.specs.Cutting.{HasRecordedValues, CutsField, HasOtherFields, IsField, IsMarkEnd, IsRecord, StandsBefore, StartsRecord, begins_with, ends_field}
-use Rattle.trace.specs.{Cutting.ends_no_line, Cutting.fields_of_row, Cutting.next_records, Cutting.read_from, Rows.records_after}
+use Rattle.trace.specs.Cutting.{ends_no_line, fields_of_row, next_records, read_from, records_after}
 use Rattle.text.specs.Lanes.{is_line_end}
 use Rattle.trace.specs.{Trace.records_of, declared.cutting.Field.Field, declared.cutting.Row.Row}
 use Rattle.trace.proofs.{Cuts.begins, Cuts.behind, Cuts.or_false, Cuts.within, Fields.after-none, Fields.after-some, Fields.both}

@@ -1,24 +1,39 @@
--- Lines of the usual form, field by field.
-use Rattle.std.proofs.Common.{◌≡◌, ℕ, zero, suc, ◌+◌, ◌-◌, ◌*◌, ◌/◌, ◌%◌, ◌<◌, ◌≤◌, ◌^◌, ◌⊎◌, inl, inr, Bool, true, false, List, [], ◌∷◌, ◌++◌, length, take}
-use Rattle.std.proofs.Common.{drop, get_or, Ok, refl, ap, sym, ◌∙◌, subst, arith, length-drop, get_or-drop}
-use Rattle.std.specs.{Prelude.◌==◌, Prelude.MatchBool, Prelude.codes, Char.digit_value, Char.is_ascii_digit, Str.all_ascii_digits, Str.Parse.digits_value}
-use Rattle.std.proofs.lemmas.{Bool.and_parts, Bool.cases_lt, Bool.eqb-true, Int.Digits.digits_value_push}
+-- Lines of the usual form, field by field: the size of numbers of few digits, and what is left of a text.
+use Rattle.std.proofs.Common.{ℕ, ◌^◌, ◌<◌, ◌≤◌, lit<, ◌≡◌, zero, suc, ◌+◌, ◌-◌, ◌*◌, ◌/◌, ◌%◌, ◌⊎◌, inl, inr, Bool, true, false, List, [], ◌∷◌, ◌++◌, length}
+use Rattle.std.proofs.Common.{take, drop, get_or, Ok, refl, ap, sym, ◌∙◌, subst, arith, length-drop, get_or-drop}
+use Rattle.std.proofs.Math.Nat.{pow-le-pow_right}
+use Rattle.std.specs.Prelude.{◌==◌, MatchBool, codes}
+use Rattle.std.specs.Char.{digit_value, is_ascii_digit}
+use Rattle.std.specs.Str.{all_ascii_digits}
+use Rattle.std.specs.Str.Parse.{digits_value}
+use Rattle.std.proofs.lemmas.Bool.{and_parts, cases_lt, eqb-true}
+use Rattle.std.proofs.lemmas.Int.Digits.{digits_value_push}
 use Rattle.std.proofs.lemmas.List.{drop-drop, drop_at, drop_more, get_or-take, length-take-le, take_at}
-use Rattle.csv.specs.{Machine.Runs, Reading.default_config, Reading.strip_bom}
+use Rattle.csv.specs.Machine.{Runs}
+use Rattle.csv.specs.Reading.{default_config, strip_bom}
 use Rattle.csv.specs.declared.parser.State.TheVariants as st
-use Rattle.geometry.specs.{Geometry.page_bytes_of, Geometry.sectors_of, declared.geometry.Geometry.Geometry}
+use Rattle.geometry.specs.Geometry.{page_bytes_of, sectors_of}
+use Rattle.geometry.specs.declared.geometry.Geometry.{Geometry}
 use Rattle.hex.specs.Hex.{is_hex_digit}
 use Rattle.trace.specs.Cutting.{EndsPlain, Joins, begins_with, ends_field, ends_no_line, next_records}
 use Rattle.text.specs.Lanes.{is_field_end}
 use Rattle.text.specs.Digits.{EndsDigits}
-use Rattle.trace.specs.{Trace.number_below, Trace.op_of, Trace.records_of, Trace.workers_of, declared.commands.Op.Op}
+use Rattle.trace.specs.Trace.{number_below, op_of, records_of, workers_of}
+use Rattle.trace.specs.declared.commands.Op.TheVariants as op
+use Rattle.trace.specs.declared.commands.Op.{Op}
 use Rattle.trace.specs.Usual.{IsLineStart, IsNumber, IsOpName, IsUsual, IsUsualData, part}
-use Rattle.trace.specs.declared.{fault.TraceFaultKind.TraceFaultKind, usual.Number.Number, usual.OpName.OpName}
-use Rattle.trace.proofs.{Checks.accepts, Data.few_digits, Pages.makes_none, Pages.makes_write}
+use Rattle.trace.specs.declared.fault.TraceFaultKind.{TraceFaultKind}
+use Rattle.trace.specs.declared.usual.Number.{Number}
+use Rattle.trace.specs.declared.usual.OpName.{OpName}
+use Rattle.trace.proofs.Checks.{accepts}
+use Rattle.trace.proofs.Data.{few_digits, makes_none, makes_write}
 use Rattle.text.proofs.Encodings.{pairs_are}
 use Rattle.trace.proofs.Cuts.{begins, begins-at, behind, joins-none, part-more, plain-field, plain-more, plain-run, stops-at, within}
 use Rattle.trace.proofs.Records.{Reads, lf_records, reads-last, reads-next, record-begins, stays}
-use Rattle.trace.specs.declared.commands.Op.TheVariants as op
+
+-- seven digits write less than ten millions
+pub ten_to : (i : ℕ) → i ≤ 7 → 10 ^ i ≤ 10 ^ 7
+ten_to i h = pow-le-pow_right (lit< tt) h
 
 -- ---- bytes
 

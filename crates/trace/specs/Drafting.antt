@@ -1,7 +1,7 @@
 -- What the check of a record gives, and the commands so far of a device.
 use Rattle.std.specs.Prelude.{◌≡◌, ℕ, ◌<◌, ◌^◌, List, length, Result, Ok}
 use Rattle.geometry.specs.{Geometry.page_bytes_of, declared.geometry.Geometry.Geometry}
-use Rattle.trace.specs.{Cutting.fields_of_row, Digits.IsData, Page.page_with, Parsing.page_len, Stored.AreKept, Stored.with_digits}
+use Rattle.trace.specs.{Cutting.fields_of_row, Page.IsData, Page.page_with, Parsing.page_len, Stored.AreKept, Stored.with_digits}
 use Rattle.text.specs.Digits.{bytes_of}
 use Rattle.trace.specs.{Trace.command_of, declared.commands.Op.Op, declared.cutting.Row.Row, declared.draft.Draft.Draft}
 use Rattle.trace.specs.declared.{stored.Head.Head, fault.TraceFaultKind.TraceFaultKind}

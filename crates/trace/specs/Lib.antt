@@ -6,11 +6,7 @@ pub mod Page
 pub mod Trace
 -- Internal.
 pub mod Cutting
-pub mod Digits
 pub mod Drafting
 pub mod Parsing
-pub mod Rows
 pub mod Stored
 pub mod Usual
--- Internal: what laws name.
-pub mod Laws

@@ -1,9 +1,18 @@
--- How the commands of a trace are kept: each with the place of its digits, in the text or after its end among the odd ones. The first ones
--- have a place of four bytes.
+-- How the commands of a trace are kept: each with the place of its digits, in the text or after its end among the odd ones; and the lines that the laws
+-- of this name.
 use Rattle.std.specs.Prelude.{◌≡◌, ◌⊎◌, ℕ, ◌+◌, ◌*◌, ◌^◌, ◌<◌, ◌≤◌, List, [], ◌∷◌, All, ◌++◌, length, map, take, drop}
-use Rattle.trace.specs.{declared.commands.Command.Command, declared.draft.Draft.Draft, Digits.IsData, Page.page_with, Parsing.page_len}
+use Rattle.trace.specs.declared.commands.Command.{Command}
+use Rattle.trace.specs.declared.draft.Draft.{Draft}
+use Rattle.trace.specs.Page.{IsData, page_with}
+use Rattle.trace.specs.Parsing.{page_len}
 use Rattle.text.specs.Digits.{bytes_of}
-use Rattle.trace.specs.declared.stored.{AllStored.AllStored, Brief.Brief, Head.Head, Lent.Lent, Near.Near, Stored.Stored}
+use Rattle.trace.specs.declared.stored.AllStored.{AllStored}
+use Rattle.trace.specs.declared.stored.Brief.{Brief}
+use Rattle.trace.specs.declared.stored.Head.{Head}
+use Rattle.trace.specs.declared.stored.Lent.{Lent}
+use Rattle.trace.specs.declared.stored.Near.{Near}
+use Rattle.trace.specs.declared.stored.Stored.{Stored}
+use Rattle.trace.specs.declared.commands.Op.TheVariants as op
 
 -- a command whose place has four bytes, with a place of eight
 abbrev pub widened : Near → Stored
@@ -55,3 +64,15 @@ Pushes text old new head digits = drafted text new ≡ drafted text old ++ with_
 -- all are kept in this way
 abbrev pub AreKept : List ℕ → Draft → Type 0
 AreKept text d = All (IsKept text d.odd.items d.page_bytes) (stored_in d.stored)
+
+-- a write of worker 3 to sector 65541, with two digits
+abbrev pub line_of_write : Brief
+line_of_write = record { digits = 2; worker = 3; sector_low = 5; sector_high = 1; op = op.Write }
+
+-- a read of worker 4 of sector 6
+abbrev pub line_of_read : Brief
+line_of_read = record { digits = 0; worker = 4; sector_low = 6; sector_high = 0; op = op.Read }
+
+-- a line whose digits begin at this place
+abbrev pub placed : Brief → ℕ → Stored
+placed brief start = record { start = start; brief = brief }

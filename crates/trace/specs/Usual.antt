@@ -2,7 +2,7 @@
 use Rattle.std.specs.Prelude.{◌≡◌, ℕ, ◌+◌, ◌-◌, ◌^◌, ◌<◌, ◌≤◌, true, List, ◌∷◌, length, take, drop, slice_index, Ok, MatchBool}
 use Rattle.std.specs.Char.{is_ascii_digit}
 use Rattle.geometry.specs.{Geometry.page_bytes_of, declared.geometry.Geometry.Geometry}
-use Rattle.trace.specs.{Cutting.IsField, Cutting.begins_with, Digits.IsData, Drafting.MakePage, Parsing.page_len, Stored.with_digits, declared.commands.Op.Op}
+use Rattle.trace.specs.{Cutting.IsField, Cutting.begins_with, Page.IsData, Drafting.MakePage, Parsing.page_len, Stored.with_digits, declared.commands.Op.Op}
 use Rattle.trace.specs.{Trace.command_of, Trace.number_below, Trace.op_of, Trace.page_of_op, Trace.records_of, declared.fault.TraceFaultKind.TraceFaultKind}
 use Rattle.trace.specs.declared.usual.{Number.Number, OpName.OpName, UsualLine.UsualLine}
 

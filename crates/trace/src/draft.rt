@@ -1,7 +1,7 @@
 // The commands of the lines so far, while their text is still being read.
 
 ghost use Rattle.std.specs.Prelude.{◌≡◌, ◌+◌, ◌^◌, ◌<◌, ◌≤◌, [], take, drop, length, OnOk};
-ghost use Rattle.trace.specs.{Digits.IsData, Parsing.page_len, Stored.AreKept, Stored.Pushes, Stored.stored_in};
+ghost use Rattle.trace.specs.{Page.IsData, Parsing.page_len, Stored.AreKept, Stored.Pushes, Stored.stored_in};
 
 use crate::stored::{AllStored, Head, Stored};
 use std::alloc::{AllocError, Global};

@@ -1,7 +1,7 @@
 //! Laws of how the commands of a trace are kept. Each function has no code: its clauses say where a definition holds and where it doesn't, and what it
 //! is on small values.
 ghost use Rattle.std.specs.Prelude.{◌≡◌, ℕ, ◌^◌, ◌<◌, List, [], ◌∷◌, All, codes, length};
-ghost use Rattle.trace.specs.{Commands.commands_left, Laws.line_of_read, Laws.line_of_write, Laws.placed, declared.commands.Command.Command};
+ghost use Rattle.trace.specs.{Commands.commands_left, Stored.line_of_read, Stored.line_of_write, Stored.placed, declared.commands.Command.Command};
 ghost use Rattle.trace.specs.{Stored.IsKept, Stored.IsWhole, Stored.command_at, Stored.stored_in, Stored.widened, declared.commands.CommandIter.CommandIter};
 ghost use Rattle.trace.specs.declared.stored.{AllStored.AllStored, Near.Near, Stored.Stored};
 ghost use Rattle.trace.specs.declared.commands.Op.TheVariants as op;

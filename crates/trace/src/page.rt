@@ -1,5 +1,5 @@
 ghost use Rattle.std.specs.Prelude.{◌≡◌, ◌==◌, length};
-ghost use Rattle.trace.specs.{Digits.IsData, Page.page_with};
+ghost use Rattle.trace.specs.Page.{IsData, page_with};
 ghost use Rattle.text.specs.Digits.{bytes_of};
 
 use std::marker::Model;
@@ -14,9 +14,8 @@ pub struct Page<'a> {
 
 impl<'a> Model for Page<'a> {
     ghost use Rattle.std.specs.Prelude.{ℕ, List};
-    ghost use Rattle.trace.specs.Digits.{IsData};
+    ghost use Rattle.trace.specs.Page.{IsData, page_with};
     ghost use Rattle.text.specs.Digits.{bytes_of};
-    ghost use Rattle.trace.specs.Page.{page_with};
 
     ghost Value = { List ℕ };
 

@@ -2,7 +2,7 @@
 
 ghost use Rattle.std.specs.Prelude.{◌≡◌, ◌<◌, [], IfOk, length, slice_index_or};
 ghost use Rattle.csv.specs.Records.{fields_of};
-ghost use Rattle.trace.specs.{Cutting.fields_of_row, Rows.IsReading, Rows.TakesNext, Rows.records_left, Trace.records_of};
+ghost use Rattle.trace.specs.{Cutting.fields_of_row, Cutting.IsReading, Cutting.TakesNext, Cutting.records_left, Trace.records_of};
 
 use crate::cutting::Row;
 use csv::{ByteRecord, Error, Reader, ReaderBuilder};

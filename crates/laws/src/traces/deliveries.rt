@@ -15,7 +15,7 @@ ghost use Rattle.runs.specs.Playing.{answer_by, line_by};
 ghost use Rattle.runs.specs.declared.log.Log.TheVariants as log;
 ghost use Rattle.ftl_one.specs.{Collections.collection_due, Stock.Stock, declared.one_ftl.OneFtl.OneFtl, OneFtl.array_of};
 ghost use Rattle.hex.specs.Hex.{decode_of};
-ghost use Rattle.trace.specs.{Digits.IsData, Faults.fault_text, Loading.ExplainsLoad, Loading.most_bytes, Page.page_with};
+ghost use Rattle.trace.specs.{Page.IsData, Faults.fault_text, Loading.ExplainsLoad, Loading.most_bytes, Page.page_with};
 ghost use Rattle.text.specs.Digits.{bytes_of};
 ghost use Rattle.trace.specs.Trace.{AreCommands, IsFirstFault, is_of_record, op_name, whole_fault, workers_of};
 ghost use Rattle.streams.specs.Watched.{after_call, after_write};

@@ -1,6 +1,6 @@
 use Rattle.std.proofs.Common.{◌≤◌, ◌⊎◌, inl, inr, [], codes, arith}
 use Rattle.std.proofs.lemmas.List.Elements.{All-cons, All-nil}
-use Rattle.trace.specs.{Laws.line_of_write, Laws.placed, Stored.IsKept}
+use Rattle.trace.specs.Stored.{line_of_write, placed, IsKept}
 use Rattle.trace.proofs.Examples.{data-0a, first_kept, no_data-0g, no_data-none, second_kept}
 use Rattle.trace.proofs.laws.commands_that_are_kept.Goals as goal
 

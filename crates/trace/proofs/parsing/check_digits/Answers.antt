@@ -1,5 +1,5 @@
 use Rattle.std.proofs.Common.{sym, ◌∙◌}
-use Rattle.trace.proofs.Pages.{makes_meet, makes_none, makes_write, refuses_long}
+use Rattle.trace.proofs.Data.{makes_meet, makes_none, makes_write, refuses_long}
 use Rattle.trace.proofs.parsing.check_digits.Goals as goal
 
 pub returns-then-digits-size-clause-refused : goal.returns-then-digits-size-clause-refused

@@ -1,5 +1,5 @@
 use Rattle.std.proofs.{Common.arith, Common.rules}
-use Rattle.trace.{specs.Trace.number_below, proofs.Numbers.ten_to}
+use Rattle.trace.{specs.Trace.number_below, proofs.UsualLines.ten_to}
 use Rattle.trace.proofs.parsing.number_below.Goals as goal
 
 pub overflow_mul-number : goal.overflow_mul-number

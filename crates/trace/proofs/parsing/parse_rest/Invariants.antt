@@ -1,5 +1,5 @@
 use Rattle.std.proofs.Common.{◌≡◌, ◌≤◌, ◌-◌, drop, length}
-use Rattle.trace.specs.{Drafting.IsDraft, Parsing.AreSoFar, Rows.IsReading, Rows.records_left, Stored.drafted, Trace.records_of}
+use Rattle.trace.specs.{Drafting.IsDraft, Parsing.AreSoFar, Cutting.IsReading, Cutting.records_left, Stored.drafted, Trace.records_of}
 use Rattle.trace.proofs.parsing.parse_rest.Given as goal
 
 -- the records so far are the commands so far, and csv has those behind them left

@@ -1,5 +1,5 @@
 use Rattle.std.proofs.Common.{◌≡◌, ◌+◌, ◌-◌, ◌*◌, arith, subst, sym, ◌∙◌}
-use Rattle.trace.proofs.{Numbers.ten_to, UsualLines.IsNumberSoFar, UsualLines.more_so_far, UsualLines.none_so_far, UsualLines.number_ends}
+use Rattle.trace.proofs.UsualLines.{ten_to, IsNumberSoFar, more_so_far, none_so_far, number_ends}
 use Rattle.trace.proofs.usual.usual_number.Goals as goal
 
 pub loop-i-init : goal.loop-i-init
