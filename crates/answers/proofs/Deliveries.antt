@@ -1,9 +1,28 @@
--- A text that goes out piece by piece.
-use Rattle.std.proofs.Common.{◌≡◌, ◌≢◌, ℕ, List, [], ◌++◌, Option, None, Some, refl, subst, sym, ap, ◌∙◌, append_assoc, append-nil, take, drop}
+-- A text that goes out piece by piece, and what waits after its first bytes were removed.
+use Rattle.std.proofs.Common.{◌≡◌, ℕ, ◌+◌, ◌-◌, ◌≤◌, List, length, take, drop, ap, sym, ◌∙◌, arith, length-drop, ◌≢◌, [], ◌++◌, Option, None, Some, refl, subst}
+use Rattle.std.proofs.Common.{append_assoc, append-nil}
+use Rattle.std.proofs.lemmas.List.{drop-take, take-append-drop}
+use Rattle.std.proofs.lemmas.List.Edits.{take-paste}
+use Rattle.std.specs.List.{copy_within}
+use lib.Seq.{paste}
 use Rattle.std.specs.Prelude.{Result, Ok, Err, IsErr, OnErr}
-use Rattle.std.{specs.Io.KnownBytes.Appends, proofs.lemmas.List.take-append-drop}
-use Rattle.geometry.{specs.History.Begins, proofs.Histories.Begins-refl}
-use Rattle.answers.specs.{Delivery.AppendsBeginning, Delivery.IsUnderWay, Streams.Stream, Streams.WritesOut, declared.delivery.OutputFailed.OutputFailed}
+use Rattle.std.specs.Io.KnownBytes.{Appends}
+use Rattle.geometry.specs.History.{Begins}
+use Rattle.geometry.proofs.Histories.{Begins-refl}
+use Rattle.answers.specs.Delivery.{AppendsBeginning, IsUnderWay}
+use Rattle.answers.specs.Streams.{Stream, WritesOut}
+use Rattle.answers.specs.declared.delivery.OutputFailed.{OutputFailed}
+
+-- bytes in the middle are moved to the front
+pub moved_front : (xs : List ℕ) (used count : ℕ) → count ≤ used → used ≤ length xs
+    → take (used - count) (copy_within xs count used 0) ≡ drop count (take used xs)
+moved_front xs used count few fits =
+    let left = used - count in
+    let same : left ≡ 0 + left = omega arith in
+    let whole : count + left ≡ used = omega (arith, few) in
+    ap (λ k. take k (paste xs 0 (drop count xs) left)) same
+    ∙ (take-paste xs 0 (drop count xs) left (omega (arith, few, fits)) (omega (arith, fits, length-drop count xs))
+    ∙ (sym (drop-take count left xs) ∙ ap (λ n. drop count (take n xs)) whole))
 
 pub Appends-nothing : (known : Option (List ℕ)) → Appends known known []
 Appends-nothing None = tt

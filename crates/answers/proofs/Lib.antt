@@ -1,4 +1,3 @@
 pub mod Deliveries
 pub mod Playable
 pub mod Texts
-pub mod Waiting

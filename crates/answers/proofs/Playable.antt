@@ -8,7 +8,7 @@ use Rattle.trace.specs.{Page.page_with, declared.commands.Command.Command, decla
 use Rattle.trace.specs.Trace.{◌>>=◌, number_below, op_of, page_of_op, page_of_bytes, command_of, checked, workers_of, records_of, AreCommands}
 use Rattle.trace.specs.declared.commands.Op.TheVariants as op
 use Rattle.trace.specs.declared.fault.TraceFaultKind.TheVariants as fault
-use Rattle.answers.specs.Playable.{IsPlayable}
+use Rattle.answers.specs.Answers.{IsPlayable}
 
 -- where a chain of checks passed, its first check did, and so did the rest
 passed : {A B : Type 0} (m : Result A TraceFaultKind) (f : A → Result B TraceFaultKind) (b : B) → (m >>= f) ≡ Ok b → (a : A) × (m ≡ Ok a) × (f a ≡ Ok b)

@@ -1,12 +1,47 @@
--- The answers of a trace's commands: one line each, over the array of sectors and its history.
-use Rattle.std.specs.Prelude.{ℕ, ◌+◌, Bool, List, [], ◌++◌, length, codes, Option, None, Some, slice_get, decimal, if◌then◌else◌}
-use Rattle.std.specs.{Option.option_map_or, Option.option_to_list, List.flat_map, List.range_with_len}
-use Rattle.geometry.specs.{Sectors.Sector, Sectors.was_of, History.Call, History.Write, History.WriteNew, History.Trim, History.held, declared.answer.Was.Was}
+-- The answers of a trace's commands: one line each, over the array of sectors and its history; a reply as text, and what a command needs to be played.
+use Rattle.std.specs.Prelude.{Bool, true, false, List, ℕ, codes, ◌≡◌, ◌<◌, length, ◌+◌, [], ◌++◌, Option, None, Some, slice_get, decimal, if◌then◌else◌}
 use Rattle.geometry.specs.declared.answer.Was.TheVariants as was
-use Rattle.hex.specs.Hex.{encode_lower}
-use Rattle.trace.specs.{Trace.op_name, declared.commands.Command.Command, declared.commands.Op.Op}
+use Rattle.geometry.specs.declared.answer.Was.{Was}
+use Rattle.answers.specs.declared.reply.Reply.TheVariants as reply
+use Rattle.answers.specs.declared.reply.Reply.{Reply}
+use Rattle.geometry.specs.Geometry.{sectors_of, page_bytes_of}
+use Rattle.geometry.specs.declared.geometry.Geometry.{Geometry}
+use Rattle.trace.specs.Trace.{workers_of, op_name}
+use Rattle.trace.specs.declared.commands.Command.{Command}
 use Rattle.trace.specs.declared.commands.Op.TheVariants as op
+use Rattle.trace.specs.declared.commands.Op.{Op}
+use Rattle.std.specs.Option.{option_map_or, option_to_list}
+use Rattle.std.specs.List.{flat_map, range_with_len}
+use Rattle.geometry.specs.Sectors.{Sector, was_of}
+use Rattle.geometry.specs.History.{Call, Write, WriteNew, Trim, held}
+use Rattle.hex.specs.Hex.{encode_lower}
 use Rattle.answers.specs.declared.broom_line.BroomLine.{BroomLine}
+
+-- the text of a reply; a page is reported by its digits
+abbrev pub reply_text : Reply → List ℕ → List ℕ
+reply_text reply.Empty digits = codes "empty"
+reply_text reply.Written digits = codes "written"
+reply_text reply.Worn digits = codes "worn"
+reply_text reply.Full digits = codes "full"
+reply_text reply.Met digits = codes "met"
+reply_text reply.Page digits = digits
+
+-- whether a write was refused because the device is worn out
+abbrev pub is_worn_reply : Reply → Bool
+is_worn_reply reply.Worn = true
+is_worn_reply _ = false
+
+-- the reply that says what a sector was
+abbrev pub reply_of : Was → Reply
+reply_of was.Empty = reply.Empty
+reply_of was.Written = reply.Written
+
+-- a command that a device of this geometry can play: its worker and its sector exist, and a write of either kind has a page
+pub record IsPlayable (geo : Geometry) (command : Command) : Type 0 where
+  pub worker : command.worker < workers_of geo
+  pub sector : command.sector < sectors_of geo
+  pub page : command.op ≡ op.Write → length command.page ≡ page_bytes_of geo
+  pub new_page : command.op ≡ op.New → length command.page ≡ page_bytes_of geo
 
 -- the call by which a command may change the array. The array doesn't depend on which pass makes it, so all calls are made by pass 0
 abbrev pub call_by : Op → ℕ → List ℕ → Option Call

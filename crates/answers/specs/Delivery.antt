@@ -1,6 +1,16 @@
--- How much of a text reached a writer. A text is known by what it has to be for the bytes that were read.
-use Rattle.std.specs.{Prelude.◌≡◌, Prelude.ℕ, Prelude.List, Prelude.◌++◌, Prelude.Option, Io.KnownBytes.Appends}
+-- How much of a text reached a writer, and the lines that wait to be written. A text is known by what it has to be for the bytes that were read.
+use Rattle.std.specs.Prelude.{ℕ, List, take, ◌≡◌, ◌++◌, Option}
+use Rattle.answers.specs.declared.lines.Lines.{Lines}
+use Rattle.std.specs.Io.KnownBytes.{Appends}
 use Rattle.geometry.specs.History.{Begins}
+
+-- the text that waits
+abbrev pub waiting_of : Lines → List ℕ
+waiting_of lines = take lines.used lines.buffer.items
+
+-- how many digits a page has for which there is room
+abbrev pub page_digits_of : Lines → ℕ
+page_digits_of lines = lines.digits
 
 -- the known bytes of a writer grew by a beginning of this text
 pub record AppendsBeginning (old new : Option (List ℕ)) (whole : List ℕ) : Type 0 where

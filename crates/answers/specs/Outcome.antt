@@ -1,11 +1,24 @@
--- What a fault of a run means.
-use Rattle.std.specs.Prelude.{◌≡◌, ◌≢◌, ℕ, List, IfSome, Ok, Err, false, IsTrue}
-use Rattle.std.specs.Io.KnownBytes.{IsAtEnd}
-use Rattle.geometry.specs.{Geometry.hosts_of, declared.geometry.Geometry.Geometry}
-use Rattle.trace.specs.{Trace.commands_of, Trace.is_of_record, Loading.TookOneTooMany, declared.commands.Command.Command, declared.fault.TraceFault.TraceFault}
-use Rattle.trace.specs.declared.fault.TraceFaultKind.TheVariants as fault
-use Rattle.answers.specs.{Streams.Passage, Streams.Part, Streams.Tells, declared.fault.RunFault.RunFault}
+-- What a fault of a run means, and what is printed if a run stopped.
+use Rattle.std.specs.Prelude.{List, ℕ, codes, ◌≡◌, ◌≢◌, IfSome, Ok, Err, false, IsTrue}
+use Rattle.trace.specs.Faults.{fault_text}
 use Rattle.answers.specs.declared.fault.RunFault.TheVariants as run
+use Rattle.answers.specs.declared.fault.RunFault.{RunFault}
+use Rattle.std.specs.Io.KnownBytes.{IsAtEnd}
+use Rattle.geometry.specs.Geometry.{hosts_of}
+use Rattle.geometry.specs.declared.geometry.Geometry.{Geometry}
+use Rattle.trace.specs.Trace.{commands_of, is_of_record}
+use Rattle.trace.specs.Loading.{TookOneTooMany}
+use Rattle.trace.specs.declared.commands.Command.{Command}
+use Rattle.trace.specs.declared.fault.TraceFault.{TraceFault}
+use Rattle.trace.specs.declared.fault.TraceFaultKind.TheVariants as fault
+use Rattle.answers.specs.Streams.{Passage, Part, Tells}
+
+-- why a run stopped
+abbrev pub run_text : RunFault → List ℕ
+run_text (run.Trace found) = fault_text found
+run_text run.Memory = codes "memory: refused"
+run_text run.Threads = codes "threads: refused"
+run_text run.Output = codes "output: failed"
 
 -- a trace that was not played: its first fault, or why it could not be read
 pub record ExplainsTrace (found : TraceFault) (geo : Geometry) (input : Passage) : Type 0 where

@@ -1,5 +1,5 @@
 ghost use Rattle.std.specs.Prelude.{Some};
-ghost use Rattle.answers.specs.Faults.{run_text};
+ghost use Rattle.answers.specs.Outcome.{run_text};
 
 use std::error::Error;
 use std::fmt;

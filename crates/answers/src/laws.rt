@@ -1,6 +1,6 @@
 //! Laws of what waits to be written. Each function has no code: its clauses say what a definition is on small values.
 ghost use Rattle.std.specs.Prelude.{◌≡◌, ℕ, List, [], ◌∷◌};
-ghost use Rattle.answers.specs.{Lines.page_digits_of, Lines.waiting_of, declared.lines.Lines.Lines};
+ghost use Rattle.answers.specs.{Delivery.page_digits_of, Delivery.waiting_of, declared.lines.Lines.Lines};
 
 /// The bytes of a buffer that wait to be written, and the digits of a page.
 pub fn texts_of_a_buffer()

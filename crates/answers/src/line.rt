@@ -1,9 +1,8 @@
 //! Puts the lines of a run's output into a buffer; each call returns where its line ends.
 ghost use Rattle.std.specs.Prelude.{◌≡◌, ◌+◌, ◌*◌, ◌≤◌, ◌++◌, codes, length};
 ghost use Rattle.hex.specs.Hex.{encode_lower};
-ghost use Rattle.answers.specs.Answers.{broom_line, collection_line, end_text, line_text, totals_text, wear_line};
+ghost use Rattle.answers.specs.Answers.{broom_line, collection_line, end_text, line_text, totals_text, wear_line, reply_text};
 ghost use Rattle.text.specs.Putting.{PutsText};
-ghost use Rattle.answers.specs.Replies.{reply_text};
 ghost use Rattle.answers.specs.declared.reply.Reply.TheVariants as replies;
 
 use crate::broom_line::BroomLine;

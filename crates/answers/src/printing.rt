@@ -2,7 +2,7 @@ ghost use Rattle.std.specs.Prelude.{◌≡◌, ◌*◌, ◌-◌, ◌≤◌, [], 
 ghost use Rattle.geometry.specs.Geometry.{page_bytes_of};
 ghost use Rattle.hex.specs.Hex.{encode_lower};
 ghost use Rattle.answers.specs.Answers.{broom_line, broom_names, collection_line, collection_names, end_text, line_text, totals_text, wear_line, wear_names};
-ghost use Rattle.answers.specs.{Lines.page_digits_of, Lines.waiting_of, Replies.reply_text, declared.line.TheConstants.PIECE_BYTES};
+ghost use Rattle.answers.specs.{Delivery.page_digits_of, Delivery.waiting_of, Answers.reply_text, declared.line.TheConstants.PIECE_BYTES};
 ghost use Rattle.answers.specs.Streams.{FailsBy, Moves, Part, Writes, WritesOut, over};
 ghost use Rattle.answers.specs.declared.reply.Reply.TheVariants as replies;
 

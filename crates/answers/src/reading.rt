@@ -1,7 +1,7 @@
 ghost use Rattle.std.specs.{Prelude.◌≡◌, Prelude.All, Prelude.IfErr, Prelude.IfOk, Prelude.IfSome, Prelude.Ok, Prelude.OnOk, Io.KnownBytes.IsAtEnd};
 ghost use Rattle.trace.specs.Trace.{commands_of};
 ghost use Rattle.streams.specs.Watched.{failures_of, inner_of};
-ghost use Rattle.answers.specs.{Outcome.ExplainsTrace, Playable.IsPlayable, Streams.over};
+ghost use Rattle.answers.specs.{Outcome.ExplainsTrace, Answers.IsPlayable, Streams.over};
 
 use geometry::Geometry;
 use std::alloc::Global;

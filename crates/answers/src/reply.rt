@@ -1,5 +1,5 @@
 ghost use Rattle.std.specs.Prelude.{◌≡◌};
-ghost use Rattle.answers.specs.Replies.{is_worn_reply, reply_of};
+ghost use Rattle.answers.specs.Answers.{is_worn_reply, reply_of};
 
 use geometry::Was;
 

@@ -1,7 +1,7 @@
 //! The words of the lines, each with the byte behind it.
 ghost use Rattle.std.specs.Prelude.{◌≡◌, ◌≤◌, [], ◌++◌, codes};
 ghost use Rattle.trace.specs.Trace.{op_name};
-ghost use Rattle.answers.specs.{Answers.outcome_text, Replies.reply_text};
+ghost use Rattle.answers.specs.Answers.{outcome_text, reply_text};
 ghost use Rattle.text.specs.Putting.{short_of};
 
 use crate::reply::Reply;

@@ -1,7 +1,7 @@
 //! Laws of how a trace is read, and of why it is not loaded, not played, or not played to its end.
 ghost use Rattle.std.specs.Prelude.{◌≡◌, ℕ, List, [], ◌∷◌, Option, Some, None, Ok, Err, Bool, true, false, codes, drop, length, replicate};
 ghost use Rattle.answers.specs.{Answers.answer_of, Answers.calls_of, Answers.history_before, Outcome.ExplainsRun, Outcome.ExplainsTrace, Outcome.ReadsCommands};
-ghost use Rattle.answers.specs.{Playable.IsPlayable, Streams.Passage};
+ghost use Rattle.answers.specs.{Answers.IsPlayable, Streams.Passage};
 ghost use Rattle.answers.specs.declared.fault.RunFault.TheVariants as run;
 ghost use Rattle.answers.specs.Streams.{Part, Tells};
 ghost use Rattle.geometry.specs.{Geometry.hosts_of, Geometry.sectors_of, Geometry.words_of, Sectors.Sector, declared.geometry.Geometry.Geometry};

@@ -1,7 +1,7 @@
 -- What a session writes to standard error.
 use Rattle.std.specs.Prelude.{◌≡◌, ℕ, List, [], ◌++◌, codes, decimal, string_bytes, Result, Ok, Err}
 use Rattle.geometry.specs.Limits.{fault_name}
-use Rattle.answers.specs.{Faults.run_text, Streams.Part, Streams.Passage, Streams.Whole, Streams.Writes}
+use Rattle.answers.specs.{Outcome.run_text, Streams.Part, Streams.Passage, Streams.Whole, Streams.Writes}
 use Rattle.player.specs.declared.{refusal.Refusal.Refusal, run_files.FileStop.FileStop, run_files.RunFile.RunFile, stop.Stop.Stop}
 use Rattle.player.specs.declared.refusal.Refusal.TheVariants as refusal
 use Rattle.player.specs.declared.run_files.FileStop.TheVariants as file_stop

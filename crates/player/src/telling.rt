@@ -1,6 +1,6 @@
 ghost use Rattle.std.specs.Prelude.{◌≡◌, ◌+◌, ◌≤◌, ◌++◌, codes, decimal, length};
 ghost use Rattle.trace.specs.Faults.{fault_text};
-ghost use Rattle.answers.specs.{Faults.run_text, Streams.over};
+ghost use Rattle.answers.specs.{Outcome.run_text, Streams.over};
 ghost use Rattle.player.specs.{Session.status_of, Telling.IsTold, Telling.TellsStop, Telling.stop_line, Telling.refusal_text};
 ghost use Rattle.player.specs.declared.telling.TheConstants.{LINE_BYTES};
 

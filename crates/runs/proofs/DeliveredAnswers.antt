@@ -6,7 +6,7 @@ use mathlib.Core.Logic.{dite}
 use native.Mathlib.Decide.{dec_lt}
 use Rattle.geometry.specs.{Geometry.hosts_of, Geometry.page_bytes_of, Geometry.sectors_of, History.Call, declared.geometry.Geometry.Geometry}
 use Rattle.trace.specs.{Trace.commands_of, declared.commands.Command.Command}
-use Rattle.answers.specs.{Delivery.AppendsBeginning, Delivery.AppendsPart, Delivery.AppendsText, Playable.IsPlayable}
+use Rattle.answers.specs.{Delivery.AppendsBeginning, Delivery.AppendsPart, Delivery.AppendsText, Answers.IsPlayable}
 use Rattle.rounds.specs.{Playing.Plays, Lines.Said, Lines.calls_made, Answers.page_size_of, declared.answer_list.Answers.Answers, Merging.answers_by}
 use Rattle.rounds.specs.{Merging.is_meet, Merging.line_count, Merging.lines_for, Merging.merge, Merging.HaveAnswers, Told.lines_text}
 use Rattle.runs.specs.{Texts.text_of, Outputs.IsOutputByWorkers, Outputs.written_by_workers, Texts.IsTextOf}

@@ -10,7 +10,7 @@ use Rattle.geometry.specs.declared.geometry.Geometry.{Geometry}
 use Rattle.trace.specs.Trace.{commands_of}
 use Rattle.trace.specs.declared.commands.Command.{Command}
 use Rattle.answers.specs.Answers.{broom_names, wear_names, collection_names}
-use Rattle.answers.specs.Delivery.{IsUnderWay, AppendsBeginning, AppendsPart, AppendsText}
+use Rattle.answers.specs.Delivery.{IsUnderWay, AppendsBeginning, AppendsPart, AppendsText, waiting_of}
 use Rattle.answers.proofs.Deliveries.{IsUnderWay-more, IsUnderWay-trans, AppendsBeginning-part, WritesOut-rest}
 use Rattle.answers.proofs.Texts.{flat_map_begins, flat_map_more}
 use Rattle.workers.specs.Served.{AllHaveServed}
@@ -21,7 +21,6 @@ use Rattle.ftl_one.specs.Stock.{Stock}
 use Rattle.std.specs.Io.KnownBytes.{Appends}
 use Rattle.ftl_one.specs.Collections.{collection_between}
 use Rattle.ftl_one.specs.declared.collection.Collection.{Collection}
-use Rattle.answers.specs.Lines.{waiting_of}
 use Rattle.answers.specs.Streams.{Passage, Stream, WritesOut, Nothing, Part, Portion, Tells, TellsIf, Whole, Writes, WritesIf, portion_of}
 use Rattle.answers.specs.declared.lines.Lines.{Lines}
 use Rattle.answers.specs.declared.delivery.OutputFailed.{OutputFailed}

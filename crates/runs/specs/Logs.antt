@@ -12,7 +12,7 @@ use Rattle.runs.specs.Playing.{stock_before}
 use Rattle.ftl_one.specs.Stock.{Stock, is_retired, live_of}
 use Rattle.trace.specs.declared.commands.Op.TheVariants as op
 use Rattle.trace.specs.declared.commands.Op.{Op}
-use Rattle.answers.specs.Lines.{waiting_of}
+use Rattle.answers.specs.Delivery.{waiting_of}
 use Rattle.answers.specs.declared.fault.RunFault.TheVariants as run
 use Rattle.answers.specs.declared.fault.RunFault.{RunFault}
 use Rattle.answers.specs.Streams.{Moves, Nothing, Part, Passage, Portion, Stream, Writes}

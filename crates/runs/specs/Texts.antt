@@ -3,7 +3,7 @@ use Rattle.std.specs.Borrow.{Bor}
 use Rattle.std.specs.Prelude.{◌≡◌, ℕ, ◌+◌, ◌*◌, ◌<◌, List, ◌++◌, Option, None, if◌then◌else◌, length, map, slice_get, slice_index_or, slice_set, vec_len, Ok}
 use Rattle.trace.specs.declared.commands.Command.{Command}
 use Rattle.answers.specs.Answers.{end_text, line_text}
-use Rattle.answers.specs.Lines.{page_digits_of}
+use Rattle.answers.specs.Delivery.{page_digits_of}
 use Rattle.rounds.specs.Lines.{Said}
 use Rattle.rounds.specs.Answers.{answer_index, IsCursorOf}
 use Rattle.rounds.specs.declared.answer.Kind.TheVariants as kind

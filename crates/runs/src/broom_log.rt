@@ -1,6 +1,6 @@
 //! The log of a run by workers: what each broom has done.
 ghost use Rattle.std.specs.Prelude.{◌≡◌, [], IfOk, IfSome, is_some};
-ghost use Rattle.answers.specs.{Lines.waiting_of, Streams.WritesOut, Streams.over};
+ghost use Rattle.answers.specs.{Delivery.waiting_of, Streams.WritesOut, Streams.over};
 ghost use Rattle.answers.specs.Streams.{WritesIf};
 ghost use Rattle.runs.specs.Logs.{brooms_text, counts_of};
 

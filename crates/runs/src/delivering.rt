@@ -1,7 +1,7 @@
 ghost use Rattle.std.specs.Prelude.{◌≡◌, ℕ, List, Some, ◌+◌, ◌*◌, ◌<◌, ◌≤◌, false, All, None, [], ◌++◌, length, option_map, slice_index_or, IfOk};
 ghost use Rattle.geometry.specs.Geometry.{hosts_of, page_bytes_of};
 ghost use Rattle.hex.specs.Hex.{encode_lower};
-ghost use Rattle.answers.specs.{Answers.end_text, Lines.page_digits_of, Lines.waiting_of, Replies.reply_text, declared.line.TheConstants.PIECE_BYTES};
+ghost use Rattle.answers.specs.{Answers.end_text, Delivery.page_digits_of, Delivery.waiting_of, Answers.reply_text, declared.line.TheConstants.PIECE_BYTES};
 ghost use Rattle.answers.specs.Streams.{WritesOut, over};
 ghost use Rattle.answers.specs.declared.reply.Reply.TheVariants as replies;
 ghost use Rattle.rounds.specs.{Answers.page_size_of, Lines.Said, Merging.is_meet, Merging.HaveAnswers, Told.answer_text, Merging.answers_by};

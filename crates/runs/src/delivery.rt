@@ -1,6 +1,6 @@
 ghost use Rattle.std.specs.Prelude.{◌≡◌, [], replicate, vec_len};
 ghost use Rattle.rounds.specs.Answers.{first_place};
-ghost use Rattle.answers.specs.Lines.{waiting_of};
+ghost use Rattle.answers.specs.Delivery.{waiting_of};
 
 use answers::Lines;
 use rounds::Cursor;

@@ -3,8 +3,8 @@ ghost use Rattle.std.specs.List.{fold};
 ghost use Rattle.geometry.specs.{Geometry.blocks_of, Geometry.page_bytes_of, Geometry.sectors_of, History.step, Sectors.sector_at};
 ghost use Rattle.ftl_one.specs.OneFtl.{geometry_of, array_of, stock_of};
 ghost use Rattle.trace.specs.declared.commands.Op.TheVariants as ops;
-ghost use Rattle.answers.specs.{Answers.calls_of, Answers.found_text, Answers.line_text, Answers.wear_names, Lines.page_digits_of, Lines.waiting_of};
-ghost use Rattle.answers.specs.{Playable.IsPlayable, declared.line.TheConstants.PIECE_BYTES};
+ghost use Rattle.answers.specs.{Answers.calls_of, Answers.found_text, Answers.line_text, Answers.wear_names, Delivery.page_digits_of, Delivery.waiting_of};
+ghost use Rattle.answers.specs.{Answers.IsPlayable, declared.line.TheConstants.PIECE_BYTES};
 ghost use Rattle.answers.specs.Streams.{FailsBy, Moves, Part, Writes, WritesOut, over};
 ghost use Rattle.runs.specs.{Playing.end_text, Playing.is_refused, Playing.line_by, Playing.stock_after, Logs.block_line};
 

@@ -1,6 +1,6 @@
 //! Laws of the room for a delivery. Each function has no code: its clauses say what a definition is on small values.
 ghost use Rattle.std.specs.Prelude.{◌≡◌, ℕ, [], ◌∷◌};
-ghost use Rattle.answers.specs.Lines.{page_digits_of};
+ghost use Rattle.answers.specs.Delivery.{page_digits_of};
 ghost use Rattle.rounds.specs.declared.answer_list.Cursor.{Cursor};
 ghost use Rattle.runs.specs.{Texts.digits_in, Texts.workers_in, declared.delivery.Delivery.Delivery};
 

@@ -2,7 +2,7 @@ ghost use Rattle.std.specs.Prelude.{◌≡◌, ◌+◌, ◌<◌, ◌≤◌, [], 
 ghost use Rattle.std.specs.List.{fold};
 ghost use Rattle.geometry.specs.{Geometry.page_bytes_of, History.step};
 ghost use Rattle.ftl_one.specs.{Collections.collection_between, OneFtl.geometry_of, OneFtl.array_of, OneFtl.stock_of};
-ghost use Rattle.answers.specs.{Answers.calls_of, Lines.waiting_of, Playable.IsPlayable, Streams.Stream, Streams.stream_of};
+ghost use Rattle.answers.specs.{Answers.calls_of, Delivery.waiting_of, Answers.IsPlayable, Streams.Stream, Streams.stream_of};
 ghost use Rattle.answers.specs.declared.line.TheConstants.{PIECE_BYTES};
 ghost use Rattle.runs.specs.{Logs.log_part, Logs.IsLogged, Logs.is_wanted, Playing.is_refused, Playing.line_by, Playing.stock_after};
 

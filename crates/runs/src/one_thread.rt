@@ -3,7 +3,7 @@ ghost use Rattle.std.specs.Io.KnownBytes.{IsAtEnd};
 ghost use Rattle.geometry.specs.{Geometry.hosts_of, Geometry.page_bytes_of, Geometry.sectors_of, History.after};
 ghost use Rattle.ftl_one.specs.{OneFtl.geometry_of, OneFtl.array_of, OneFtl.stock_of, Stock.opening};
 ghost use Rattle.streams.specs.Watched.{failures_of, inner_of};
-ghost use Rattle.answers.specs.{Answers.collection_names, Lines.waiting_of, Outcome.ExplainsRun, Playable.IsPlayable};
+ghost use Rattle.answers.specs.{Answers.collection_names, Delivery.waiting_of, Outcome.ExplainsRun, Answers.IsPlayable};
 ghost use Rattle.answers.specs.Streams.{Tells, WritesOut, over, stream_of, Whole, Writes, TellsIf};
 ghost use Rattle.runs.specs.Logs.{IsLogOf, log_text, IsStockOf, IsWearOf, beginning_if, portion_left};
 ghost use Rattle.runs.specs.{Logs.IsLogUnderWay, Logs.IsLogged, Logs.is_wanted, Outputs.ExplainsEnd, Outputs.IsOutputOf, Outputs.written_of};

@@ -3,7 +3,7 @@ ghost use Rattle.geometry.specs.{Geometry.page_bytes_of, History.step};
 ghost use Rattle.ftl_one.specs.OneFtl.{geometry_of, array_of, stock_of};
 ghost use Rattle.hex.specs.Hex.{encode_lower};
 ghost use Rattle.trace.specs.declared.commands.Op.TheVariants as ops;
-ghost use Rattle.answers.specs.{Answers.calls_of, Playable.IsPlayable, Replies.is_worn_reply, Replies.reply_text};
+ghost use Rattle.answers.specs.Answers.{calls_of, IsPlayable, is_worn_reply, reply_text};
 ghost use Rattle.runs.specs.Playing.{answer_by, is_refused, stock_after};
 
 use answers::Reply;

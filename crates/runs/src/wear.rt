@@ -1,6 +1,6 @@
 ghost use Rattle.std.specs.Prelude.{◌≡◌, []};
 ghost use Rattle.ftl_one.specs.OneFtl.{geometry_of, stock_of};
-ghost use Rattle.answers.specs.{Lines.waiting_of, Streams.WritesOut, Streams.over};
+ghost use Rattle.answers.specs.{Delivery.waiting_of, Streams.WritesOut, Streams.over};
 ghost use Rattle.answers.specs.Streams.{WritesIf};
 ghost use Rattle.runs.specs.Logs.{wear_text};
 

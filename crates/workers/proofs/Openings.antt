@@ -8,7 +8,7 @@ use Rattle.geometry.specs.{Geometry.hosts_of, Geometry.sectors_of, declared.geom
 use Rattle.flash_rule.specs.declared.view.View.{View}
 use Rattle.flash_table.specs.{declared.pass.Pass.Pass, Flash.view_of, Flash.device, Flash.geometry_of, Flash.first_view}
 use Rattle.trace.specs.{Trace.workers_of, declared.commands.Command.Command, declared.commands.Op.Op}
-use Rattle.answers.specs.Playable.{IsPlayable}
+use Rattle.answers.specs.Answers.{IsPlayable}
 use Rattle.workers.specs.{Playable.IsLine, Playable.lines_at, Runs.AreManned, Runs.HasBegun}
 use Rattle.volume.specs.{declared.volume.Volume.Volume, Volume.flash_of}
 use Rattle.rounds.specs.{Merging.is_meet, Merging.is_line_of, Merging.lines_for, Plans.ends_of, Plans.items_of, Plans.places_for}

@@ -1,6 +1,6 @@
 //! Laws of the writes that a run refuses.
 ghost use Rattle.std.specs.Prelude.{◌≡◌, ℕ, List, [], ◌∷◌, ◌++◌, None, Some, Ok, Err, codes, decimal, false, true};
-ghost use Rattle.answers.specs.{Replies.is_worn_reply, Streams.Passage};
+ghost use Rattle.answers.specs.{Answers.is_worn_reply, Streams.Passage};
 ghost use Rattle.answers.specs.declared.reply.Reply.TheVariants as reply;
 ghost use Rattle.geometry.specs.declared.geometry.Geometry.{Geometry};
 ghost use Rattle.player.specs.Session.{IsOneRun, counted_refusals, refusal_by, run_options_of, status_of};

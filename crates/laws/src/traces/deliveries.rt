@@ -1,7 +1,7 @@
 //! Laws of what a run reads and writes.
 ghost use Rattle.std.specs.Prelude.{length, ◌≡◌, ℕ, List, [], ◌∷◌, Some, None, Ok, Err, true, false, codes};
 ghost use Rattle.answers.specs.Answers.{broom_line, calls_of, collection_line, line_text, wear_line, wear_names};
-ghost use Rattle.answers.specs.{Delivery.IsUnderWay, Faults.run_text, Playable.IsPlayable, Replies.reply_of, Replies.reply_text};
+ghost use Rattle.answers.specs.{Delivery.IsUnderWay, Outcome.run_text, Answers.IsPlayable, Answers.reply_of, Answers.reply_text};
 ghost use Rattle.text.specs.Putting.{PutsText};
 ghost use Rattle.answers.specs.Streams.{Moves, Passage, Stream, Tells, WritesOut, Part, Whole, Writes, WritesIf, TellsIf};
 ghost use Rattle.answers.specs.declared.delivery.OutputFailed.{OutputFailed};

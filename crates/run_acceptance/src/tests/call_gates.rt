@@ -1,6 +1,6 @@
 //! Each call of a pass that plays lines, and of a broom with its queue, asks its gate at exactly these points, in this order.
 ghost use Rattle.std.specs.Prelude.{All};
-ghost use Rattle.answers.specs.Playable.{IsPlayable};
+ghost use Rattle.answers.specs.Answers.{IsPlayable};
 ghost use Rattle.flash_table.specs.Flash.{geometry_of};
 ghost use Rattle.host.specs.Ready.{IsReady};
 ghost use Rattle.volume.specs.Volume.{IsBroomReady, IsBroomReady-prop, flash_of};

@@ -2,7 +2,7 @@
 ghost use Rattle.std.specs.Prelude.{◌≡◌, ◌+◌, ◌<◌, All, IfOk, length};
 ghost use Rattle.std.specs.Arc.{arc_value};
 ghost use Rattle.geometry.specs.Geometry.{brooms_of, hosts_of, page_bytes_of};
-ghost use Rattle.answers.specs.Playable.{IsPlayable};
+ghost use Rattle.answers.specs.Answers.{IsPlayable};
 ghost use Rattle.rounds.specs.Answers.{page_size_of};
 ghost use Rattle.rounds.specs.Merging.{answers_by};
 ghost use Rattle.workers.specs.Runs.{ArePlayed};

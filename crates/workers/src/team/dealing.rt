@@ -1,6 +1,6 @@
 //! Workers and collectors for the threads of a run.
 ghost use Rattle.std.specs.Prelude.{◌≡◌, ◌<◌, ◌≤◌, All, IfOk, length, map, vec_capacity};
-ghost use Rattle.answers.specs.Playable.{IsPlayable};
+ghost use Rattle.answers.specs.Answers.{IsPlayable};
 ghost use Rattle.rounds.specs.Plans.{ends_of, items_of};
 ghost use Rattle.workers.specs.Runs.{AreManned, HasBegun};
 ghost use Rattle.std.specs.Arc.{arc_value};

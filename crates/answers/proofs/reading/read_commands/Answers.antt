@@ -1,6 +1,6 @@
 use Rattle.std.{specs.List.All, proofs.lemmas.Result.IfOk-weaker}
 use Rattle.trace.specs.Trace.{AreCommands, checked}
-use Rattle.answers.{specs.Playable.IsPlayable, proofs.Playable.commands_are_playable}
+use Rattle.answers.{specs.Answers.IsPlayable, proofs.Playable.commands_are_playable}
 use Rattle.answers.proofs.reading.read_commands.Goals as goal
 
 pub returns-clause-playable : goal.returns-clause-playable

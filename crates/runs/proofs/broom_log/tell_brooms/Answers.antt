@@ -1,6 +1,6 @@
 use Rattle.std.proofs.Common.{◌≡◌, ◌++◌, ◌∙◌, ap, length, arith, subst}
 use Rattle.streams.specs.Watched.{inner_of}
-use Rattle.answers.specs.{Answers.broom_line, Delivery.IsUnderWay, Lines.waiting_of, Streams.stream_of}
+use Rattle.answers.specs.{Answers.broom_line, Delivery.IsUnderWay, Delivery.waiting_of, Streams.stream_of}
 use Rattle.answers.proofs.Deliveries.{WritesOut-rest, WritesOut-stopped}
 use Rattle.runs.{specs.Logs.brooms_before, specs.Logs.brooms_text, proofs.LogTexts.brooms_begins, proofs.LogTexts.brooms_turn}
 use Rattle.runs.proofs.broom_log.tell_brooms.Goals as goal

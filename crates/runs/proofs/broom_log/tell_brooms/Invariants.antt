@@ -1,6 +1,6 @@
 use Rattle.std.proofs.Common.{◌≡◌}
 use Rattle.streams.specs.Watched.{failures_of, inner_of}
-use Rattle.answers.specs.{Delivery.IsUnderWay, Lines.waiting_of}
+use Rattle.answers.specs.Delivery.{IsUnderWay, waiting_of}
 use Rattle.runs.specs.Logs.{brooms_before}
 use Rattle.runs.proofs.broom_log.tell_brooms.Given as goal
 

@@ -2,7 +2,7 @@ use Rattle.std.proofs.{Common.◌≡◌, Common.◌∙◌, Common.Bool, Common.L
 use Rattle.std.{proofs.lemmas.List.reverse-reverse, specs.List.All}
 use Rattle.streams.specs.Watched.{inner_of}
 use Rattle.trace.specs.declared.commands.Command.{Command}
-use Rattle.answers.specs.{Playable.IsPlayable, Streams.over, Streams.stream_of}
+use Rattle.answers.specs.{Answers.IsPlayable, Streams.over, Streams.stream_of}
 use Rattle.answers.specs.Streams.{Whole, Writes, WritesIf}
 use Rattle.rounds.specs.{Merging.answers_by, Answers.page_size_of, declared.answer_list.Answers.Answers}
 use Rattle.geometry.specs.Geometry.{page_bytes_of}

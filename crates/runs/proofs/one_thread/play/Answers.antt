@@ -1,7 +1,7 @@
 use Rattle.std.proofs.Common.{◌≡◌, length, arith, refl, subst, sym, ◌∙◌}
 use Rattle.ftl_one.specs.OneFtl.{geometry_of, array_of, stock_of}
 use Rattle.streams.specs.Watched.{inner_of}
-use Rattle.answers.specs.{Lines.waiting_of, Streams.over, Streams.stream_of, Playable.IsPlayable}
+use Rattle.answers.specs.{Delivery.waiting_of, Streams.over, Streams.stream_of, Answers.IsPlayable}
 use Rattle.answers.proofs.Deliveries.{OnErr-any, WritesOut-rest, WritesOut-stopped}
 use Rattle.runs.specs.{Logs.log_before, Logs.IsLogged, Outputs.written_of, Playing.ArePlayed, Playing.answers_written}
 use Rattle.runs.proofs.{LogTexts.log_left_of, LogTexts.log_none, LogTexts.log_turn, RefusedWrites.refused_few, RefusedWrites.refused_turn}

@@ -2,7 +2,7 @@ use Rattle.std.proofs.Common.{◌≡◌, vec_len}
 use Rattle.geometry.specs.Geometry.{page_bytes_of}
 use Rattle.ftl_one.specs.OneFtl.{geometry_of, array_of, stock_of}
 use Rattle.streams.specs.Watched.{failures_of, inner_of}
-use Rattle.answers.specs.{Lines.waiting_of, Streams.over}
+use Rattle.answers.specs.{Delivery.waiting_of, Streams.over}
 use Rattle.runs.specs.{Logs.log_before, Logs.IsLogged, Logs.is_wanted, Playing.refused_before, Playing.ArePlayed}
 use Rattle.runs.proofs.one_thread.play.Given as goal
 

@@ -1,5 +1,5 @@
 use Rattle.std.{proofs.Common.subst, proofs.Common.sym, specs.List.All}
-use Rattle.answers.specs.Playable.{IsPlayable}
+use Rattle.answers.specs.Answers.{IsPlayable}
 use Rattle.runs.proofs.one_thread.run_out.Goals as goal
 
 pub play-requires-clause-playable : goal.play-requires-clause-playable

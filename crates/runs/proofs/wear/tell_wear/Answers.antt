@@ -2,7 +2,7 @@ use Rattle.std.proofs.Common.{◌≡◌, ◌∙◌, ap, arith, subst}
 use Rattle.geometry.specs.Geometry.{blocks_of}
 use Rattle.ftl_one.specs.OneFtl.{geometry_of, stock_of}
 use Rattle.streams.specs.Watched.{inner_of}
-use Rattle.answers.specs.{Delivery.IsUnderWay, Lines.waiting_of, Streams.stream_of}
+use Rattle.answers.specs.{Delivery.IsUnderWay, Delivery.waiting_of, Streams.stream_of}
 use Rattle.answers.proofs.Deliveries.{WritesOut-rest, WritesOut-stopped}
 use Rattle.runs.{specs.Logs.wear_before, specs.Logs.wear_text, proofs.LogTexts.wear_begins, proofs.LogTexts.wear_turn}
 use Rattle.runs.proofs.wear.tell_wear.Goals as goal

@@ -1,7 +1,7 @@
 use Rattle.std.proofs.Common.{◌≡◌}
 use Rattle.ftl_one.specs.OneFtl.{stock_of}
 use Rattle.streams.specs.Watched.{failures_of, inner_of}
-use Rattle.answers.specs.{Delivery.IsUnderWay, Lines.waiting_of}
+use Rattle.answers.specs.Delivery.{IsUnderWay, waiting_of}
 use Rattle.runs.specs.Logs.{wear_before}
 use Rattle.runs.proofs.wear.tell_wear.Given as goal
 

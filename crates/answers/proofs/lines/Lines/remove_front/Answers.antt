@@ -1,6 +1,6 @@
 use Rattle.std.proofs.{Common.◌-◌, Common.take, Common.ap, Common.◌∙◌, Common.rules, lemmas.List.with_items_is, lemmas.List.places}
 use Rattle.std.specs.List.{copy_within}
-use Rattle.answers.proofs.Waiting.{moved_front}
+use Rattle.answers.proofs.Deliveries.{moved_front}
 use Rattle.answers.proofs.lines.Lines.remove_front.Goals as goal
 
 pub returns-clause-waiting : goal.returns-clause-waiting

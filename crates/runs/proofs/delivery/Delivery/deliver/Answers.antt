@@ -1,6 +1,6 @@
 use Rattle.std.proofs.Common.{◌+◌, List, length, vec_len, refl, get_or, drop, sym, ap, ◌∙◌, arith, subst}
 use Rattle.std.proofs.lemmas.{Grind.common_steps, List.length-map}
-use Rattle.answers.{specs.Lines.waiting_of, specs.Streams.stream_of, proofs.Deliveries.WritesOut-rest, proofs.Deliveries.WritesOut-stopped}
+use Rattle.answers.{specs.Delivery.waiting_of, specs.Streams.stream_of, proofs.Deliveries.WritesOut-rest, proofs.Deliveries.WritesOut-stopped}
 use Rattle.streams.specs.Watched.{inner_of}
 use Rattle.rounds.specs.{Merging.answers_by, Answers.answer_index, declared.answer_list.Cursor.Cursor}
 use Rattle.runs.specs.Texts.{AreAt, digits_in, passed_in, text_of, HasDigits}

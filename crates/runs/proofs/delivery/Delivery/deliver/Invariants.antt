@@ -1,6 +1,6 @@
 use Rattle.std.proofs.Common.{◌≡◌, length}
 use Rattle.streams.specs.Watched.{failures_of, inner_of}
-use Rattle.answers.specs.{Delivery.IsUnderWay, Lines.page_digits_of, Lines.waiting_of}
+use Rattle.answers.specs.Delivery.{IsUnderWay, page_digits_of, waiting_of}
 use Rattle.rounds.specs.Merging.{answers_by}
 use Rattle.runs.{specs.Texts.AreAt, specs.Texts.digits_in, specs.Texts.passed_in, proofs.Deliveries.text_before, proofs.Rows.AreNext}
 use Rattle.runs.proofs.delivery.Delivery.deliver.Given as goal
