@@ -3,4 +3,3 @@ mod CommandLines
 mod Defaults
 mod Endings
 mod RunTexts
-mod Words

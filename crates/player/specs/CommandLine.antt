@@ -1,12 +1,35 @@
--- The command line: the options as clap knows them, and the numbers that its matches give.
-use Rattle.std.specs.Prelude.{◌≡◌, ℕ, Bool, true, false, List, [], ◌∷◌, codes, Option, None, Some, pos, MatchOption, ◌^◌, ◌<◌, ◌≤◌}
-use Rattle.std.specs.{Option.option_map, Str.Parse.IsNumeral, Str.Parse.digits_value, Str.Parse.without_leading_plus}
-use Rattle.clap.specs.{Simple.argument_words, Simple.names_of, Simple.on_top, Walk.nothing_held, Walk.settled, Walk.walk, Words.without_minus}
-use Rattle.clap.specs.Words.{App, IsSignedIn, Kinds, Row, Rule, Text, built, fault_of, first_of, matches_of, new_app, new_rule, one_of, with_rule}
+-- The command line: its words as a program reads them, the options as clap knows them, and the numbers that its matches give.
+use Rattle.std.specs.Prelude.{◌≡◌, ◌+◌, ⊤, ℕ, List, ◌∷◌, Option, Some, IfSome, codes, slice_get, Bool, true, false, [], None, pos, MatchOption, ◌^◌, ◌<◌, ◌≤◌}
+use Rattle.std.specs.Str.{IsUtf8}
+use Rattle.clap.specs.Words.{Text, without_minus, App, IsSignedIn, Kinds, Row, Rule, built, fault_of, first_of, matches_of, new_app, new_rule, one_of}
+use Rattle.clap.specs.Words.{with_rule}
+use Rattle.player.specs.declared.stop.Stop.TheVariants as stop
+use Rattle.player.specs.declared.stop.Stop.{Stop}
+use Rattle.std.specs.Option.{option_map}
+use Rattle.std.specs.Str.Parse.{IsNumeral, digits_value, without_leading_plus}
+use Rattle.clap.specs.Simple.{argument_words, names_of, on_top}
+use Rattle.clap.specs.Walk.{nothing_held, settled, walk}
 use Rattle.clap.specs.declared.builder.action.ArgAction.TheVariants as action
 use Rattle.clap.specs.declared.builder.value_parser.ValueParser.TheVariants as parser
 use Rattle.geometry.specs.Limits.{Numbers, numbers}
-use Rattle.player.specs.declared.{arguments.NumberOption.NumberOption, command_line.Options.Options}
+use Rattle.player.specs.declared.arguments.NumberOption.{NumberOption}
+use Rattle.player.specs.declared.command_line.Options.{Options}
+
+-- the words are the program's name and then all arguments, in their order
+abbrev pub AreWordsOf : List Text → List Text → Type 0
+AreWordsOf words arguments = words ≡ codes "flashplay" ∷ arguments
+
+-- an argument is not UTF-8; they count from 1
+pub record IsNoText (arguments : Option (List Text)) (place : ℕ) : Type 0 where
+  pub before : ℕ
+  pub place_is : place ≡ before + 1
+  pub bytes : IfSome arguments (λ all. (text : Text) × (slice_get all before ≡ Some text) × ¬ IsUtf8 text)
+
+-- why the words of a command line could not be read
+abbrev pub WhyUnread : Option (List Text) → Stop → Type 0
+WhyUnread arguments (stop.Encoding place) = IsNoText arguments place
+WhyUnread arguments stop.Memory = ⊤
+WhyUnread _ _ = ⊥
 
 -- an option of a whole number: its name after two dashes, and one value from `least` to `most`, with a default
 abbrev pub option_rule : Text → Text → ℕ → ℕ → Rule

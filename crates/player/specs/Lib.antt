@@ -1,5 +1,4 @@
 -- What public contracts rest on.
-pub mod Arguments
 pub mod CommandLine
 pub mod Session
 pub mod Telling

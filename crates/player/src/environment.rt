@@ -1,5 +1,5 @@
 ghost use Rattle.std.specs.Prelude.{◌≡◌, ℕ, List, Option, None, IfErr, IfOk, IfSome, slice_get, map, option_map, string_bytes};
-ghost use Rattle.player.specs.Arguments.{AreWordsOf, WhyUnread};
+ghost use Rattle.player.specs.CommandLine.{AreWordsOf, WhyUnread};
 
 use crate::stop::Stop;
 use std::alloc::{AllocError, Global};

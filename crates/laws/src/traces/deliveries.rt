@@ -23,7 +23,7 @@ ghost use Rattle.trace.specs.declared.{commands.Command.Command, fault.TraceFaul
 ghost use Rattle.trace.specs.declared.commands.Op.TheVariants as op;
 ghost use Rattle.trace.specs.declared.fault.TraceFaultKind.TheVariants as fault;
 ghost use Rattle.clap.specs.Words.{Text};
-ghost use Rattle.player.specs.Arguments.{AreWordsOf, WhyUnread};
+ghost use Rattle.player.specs.CommandLine.{AreWordsOf, WhyUnread};
 ghost use Rattle.player.specs.declared.stop.Stop.TheVariants as stop;
 ghost use Rattle.laws.specs.{Rounds.plain_line, Rounds.read, Rounds.write_by, Streams.Same, Streams.fails, Streams.passes, Streams.some_line};
 

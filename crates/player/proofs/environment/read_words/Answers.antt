@@ -1,6 +1,6 @@
 use Rattle.std.proofs.Common.{◌≡◌, ◌∙◌, ℕ, [], ◌∷◌, ◌++◌, Some, Global, ap, arith, codes}
 use Rattle.std.{specs.Prelude.Ok, specs.Prelude.string_bytes, specs.Prelude.vec_items, proofs.lemmas.Grind.common_steps}
-use Rattle.player.proofs.Words.{found_there, no_text, not_ok, word_there, words_more, words_start}
+use Rattle.player.proofs.CommandLines.{found_there, no_text, not_ok, word_there, words_more, words_start}
 use Rattle.player.proofs.environment.read_words.Goals as goal
 
 pub loop-place-init : goal.loop-place-init
