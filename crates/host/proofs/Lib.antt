@@ -5,4 +5,3 @@ pub mod WritingSteps
 pub mod WritingCalls
 -- The search for a sector's page, and the reading of a pinned page.
 pub mod ReadingSearch
-pub mod ReadingPages

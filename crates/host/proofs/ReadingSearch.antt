@@ -1,12 +1,29 @@
--- The looks of a search: each but the last one is followed by a stray pin, by which the pass learns that a block is older than it knew.
-use Rattle.std.proofs.Common.{◌≡◌, ℕ, ◌+◌, ◌-◌, ◌*◌, ◌<◌, ◌≤◌, ◌∙◌, List, true, None, Some, sym, ap, subst, refl, arith}
-use Rattle.geometry.specs.{History.Call, History.Begins, History.held, Words.FitsMap, Words.map_word, Limits.Numbers, declared.words.MapWord.MapWord}
-use Rattle.geometry.proofs.{Histories.Begins-refl, Histories.Begins-trans, WordBits.map_same}
-use Rattle.flash_rule.specs.declared.{facts.Name.TheVariants.Pass as APass, facts.Role.TheVariants.Player, facts.Owned.Owned, view.View.View}
-use Rattle.flash_rule.specs.declared.facts.Pin.{Pin, TheVariants.Clear, TheVariants.Candidate, TheVariants.Accepted}
-use Rattle.flash_rule.specs.{Views.AreOfHosts, Views.calls_of, Views.sum_of, Views.owned_at, Rule.IsValue, Plays.Looked, Plays.is_unpinned}
-use Rattle.flash_table.specs.{declared.flash.Flash.Flash, declared.pass.Pass.Pass, Flash.IsPassOf, Flash.device, Flash.view_of, Flash.opened_of}
-use Rattle.host.specs.{Ready.IsRested, Ready.IsReady, Ready.IsPinned, Told.Searched, Told.CameLate}
+-- A page that is pinned, word by word, and the looks of a search: each but the last one is followed by a stray pin, by which the pass learns that a
+-- block is older than it knew.
+use Rattle.std.proofs.Common.{◌≡◌, ℕ, ◌+◌, ◌-◌, ◌*◌, ◌<◌, ◌≤◌, ◌∙◌, List, true, None, Some, sym, ap, subst, refl, arith, ◌^◌, length, get_or}
+use Rattle.geometry.specs.History.{Call, Begins, held}
+use Rattle.geometry.specs.Words.{FitsMap, map_word, word_of}
+use Rattle.geometry.specs.Limits.{Numbers}
+use Rattle.geometry.specs.declared.words.MapWord.{MapWord}
+use Rattle.geometry.proofs.Histories.{Begins-refl, Begins-trans}
+use Rattle.geometry.proofs.WordBits.{map_same}
+use Rattle.flash_rule.specs.declared.facts.Name.TheVariants.{Pass as APass}
+use Rattle.flash_rule.specs.declared.facts.Role.TheVariants.{Player}
+use Rattle.flash_rule.specs.declared.facts.Owned.{Owned}
+use Rattle.flash_rule.specs.declared.view.View.{View}
+use Rattle.flash_rule.specs.declared.facts.Pin.{Pin}
+use Rattle.flash_rule.specs.declared.facts.Pin.TheVariants.{Clear, Candidate, Accepted}
+use Rattle.flash_rule.specs.Views.{AreOfHosts, calls_of, sum_of, owned_at}
+use Rattle.flash_rule.specs.Rule.{IsValue}
+use Rattle.flash_rule.specs.Plays.{Looked, is_unpinned}
+use Rattle.flash_table.specs.declared.flash.Flash.{Flash}
+use Rattle.flash_table.specs.declared.pass.Pass.{Pass}
+use Rattle.flash_table.specs.Flash.{IsPassOf, device, view_of, opened_of, geometry_of}
+use Rattle.host.specs.Ready.{IsRested, IsReady, IsPinned}
+use Rattle.host.specs.Told.{Searched, CameLate}
+use Rattle.geometry.specs.Geometry.{words_of, page_bytes_of}
+use Rattle.flash_rule.specs.World.{data_word}
+use Rattle.flash_rule.proofs.Values.{value_same}
 
 -- what the ages that a pass knows can add up to
 abbrev pub most_known : Numbers → ℕ
@@ -224,3 +241,24 @@ found_empty f p w q tries s h pass look rested now opened =
     let told = search_looks (view_of p) (view_of w) (view_of q) tries s 0 h look in
     let own = look_knows (view_of w) (view_of q) s 0 look in
     (record { rested = rested_searched f p q (tries + 1) rested now opened told.changed own; unpinned = empty.1 }, empty.0)
+
+-- A pass whose view and open block stay keeps its pin
+pub pinned_same : (f : Flash) (p q : Pass) (page : MapWord) (value : List ℕ) → IsPinned f p page value → IsPassOf f q → view_of q ≡ view_of p
+    → opened_of q ≡ opened_of p → IsPinned f q page value
+pinned_same f p q page value h pass same opened =
+    let rested = h.rested in
+    record {
+      rested = rested_same f p q rested pass opened (ap (λ (x : View). x.owns) same) (ap (λ (x : View). x.work) same)
+          (ap (λ (x : View). x.whole) same) (ap (λ (x : View). x.guest) same) (subst KnowsCalls (sym same) (rested.callers, rested.own));
+      pinned = ap (λ (x : View). x.pin) same ∙ h.pinned;
+      whole = h.whole;
+      block = h.block;
+      page = h.page;
+    }
+
+-- A buffer of a page's length whose words are the value's has the value
+pub value_read : (f : Flash) (p : Pass) (page : MapWord) (value out : List ℕ) → IsPinned f p page value → length out ≡ page_bytes_of (geometry_of f)
+    → ((k : ℕ) → get_or out k 0 < 2 ^ 8)
+    → ((k : ℕ) → k < words_of (geometry_of f) → word_of out k ≡ data_word value k) → out ≡ value
+unfolding data_word
+value_read f p page value out h long bytes words = value_same (device f) out value (record { long = long; bytes = bytes }) h.whole words

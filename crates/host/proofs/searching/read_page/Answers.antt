@@ -4,7 +4,7 @@ use native.Mathlib.Decide.{ℕ_discrete}
 use Rattle.geometry.specs.{Geometry.words_of, Words.word_of}
 use Rattle.flash_rule.specs.{declared.view.View.View, declared.facts.Pin.TheVariants.Accepted, World.data_word, Plays.Spared}
 use Rattle.flash_table.specs.Flash.{geometry_of, view_of}
-use Rattle.host.proofs.ReadingPages.{pinned_same, value_read}
+use Rattle.host.proofs.ReadingSearch.{pinned_same, value_read}
 use Rattle.host.proofs.searching.read_page.Goals as goal
 
 pub returns-clause-value : goal.returns-clause-value
