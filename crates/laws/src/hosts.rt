@@ -4,7 +4,7 @@ ghost use Rattle.geometry.specs.{History.Begins, History.Write, History.held, de
 ghost use Rattle.flash_rule.specs.{Plays.Disjoint, Views.sum_of, World.sector_word, declared.facts.Owned.Owned, declared.view.View.View};
 ghost use Rattle.broom.specs.Meeting.{BroomsMet, HasHeard, StoodTold};
 ghost use Rattle.host.specs.Told.{MetHolding, MetTold, Refused, Searched, Wrote};
-ghost use Rattle.uses.specs.Standing.{HasNoErase};
+ghost use Rattle.uses.specs.Sharing.{HasNoErase};
 ghost use Rattle.laws.specs.Hosts.{FilledOne, TookNothing};
 
 pub(crate) mod host_results;

@@ -17,7 +17,7 @@ ghost use Rattle.flash_table.specs.declared.broom_seat.Reclaiming.TheVariants as
 ghost use Rattle.geometry.specs.{Geometry.blocks_of, Geometry.pages_of, History.Trim, Limits.numbers, Words.FitsMap, Words.map_word, Words.pin_word};
 ghost use Rattle.geometry.specs.declared.{answer.Was.Was, geometry.Geometry.Geometry, words.MapWord.MapWord, words.PinWord.PinWord};
 ghost use Rattle.geometry.specs.declared.words.Phase.TheVariants as phase;
-ghost use Rattle.uses.specs.Standing.{HasNoErase};
+ghost use Rattle.uses.specs.Sharing.{HasNoErase};
 ghost use Rattle.laws.specs.{Brooms.a_page, Limits.a_state};
 ghost use Rattle.laws.specs.Tables.{a_cycle, a_reclaimed, an_inspection, an_open, an_owned, some_blocks};
 

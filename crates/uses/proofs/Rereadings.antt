@@ -3,7 +3,7 @@ use Rattle.std.proofs.Common.{ℕ, List, subst}
 use Rattle.geometry.specs.{History.Begins, declared.answer.Got.Got, declared.answer.Was.Was}
 use Rattle.flash_rule.specs.declared.view.View.{View}
 use Rattle.volume.specs.Correct.{Correct, Read, Write, Found, Replaced, known_by}
-use Rattle.uses.specs.Rereading.{IsReadBehind}
+use Rattle.uses.specs.Sharing.{IsReadBehind}
 
 -- two steps of one pass, one after the other
 pub read_behind : (n t s : ℕ) (value : List ℕ) (was : Was) (got : Got) (old new : List ℕ) (v w x : View)

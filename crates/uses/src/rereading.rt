@@ -2,7 +2,7 @@ ghost use Rattle.std.specs.Prelude.{◌≡◌, ℕ, ◌<◌, IfOk, length};
 ghost use Rattle.geometry.specs.Geometry.{page_bytes_of, sectors_of};
 ghost use Rattle.flash_table.specs.{Flash.geometry_of, Flash.view_of, Steps.HasNumber};
 ghost use Rattle.host.specs.Ready.{IsReady};
-ghost use Rattle.uses.specs.Rereading.{IsReadBehind};
+ghost use Rattle.uses.specs.Sharing.{IsReadBehind};
 ghost use Rattle.volume.specs.Volume.{flash_of};
 
 use volume::{Got, NoBlock, Pass, Volume};

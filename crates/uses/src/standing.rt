@@ -4,7 +4,7 @@ ghost use Rattle.flash_rule.specs.Plays.{Disjoint};
 ghost use Rattle.flash_table.specs.Flash.{geometry_of, view_of};
 ghost use Rattle.broom.specs.Ready.{view_of_broom};
 ghost use Rattle.host.specs.{Holding.Holds, Holding.page_of, Holding.pass_of, Ready.IsReady};
-ghost use Rattle.uses.specs.Standing.{HasNoErase};
+ghost use Rattle.uses.specs.Sharing.{HasNoErase};
 ghost use Rattle.volume.specs.Volume.{IsBroomReady, flash_of};
 
 use volume::{Broom, Held, NoGate, Pass, Volume};

@@ -2,7 +2,7 @@ ghost use Rattle.std.specs.Prelude.{◌≡◌, ℕ, All, List, [], ◌∷◌};
 ghost use Rattle.rounds.specs.Merging.{AreDisjointCommands, IsDisjointTrace};
 ghost use Rattle.trace.specs.declared.commands.Command.{Command};
 ghost use Rattle.trace.specs.declared.commands.Op.TheVariants as op;
-ghost use Rattle.uses.specs.Together.{read_by, trim_by};
+ghost use Rattle.uses.specs.Sharing.{read_by, trim_by};
 
 /// Which sectors the lines of a round may share, for programs that make traces: all workers may read a sector that is only read, and no other
 /// worker may name a sector that one of them changes.

@@ -5,7 +5,7 @@ ghost use Rattle.geometry.specs.History as call;
 ghost use Rattle.flash_rule.specs.{declared.carried.Carried.Carried, declared.view.View.View, Plays.Spared, Views.calls_of};
 ghost use Rattle.flash_table.specs.{declared.flash.Flash.Flash, Flash.view_of};
 ghost use Rattle.host.specs.{Holding.page_of, Holding.pass_of, declared.holding.Held.Held};
-ghost use Rattle.uses.specs.Standing.{HasNoErase};
+ghost use Rattle.uses.specs.Sharing.{HasNoErase};
 ghost use Rattle.volume.specs.Correct.{Answer, Asked, Correct, Found, IsWritten, Known, Look, Read, Replaced, Trim, Write, WriteNew, calls_for};
 ghost use Rattle.volume.specs.{LeavesArray.LeavesArray, Undisturbed.AreEarlier, Undisturbed.Undisturbed};
 ghost use Rattle.laws.specs.Steps.{ProgramsApart, StaysAt, erase_in};

@@ -20,7 +20,7 @@ ghost use Rattle.host.specs.Holding.{Found, Holds, IsSpared, addr_of, page_in, p
 ghost use Rattle.host.specs.{Told.WroteNew, Told.was_found, declared.holding.Held.Held};
 ghost use Rattle.host.specs.declared.holding.Holding.TheVariants as holding;
 ghost use Rattle.host.specs.declared.writing_new.NewFault.TheVariants as new_fault;
-ghost use Rattle.uses.specs.Standing.{HasNoErase};
+ghost use Rattle.uses.specs.Sharing.{HasNoErase};
 ghost use Rattle.volume.specs.Volume as volume_brooms;
 ghost use Rattle.volume.specs.Closing.{AreAll, AreFinal, AreRead, HasLeft, HaveLooked, IsFinal, last_view, sectors_left};
 ghost use Rattle.volume.specs.{Correct.Does, Correct.IsWritten, Correct.Look, Correct.Read, Correct.Replaced, Correct.Trim, Undisturbed.IsUndisturbed};

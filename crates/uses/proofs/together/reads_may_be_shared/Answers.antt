@@ -1,5 +1,5 @@
 use Rattle.std.proofs.Common.{[], refl, arith}
-use Rattle.uses.specs.Together.{read_by}
+use Rattle.uses.specs.Sharing.{read_by}
 use Rattle.uses.proofs.together.reads_may_be_shared.Goals as goal
 
 pub returns-clause-changed : goal.returns-clause-changed
