@@ -1,11 +1,23 @@
--- Pages, blocks and stocks, as the laws of a die and of a device for one thread name them.
-use Rattle.std.specs.Prelude.{◌≡◌, ℕ, List, [], ◌∷◌, Bool, true, false}
-use Rattle.geometry.specs.declared.{geometry.Geometry.Geometry, page_addr.PageAddr.PageAddr}
+-- States, pages, blocks and stocks, as the laws of dies, of devices and of their numbers and words name them.
+use Rattle.std.specs.Prelude.{ℕ, List, ◌∷◌, ◌++◌, replicate, ◌≡◌, [], Bool, true, false}
+use Rattle.geometry.specs.declared.words.Phase.{Phase}
+use Rattle.geometry.specs.declared.words.PinWord.{PinWord}
+use Rattle.geometry.specs.declared.geometry.Geometry.{Geometry}
+use Rattle.geometry.specs.declared.page_addr.PageAddr.{PageAddr}
 use Rattle.geometry.specs.Geometry.{blocks_of, luns_of, endurance_of}
 use Rattle.die.specs.declared.block_state.BlockState.{BlockState}
-use Rattle.ftl_one.specs.{declared.role.Role.Role, Stock.Entry, Stock.Stock}
 use Rattle.ftl_one.specs.declared.role.Role.TheVariants as role
+use Rattle.ftl_one.specs.declared.role.Role.{Role}
+use Rattle.ftl_one.specs.Stock.{Entry, Stock}
 use Rattle.ftl_one.specs.Stock as stock
+
+-- a block with this many readers, in this phase, with this many pages written, in this generation
+abbrev pub a_state : ℕ → Phase → ℕ → ℕ → PinWord
+a_state readers p written generation = record { readers = readers; phase = p; written = written; generation = generation }
+
+-- a page of two words, 1 and 512
+abbrev pub two_words : List ℕ
+two_words = (1 ∷ replicate 7 0) ++ 0 ∷ 2 ∷ replicate 6 0
 
 -- a page's address
 abbrev pub at : ℕ → ℕ → PageAddr

@@ -1,17 +1,55 @@
--- Sessions as the laws of their ends name them.
-use Rattle.std.specs.Prelude.{◌≡◌, ⊤, ℕ, List, Option, None, Some, Result, codes}
+-- Streams before a call and after it, as the laws of what is read and written name them, and sessions as the laws of their ends name them.
+use Rattle.std.specs.Prelude.{◌≡◌, ℕ, List, Some, ⊤, Option, None, Result, codes}
+use Rattle.answers.specs.Streams.{Passage, Stream, Tells, Whole}
+use Rattle.answers.specs.declared.broom_line.BroomLine.{BroomLine}
 use Rattle.std.specs.Io.KnownBytes.{IsAtEnd}
-use Rattle.answers.specs.Streams.{Passage, Tells, Whole}
 use Rattle.clap.specs.Words.{Text, one_of}
-use Rattle.geometry.specs.{Geometry.numbers_of, declared.geometry.Geometry.Geometry}
-use Rattle.player.specs.{CommandLine.AreOptionsOf, CommandLine.numbers_given, CommandLine.rows_named, Telling.TellsEnding, declared.run_files.FileStop.FileStop}
-use Rattle.player.specs.{Session.EndsSession, Session.Explains, Session.ExplainsStop, Session.Filings, Session.IsTextFor, Session.filings}
-use Rattle.player.specs.{declared.command_line.Options.Options}
-use Rattle.player.specs.declared.{run_files.RunFile.RunFile, stop.Stop.Stop}
+use Rattle.geometry.specs.Geometry.{numbers_of}
+use Rattle.geometry.specs.declared.geometry.Geometry.{Geometry}
+use Rattle.player.specs.CommandLine.{AreOptionsOf, numbers_given, rows_named}
+use Rattle.player.specs.Telling.{TellsEnding}
+use Rattle.player.specs.declared.run_files.FileStop.{FileStop}
+use Rattle.player.specs.Session.{EndsSession, Explains, ExplainsStop, Filings, IsTextFor, filings}
+use Rattle.player.specs.declared.command_line.Options.{Options}
+use Rattle.player.specs.declared.run_files.RunFile.{RunFile}
 use Rattle.player.specs.declared.stop.Stop.TheVariants as stop
+use Rattle.player.specs.declared.stop.Stop.{Stop}
 use Rattle.runs.specs.declared.files.RunFiles.{RunFiles}
-use Rattle.streams.specs.{Watched.failures_of, declared.named_file.OpenFault.OpenFault}
+use Rattle.streams.specs.Watched.{failures_of}
 use Rattle.streams.specs.declared.named_file.OpenFault.TheVariants as open_fault
+use Rattle.streams.specs.declared.named_file.OpenFault.{OpenFault}
+
+-- a stream that failed this often and has these bytes
+abbrev pub stream : ℕ → List ℕ → Stream
+stream failures bytes = record { failures = failures; bytes = Some bytes }
+
+-- a stream that failed as often before and after, and had and has these bytes
+abbrev pub passes : List ℕ → List ℕ → Passage
+passes before after = record { before = stream 0 before; after = stream 0 after }
+
+-- a stream that failed once
+abbrev pub fails : List ℕ → List ℕ → Passage
+fails before after = record { before = stream 0 before; after = stream 1 after }
+
+-- a text is right for bytes if it is these bytes
+abbrev pub Same : List ℕ → List ℕ → Type 0
+Same bytes text = text ≡ bytes
+
+-- the counts of a broom, all different
+abbrev pub some_line : BroomLine
+some_line = record {
+  broom = 1;
+  drained = 2;
+  moved = 3;
+  programmed = 4;
+  erased = 5;
+  kept = 6;
+  retired = 7;
+  lost = 8;
+  pinned = 9;
+  stale = 10;
+  idle = 11;
+}
 
 -- a session ended with this status, whatever its files were; their names, why they were not opened, and their bytes are known by functions of
 -- numbers

@@ -5,7 +5,7 @@ ghost use Rattle.flash_rule.specs.{Plays.Disjoint, Views.sum_of, World.sector_wo
 ghost use Rattle.broom.specs.Meeting.{BroomsMet, HasHeard, StoodTold};
 ghost use Rattle.host.specs.Told.{MetHolding, MetTold, Refused, Searched, Wrote};
 ghost use Rattle.uses.specs.Sharing.{HasNoErase};
-ghost use Rattle.laws.specs.Hosts.{FilledOne, TookNothing};
+ghost use Rattle.laws.specs.Steps.{FilledOne, TookNothing};
 
 pub(crate) mod host_results;
 

@@ -17,7 +17,7 @@ ghost use Rattle.geometry.specs.{Limits.numbers, Words.FitsMap, Words.map_word};
 ghost use Rattle.geometry.specs.{Words.FitsPin, Words.pin_word, Words.page_index, Words.pin_index, declared.words.MapWord.MapWord};
 ghost use Rattle.geometry.specs.declared.words.{TheConstants.UNMAPPED, PinWord.PinWord};
 ghost use Rattle.geometry.specs.declared.words.Phase.TheVariants as phase;
-ghost use Rattle.laws.specs.{Tables.an_inspection, Tables.an_owned, Brooms.a_page};
+ghost use Rattle.laws.specs.{Steps.an_inspection, Steps.an_owned, Brooms.a_page};
 
 pub(crate) mod played_rounds;
 pub(crate) mod players;

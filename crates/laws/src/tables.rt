@@ -18,8 +18,8 @@ ghost use Rattle.geometry.specs.{Geometry.blocks_of, Geometry.pages_of, History.
 ghost use Rattle.geometry.specs.declared.{answer.Was.Was, geometry.Geometry.Geometry, words.MapWord.MapWord, words.PinWord.PinWord};
 ghost use Rattle.geometry.specs.declared.words.Phase.TheVariants as phase;
 ghost use Rattle.uses.specs.Sharing.{HasNoErase};
-ghost use Rattle.laws.specs.{Brooms.a_page, Limits.a_state};
-ghost use Rattle.laws.specs.Tables.{a_cycle, a_reclaimed, an_inspection, an_open, an_owned, some_blocks};
+ghost use Rattle.laws.specs.{Brooms.a_page, Blocks.a_state};
+ghost use Rattle.laws.specs.Steps.{a_cycle, a_reclaimed, an_inspection, an_open, an_owned, some_blocks};
 
 pub(crate) mod queues;
 pub(crate) mod rules;

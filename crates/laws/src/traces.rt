@@ -10,7 +10,7 @@ ghost use Rattle.trace.specs.{Loading.ExplainsLoad, Trace.AreCommands, Trace.IsF
 ghost use Rattle.trace.specs.declared.{commands.Command.Command, fault.TraceFault.TraceFault, fault.TraceFaultKind.TraceFaultKind};
 ghost use Rattle.trace.specs.declared.commands.Op.TheVariants as op;
 ghost use Rattle.trace.specs.declared.fault.TraceFaultKind.TheVariants as fault;
-ghost use Rattle.laws.specs.Streams.{Same, fails, passes, stream};
+ghost use Rattle.laws.specs.Sessions.{Same, fails, passes, stream};
 
 pub(crate) mod deliveries;
 pub(crate) mod lines;

@@ -7,7 +7,7 @@ ghost use Rattle.geometry.specs.Words.{FitsPin, IsStateOf, freed_added, kept_add
 ghost use Rattle.geometry.specs.{Words.page_index, Words.pin_index, declared.geometry.Geometry.Geometry};
 ghost use Rattle.geometry.specs.declared.limits.GeometryFault.TheVariants as fault;
 ghost use Rattle.geometry.specs.declared.words.Phase.TheVariants as phase;
-ghost use Rattle.laws.specs.{Brooms.a_page, Limits.a_state, Limits.two_words};
+ghost use Rattle.laws.specs.{Brooms.a_page, Blocks.a_state, Blocks.two_words};
 
 /// Which fault the numbers of a device have: each bound is one that a number may reach, and none that it may pass.
 pub fn faults_of_numbers()

@@ -8,7 +8,7 @@ ghost use Rattle.geometry.specs.declared.words.MapWord.{MapWord};
 ghost use Rattle.geometry.specs.declared.words.Phase.TheVariants as phase;
 ghost use Rattle.host.specs.{Holding.pass_of, Told.MetHolding, Told.MetTold, Told.Wrote, declared.holding.Held.Held};
 ghost use Rattle.volume.specs.Undisturbed.{Undisturbed};
-ghost use Rattle.laws.specs.{Brooms.a_page, Tables.an_owned};
+ghost use Rattle.laws.specs.{Brooms.a_page, Steps.an_owned};
 
 /// What a write leaves of the block that it fills, at which history it is answered, and what two players that met have heard of each other.
 pub fn records_of_hosts()

@@ -2,7 +2,7 @@ ghost use Rattle.std.specs.Prelude.{◌≡◌, ◌+◌, ◌-◌, ◌^◌, ℕ, [
 ghost use Rattle.erase_queue.specs.declared.{pass.QueuePass.QueuePass, sight.Sight.Sight};
 ghost use Rattle.erase_queue.specs.Moves.{AreBelow, DidPut, DidTake, Stand, StoodSome};
 ghost use Rattle.erase_queue.specs.Queue.{WasEmpty, WasFull, WasPut, WasTaken, empties_of, fulls_of, sight_of};
-ghost use Rattle.laws.specs.Queues.{sees, sees_own};
+ghost use Rattle.laws.specs.Steps.{sees, sees_own};
 
 /// A number is put behind all others and taken from the front, each at a place of its own.
 pub fn numbers_put_and_taken()

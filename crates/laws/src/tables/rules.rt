@@ -13,7 +13,7 @@ ghost use Rattle.flash_rule.specs.declared.facts.Role.TheVariants as seat;
 ghost use Rattle.geometry.specs.{History.Begins, History.Trim, Limits.numbers};
 ghost use Rattle.geometry.specs.declared.answer.Was.TheVariants as was;
 ghost use Rattle.geometry.specs.declared.words.Phase.TheVariants as phase;
-ghost use Rattle.laws.specs.{Brooms.a_page, Queues.sees, Tables.an_owned};
+ghost use Rattle.laws.specs.{Brooms.a_page, Steps.sees, Steps.an_owned};
 
 /// What the passes of a queue know at first.
 pub fn sights_of_a_queue()

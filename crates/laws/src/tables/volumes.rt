@@ -25,7 +25,7 @@ ghost use Rattle.volume.specs.Volume as volume_brooms;
 ghost use Rattle.volume.specs.Closing.{AreAll, AreFinal, AreRead, HasLeft, HaveLooked, IsFinal, last_view, sectors_left};
 ghost use Rattle.volume.specs.{Correct.Does, Correct.IsWritten, Correct.Look, Correct.Read, Correct.Replaced, Correct.Trim, Undisturbed.IsUndisturbed};
 ghost use Rattle.volume.specs.{declared.closing.Closed.Closed, Volume.flash_of, Volume.queue_of, declared.volume.Volume.Volume};
-ghost use Rattle.laws.specs.{Blocks.at, Brooms.a_page, Hosts.FilledOne};
+ghost use Rattle.laws.specs.{Blocks.at, Brooms.a_page, Steps.FilledOne};
 ghost use Rattle.geometry.specs.History as call;
 
 /// What a hold of a page says.

@@ -25,7 +25,7 @@ ghost use Rattle.trace.specs.declared.fault.TraceFaultKind.TheVariants as fault;
 ghost use Rattle.clap.specs.Words.{Text};
 ghost use Rattle.player.specs.CommandLine.{AreWordsOf, WhyUnread};
 ghost use Rattle.player.specs.declared.stop.Stop.TheVariants as stop;
-ghost use Rattle.laws.specs.{Rounds.plain_line, Rounds.read, Rounds.write_by, Streams.Same, Streams.fails, Streams.passes, Streams.some_line};
+ghost use Rattle.laws.specs.{Rounds.plain_line, Rounds.read, Rounds.write_by, Sessions.Same, Sessions.fails, Sessions.passes, Sessions.some_line};
 
 /// When a writer has received a text, a beginning of it, or a text that is right for what was read.
 pub fn texts_sent_to_a_writer()

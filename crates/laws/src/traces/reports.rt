@@ -34,7 +34,7 @@ ghost use Rattle.streams.specs.declared.watched.Watched.{Watched};
 ghost use Rattle.trace.specs.declared.commands.Op.TheVariants as op;
 ghost use Rattle.trace.specs.declared.fault.TraceFaultKind.TheVariants as fault;
 ghost use Rattle.laws.specs.{Blocks.block_with, Blocks.live, Blocks.stock_with, Brooms.a_page, Rounds.plain_line, Rounds.read, Rounds.write_by};
-ghost use Rattle.laws.specs.{Streams.Same, Streams.fails, Streams.passes, Tables.a_reclaimed, Tables.an_open, Tables.an_owned};
+ghost use Rattle.laws.specs.{Sessions.Same, Sessions.fails, Sessions.passes, Steps.a_reclaimed, Steps.an_open, Steps.an_owned};
 
 /// The names of faults and files, and the status of a session that stopped.
 pub fn names_of_faults()

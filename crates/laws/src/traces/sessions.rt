@@ -21,9 +21,8 @@ ghost use Rattle.runs.specs.{Logs.IsBroomLogOf, Outputs.IsLastLineOf, Outputs.Is
 ghost use Rattle.streams.specs.{Watched.failures_of, Watched.inner_of, declared.named_file.OpenFault.OpenFault, declared.watched.Watched.Watched};
 ghost use Rattle.streams.specs.declared.named_file.OpenFault.TheVariants as open_fault;
 ghost use Rattle.laws.specs.Sessions.{EndsBy, EndsWith, Gives, PlaysAll, Reports, in_use, named_b, system_refused, unknown_files, untold, untold_bytes};
-ghost use Rattle.laws.specs.Sessions.{IsEarly, NeitherFails, untold_name};
+ghost use Rattle.laws.specs.Sessions.{IsEarly, NeitherFails, untold_name, Same, passes};
 ghost use Rattle.runs.specs.declared.files.RunFiles.{RunFiles};
-ghost use Rattle.laws.specs.Streams.{Same, passes};
 
 /// What the status of a session says of what was read and written.
 pub fn ends_of_a_session()

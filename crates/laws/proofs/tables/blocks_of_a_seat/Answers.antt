@@ -1,5 +1,5 @@
 use Rattle.std.proofs.Common.{◌≡◌, Some, None}
-use Rattle.laws.specs.Tables.{an_owned}
+use Rattle.laws.specs.Steps.{an_owned}
 use Rattle.geometry.specs.declared.words.Phase.TheVariants as phase
 use Rattle.laws.proofs.tables.blocks_of_a_seat.Goals as goal
 

@@ -1,6 +1,6 @@
 use Rattle.std.proofs.Common.{ℕ, Some, None, ap, ◌∙◌, arith}
 use Rattle.flash_rule.specs.declared.view.View.{View}
-use Rattle.laws.specs.{Brooms.a_page, Tables.a_reclaimed}
+use Rattle.laws.specs.{Brooms.a_page, Steps.a_reclaimed}
 use Rattle.laws.proofs.tables.pins_and_victims_of_a_seat.Goals as goal
 
 pub returns-clause-stamp : goal.returns-clause-stamp

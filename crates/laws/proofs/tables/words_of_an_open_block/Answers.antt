@@ -1,7 +1,7 @@
 use Rattle.std.proofs.Common.{◌++◌, [], ◌∷◌, Some, refl, ap, ◌∙◌}
 use Rattle.flash_rule.specs.{declared.view.View.View, Plays.words_in}
 use Rattle.geometry.specs.declared.words.Phase.TheVariants as phase
-use Rattle.laws.specs.{Brooms.a_page, Tables.an_open, Tables.an_owned}
+use Rattle.laws.specs.{Brooms.a_page, Steps.an_open, Steps.an_owned}
 use Rattle.laws.proofs.tables.words_of_an_open_block.Goals as goal
 
 pub returns-clause-placed : goal.returns-clause-placed

@@ -1,5 +1,5 @@
 use Rattle.std.proofs.Common.{refl}
-use Rattle.laws.proofs.Decimals.{d}
+use Rattle.laws.proofs.PlayedLines.{d}
 use Rattle.laws.proofs.traces.deliveries.lines_of_reports.Goals as goal
 
 pub returns-clause-line : goal.returns-clause-line

@@ -1,5 +1,5 @@
 use Rattle.std.proofs.Common.{◌≡◌, ℕ, List, [], ◌∷◌, length, refl, sym, ap, ◌∙◌, arith, Ok}
-use Rattle.laws.proofs.Decimals.{d}
+use Rattle.laws.proofs.PlayedLines.{d}
 use Rattle.hex.specs.Hex.{decode_of}
 use Rattle.text.specs.Digits.{bytes_of}
 use Rattle.laws.proofs.traces.deliveries.words_of_a_command_line.Goals as goal

@@ -1,4 +1,4 @@
-use Rattle.laws.proofs.{ThreeLines.text_of_three, OneRead.finds_none, ReadBehind.reads_behind}
+use Rattle.laws.proofs.PlayedLines.{text_of_three, finds_none, reads_behind}
 use Rattle.laws.proofs.traces.lines.answers_of_rounds.Goals as goal
 
 pub returns-clause-empty : goal.returns-clause-empty

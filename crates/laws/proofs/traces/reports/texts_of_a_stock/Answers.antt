@@ -1,5 +1,5 @@
 use Rattle.std.proofs.Common.{refl}
-use Rattle.laws.proofs.Decimals.{d}
+use Rattle.laws.proofs.PlayedLines.{d}
 use Rattle.laws.proofs.traces.reports.texts_of_a_stock.Goals as goal
 
 pub returns-clause-totals : goal.returns-clause-totals

@@ -4,7 +4,7 @@ use Rattle.answers.specs.Answers.{totals_text}
 use Rattle.ftl_one.specs.Stock.{opening}
 use Rattle.trace.specs.Trace.{commands_of}
 use Rattle.runs.specs.Playing.{text_of_commands}
-use Rattle.laws.proofs.NoCommands.{none_meant}
+use Rattle.laws.proofs.Loads.{none_meant}
 use Rattle.laws.proofs.traces.texts.texts_of_a_trace.Goals as goal
 
 no_work : (geo : Geometry) → text_of_commands geo [] ≡ totals_text 0 0 0
