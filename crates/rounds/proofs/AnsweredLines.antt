@@ -8,7 +8,8 @@ use Rattle.trace.specs.declared.commands.{Command.Command, Op.Op}
 use Rattle.trace.specs.declared.commands.Op.TheVariants as op
 use Rattle.rounds.specs.{Lines.Said, Lines.calls_by, Lines.is_full, Orders.made, Orders.Plays, Orders.InOrder, Orders.LeaveSame, Rounds.PlayedRound}
 use Rattle.rounds.specs.Told.{Line, worker_of, sector_of, calls_in, is_right, line, told, AreAnswered, RoundsAreInOrder}
-use Rattle.rounds.proofs.{Content.target, Sequential.sequential, Sequential.leaves_same, Sequential.same-append, Sequential.in_order_same, Sequential.in_order_append}
+use Rattle.rounds.proofs.{Content.target, Sequential.sequential, Sequential.leaves_same, Sequential.same-append, Sequential.in_order_same}
+use Rattle.rounds.proofs.Sequential.{in_order_append}
 use Rattle.rounds.proofs.Meetings.{tied_again, round_between}
 use Rattle.rounds.specs.Playing as playing
 

@@ -9,7 +9,8 @@ ghost use Rattle.broom.specs.{Ready.folded_view, Ready.blocks_of_broom, Ready.vi
 ghost use Rattle.host.specs.Ready.{IsReady};
 ghost use Rattle.rounds.specs.Answers.{HasSpaceFor, IsCursorOf, first_place, answer_index, said_in};
 ghost use Rattle.rounds.specs.Lines.{Said, kind_of, said};
-ghost use Rattle.rounds.specs.{Merging.HaveAnswers, Pages.bytes_in, Pages.bytes_of, Plans.ends_of, Plans.places_for, Merging.AreAtOneHistory, Merging.answers_by};
+ghost use Rattle.rounds.specs.{Merging.HaveAnswers, Pages.bytes_in, Pages.bytes_of, Plans.ends_of, Plans.places_for, Merging.AreAtOneHistory};
+ghost use Rattle.rounds.specs.Merging.{answers_by};
 ghost use Rattle.rounds.specs.declared.{answer.Answer.Answer, answer_list.Answers.Answers};
 ghost use Rattle.rounds.specs.declared.answer.Kind.TheVariants as kind;
 ghost use Rattle.trace.specs.declared.commands.Command.{Command};
