@@ -579,6 +579,9 @@ pub fn promises()
     ensures on_device { (f : Flash) (core : Layer) (v : Sector) (acked begun : List Update)
         → IsConsistent f core acked begun → f 3 0 ≡ Version (sole 7) 5 v
         → 3 < (device_of core).read_blocks }
+    ensures spare { (f : Flash) (core : Layer) (acked begun : List Update)
+        → IsConsistent f core acked begun → next_page_of core ≡ None
+        → (b : ℕ) × (b < (device_of core).blocks) × IsFree core.map.items b }
     ensures safe { (f : Flash) (core : Layer) (acked begun : List Update)
         → IsConsistent f core acked begun
         → IsSafe core (command.Program (record { block = 1; page = 2 }) 5) → f 1 2 ≡ Erased }

@@ -410,7 +410,7 @@ impl Nand for Chip {
         Ok(())
     }
 
-    fn copyback(&mut self, from: PageAddr, to: PageAddr) -> Result<(), Fault>
+    fn copyback(&mut self, from: PageAddr, to: PageAddr, source: Reading) -> Result<(), Fault>
         ensures does { Performs (command.Copy 0 from to) (sole 0) None result
             (chip_flash self.old) (chip_flash self.new) }
         ensures shape { chip_shape self.new ≡ chip_shape self.old }

@@ -154,8 +154,10 @@ pub trait Nand {
         ensures syncs { syncs self.new ≡ syncs self.old }
         ensures cause { CountsFault (faults self.old) (faults self.new) result };
 
-    /// Copies a page with its stamp into an erased page.
-    fn copyback(&mut self, from: PageAddr, to: PageAddr) -> Result<(), Fault>
+    /// Copies a page with its stamp into an erased page. The source is what its stamp was read as: the number and the sectors of its version, or that it
+    /// can't be read, and then the copy can't be read either.
+    fn copyback(&mut self, from: PageAddr, to: PageAddr, source: Reading) -> Result<(), Fault>
+        requires { ReadsStamp (flash self.old from.block from.page) source }
         ensures does { Performs (command.Copy 0 from to)
             (sole 0) None result (flash self.old) (flash self.new) }
         ensures shape { shape self.new ≡ shape self.old }

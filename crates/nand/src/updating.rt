@@ -70,10 +70,13 @@ fn perform<N: Nand>(
             };
             nand.program(chip_page(numbers, at), stamp, main)
         }
-        Command::Copy(_, from, to) => nand.copyback(
-            chip_page(numbers, from),
-            chip_page(numbers, to),
-        ),
+        Command::Copy(_, from, to) => {
+            let from = chip_page(numbers, from);
+            match nand.stamp(from) {
+                Ok(source) => nand.copyback(from, chip_page(numbers, to), source),
+                Err(PowerGone) => Err(Fault::PowerGone),
+            }
+        }
         Command::Erase(number) => nand.erase(chip_block(numbers, number)),
         Command::Refused => Ok(()),
     }
