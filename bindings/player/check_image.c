@@ -32,13 +32,7 @@ struct look {
 
 static int read_all(int fd, uint8_t *bytes, size_t count, uint64_t at)
 {
-    for (size_t done = 0; done < count;) {
-        ssize_t n = pread(fd, bytes + done, count - done, (off_t)(at + done));
-        if (n == 0 || (n < 0 && errno != EINTR))
-            return 0;
-        done += n > 0 ? (size_t)n : 0;
-    }
-    return 1;
+    return mtl_read_all(fd, bytes, count, (off_t)at) == 0;
 }
 
 /* ---- Pages ---- */
@@ -96,25 +90,25 @@ static void count_gaps(struct look *look, uint32_t block)
 /* Finds on which side an open would find each block: 0, or the code of what is wrong. */
 static uint32_t find_sides(struct look *look)
 {
-    uint8_t session[SESSION_BYTES], boot[BOOT_BYTES], parts[CHECKPOINTS][PART_BYTES];
+    uint8_t session[SESSION_BYTES], boot[BOOT_BYTES];
     size_t bytes = (size_t)look->numbers.blocks * ENTRY_BYTES;
-    uint64_t checkpoint = 0, number;
-    uint32_t code = MINTLINTEL_DONE;
+    struct image_bytes image = {look->fd, look->numbers, look->layout, look->spares, look->page};
+    struct taken taken;
+    uint64_t number;
+    uint32_t code = MINTLINTEL_FILE_FAILED;
     if (look->layout.sides == 1)
-        return code;
+        return MINTLINTEL_DONE;
     uint8_t *entries = malloc(bytes);
     if (!entries)
         return MINTLINTEL_NO_MEMORY;
-    if (!read_all(look->fd, session, sizeof session, PART_BYTES) || !read_all(look->fd, entries, bytes, look->layout.entries_at) ||
-        !read_all(look->fd, parts[0], sizeof parts, look->layout.checkpoints_at))
-        code = MINTLINTEL_FILE_FAILED;
-    else if (!mtl_last_checkpoint((const uint8_t (*)[PART_BYTES])parts, &checkpoint))
-        code = MINTLINTEL_NOT_AN_IMAGE;
     mtl_read_boot(boot);
+    int is_read = read_all(look->fd, session, sizeof session, PART_BYTES) && read_all(look->fd, entries, bytes, look->layout.entries_at);
+    int has_doubts = is_read && mtl_session_has_doubts(session, boot);
+    if (is_read)
+        code = mtl_take_checkpoint(&image, entries, has_doubts, &taken);
     for (uint32_t block = 0; code == MINTLINTEL_DONE && block < look->numbers.blocks; block++) {
-        if (!mtl_entry_number(entries + (size_t)block * ENTRY_BYTES, &number) || number / 2 > checkpoint + 1)
-            code = MINTLINTEL_NOT_AN_IMAGE;
-        look->sides[block] = number % 2 ^ (number / 2 > checkpoint && mtl_session_has_doubts(session, boot));
+        mtl_entry_number(entries + (size_t)block * ENTRY_BYTES, &number);
+        look->sides[block] = number % 2 ^ (number / 2 > taken.number && has_doubts);
     }
     free(entries);
     return code;
@@ -122,14 +116,14 @@ static uint32_t find_sides(struct look *look)
 
 static int check_block(struct look *look, uint32_t block)
 {
-    uint64_t at = HEAD_BYTES + ((uint64_t)look->sides[block] * look->numbers.blocks + block) * look->layout.block_bytes, newest_of_block = 0;
+    uint64_t at = mtl_side_at(&look->numbers, &look->layout, block, look->sides[block]), newest_of_block = 0;
     if (!read_all(look->fd, look->spares, (size_t)look->numbers.pages * SPARE_BYTES, at))
         return 0;
     count_gaps(look, block);
     for (uint32_t page = 0; page < look->numbers.pages; page++) {
         const uint8_t *spare = look->spares + (size_t)page * SPARE_BYTES;
         enum reading reading = mtl_image_reading(spare);
-        int is_aside = reading == IS_NEITHER && mtl_get32(spare + AT_ASIDE) == 1;
+        int is_aside = reading == IS_NEITHER && mtl_get32(spare + AT_TAG) % 2 == 1;
         look->erased += reading == IS_ERASED;
         look->aside += (uint64_t)is_aside;
         look->broken += reading == IS_NEITHER && !is_aside;

@@ -43,8 +43,7 @@ int mtl_file_failed(struct mintlintel_image_file *file, int error)
     return 3;
 }
 
-/* Reads or writes all of these bytes: 0, or the errno of what failed. The end of the file counts as EIO. */
-static int read_all(int fd, void *bytes, size_t count, off_t at)
+int mtl_read_all(int fd, void *bytes, size_t count, off_t at)
 {
     for (size_t done = 0; done < count;) {
         ssize_t n = pread(fd, (char *)bytes + done, count - done, at + (off_t)done);
@@ -55,6 +54,7 @@ static int read_all(int fd, void *bytes, size_t count, off_t at)
     return 0;
 }
 
+/* The same for a write. */
 static int write_all(int fd, const void *bytes, size_t count, off_t at)
 {
     for (size_t done = 0; done < count;) {
@@ -84,7 +84,7 @@ static int write_all_parts(int fd, struct iovec *parts, uint32_t count, off_t at
 
 int mtl_file_get(struct mintlintel_image_file *file, void *bytes, size_t count, off_t at)
 {
-    int error = read_all(file->fd, bytes, count, at);
+    int error = mtl_read_all(file->fd, bytes, count, at);
     return error ? mtl_file_failed(file, error) : 0;
 }
 
@@ -110,16 +110,17 @@ static int sync_bytes(struct mintlintel_image_file *file)
     return 0;
 }
 
-/* If blocks have moved, a checkpoint follows once all else is on the disk. */
+/* If blocks have moved, a list of all that was programmed is synced with it, or else a plain checkpoint behind it. An open leaves no list: other modes erase
+ * what is listed. */
 int mtl_file_sync(struct mintlintel_image_file *file)
 {
-    if (sync_bytes(file) != 0)
+    int is_list = mtl_sides_are_listed(file), is_due = file->sides.count > 0 || (file->is_mounting && file->sides.is_list);
+    if ((is_list && mtl_sides_write_checkpoint(file, 1) != 0) || sync_bytes(file) != 0)
         return 3;
-    if (file->sides.count == 0)
-        return 0;
-    if (mtl_sides_write_checkpoint(file) != 0 || sync_bytes(file) != 0)
+    if (is_due && !is_list && (mtl_sides_write_checkpoint(file, 0) != 0 || sync_bytes(file) != 0))
         return 3;
-    mtl_sides_let_go(file);
+    if (is_due)
+        mtl_sides_let_go(file, is_list);
     return 0;
 }
 
@@ -130,11 +131,31 @@ static int is_zero(const uint8_t *bytes, size_t count)
     return bytes[0] == 0 && memcmp(bytes, bytes + 1, count - 1) == 0;
 }
 
+/* The check of a stamp with the tag of its page. */
+static uint32_t spare_check(const uint8_t *stamp, uint32_t tag)
+{
+    return mtl_crc(tag, stamp, MINTLINTEL_STAMP_BYTES);
+}
+
+int mtl_spare_fits(const uint8_t *spare)
+{
+    return mtl_get32(spare + AT_SPARE_CHECK) == spare_check(spare, mtl_get32(spare + AT_TAG) & ~1u);
+}
+
 enum reading mtl_image_reading(const uint8_t *spare)
 {
     if (is_zero(spare, SPARE_BYTES))
         return IS_ERASED;
-    return mtl_get32(spare + AT_SPARE_CHECK) == mtl_crc(0, spare, AT_SPARE_CHECK) && mtl_get32(spare + AT_ASIDE) == 0 ? IS_VERSION : IS_NEITHER;
+    return mtl_spare_fits(spare) && mtl_get32(spare + AT_TAG) % 2 == 0 ? IS_VERSION : IS_NEITHER;
+}
+
+/* The spare bytes of a page that is programmed now. */
+static void spare_into(const struct mintlintel_image_file *file, uint8_t *spare, const uint8_t *stamp)
+{
+    uint32_t tag = file->layout.has_lists ? mtl_tag(file->sides.checkpoint) : 0;
+    memcpy(spare, stamp, MINTLINTEL_STAMP_BYTES);
+    put32(spare + AT_SPARE_CHECK, spare_check(stamp, tag));
+    put32(spare + AT_TAG, tag);
 }
 
 /* Whether this place of the file is in a hole, so that all up to the next data reads as zeros. */
@@ -216,9 +237,8 @@ static int image_program(void *chip, uint32_t block, uint32_t page, const void *
     struct mintlintel_image_file *file = chip;
     const struct queue *queue = &file->queue;
     const uint8_t *bytes = main;
-    uint8_t spare[SPARE_BYTES] = {0};
-    memcpy(spare, stamp, MINTLINTEL_STAMP_BYTES);
-    put32(spare + AT_SPARE_CHECK, mtl_crc(0, spare, AT_SPARE_CHECK));
+    uint8_t spare[SPARE_BYTES];
+    spare_into(file, spare, stamp);
     if (has_failed(file) || give(file, &(struct command){block, page, bytes, {0, 0}}, spare) != 0)
         return 3;
     int may_wait = queue->kept && bytes >= queue->kept && bytes + file->numbers.page_bytes <= queue->kept_end;
@@ -231,9 +251,11 @@ static int image_copyback(void *chip, uint32_t from_block, uint32_t from_page, u
     struct mintlintel_image_file *file = chip;
     if (do_what_waits(file, from_block) != 0 || load_spares(file, from_block) != 0)
         return 3;
-    const uint8_t *spare = file->spares + (size_t)from_page * SPARE_BYTES;
-    if (mtl_image_reading(spare) != IS_VERSION)
+    const uint8_t *from = file->spares + (size_t)from_page * SPARE_BYTES;
+    uint8_t spare[SPARE_BYTES];
+    if (mtl_image_reading(from) != IS_VERSION)
         return mtl_file_failed(file, EIO);
+    spare_into(file, spare, from);
     return give(file, &(struct command){block, page, NULL, {from_block, from_page}}, spare);
 }
 
@@ -304,8 +326,8 @@ int mtl_image_read_run(const struct mintlintel_image *image, const struct mtl_ru
     size_t bytes = file->numbers.page_bytes;
     uint8_t spares[MTL_MOST_OF_A_RUN * SPARE_BYTES], *page = out;
     if ((run->behind && mtl_queue_commit(file, run->behind) != 0) ||
-        read_all(file->fd, spares, (size_t)run->count * SPARE_BYTES, spare_at(file, run->at.block, run->at.page)) != 0 ||
-        read_all(file->fd, out, run->count * bytes, page_at(file, run->at.block, run->at.page)) != 0)
+        mtl_read_all(file->fd, spares, (size_t)run->count * SPARE_BYTES, spare_at(file, run->at.block, run->at.page)) != 0 ||
+        mtl_read_all(file->fd, out, run->count * bytes, page_at(file, run->at.block, run->at.page)) != 0)
         return 0;
     for (uint32_t i = 0; i < run->count; i++) {
         const uint8_t *spare = spares + (size_t)i * SPARE_BYTES;
@@ -337,7 +359,7 @@ static uint32_t head_from(const uint8_t *part, struct mintlintel_image_head *hea
     if (memcmp(part, magic, sizeof magic) != 0)
         return MINTLINTEL_NOT_AN_IMAGE;
     head->version = mtl_get32(part + AT_VERSION);
-    if (head->version != VERSION && head->version != VERSION_OF_ONE_SIDE)
+    if (head->version < VERSION_OF_ONE_SIDE || head->version > VERSION)
         return MINTLINTEL_OTHER_VERSION;
     if (mtl_get32(part + PART_BYTES - CHECK_BYTES) != mtl_crc(0, part, PART_BYTES - CHECK_BYTES))
         return MINTLINTEL_NOT_AN_IMAGE;
@@ -356,7 +378,7 @@ static uint32_t read_head(int fd, struct mintlintel_image_head *head)
         return MINTLINTEL_FILE_FAILED;
     if (about.st_size < HEAD_BYTES)
         return MINTLINTEL_NOT_AN_IMAGE;
-    errno = read_all(fd, part, sizeof part, 0);
+    errno = mtl_read_all(fd, part, sizeof part, 0);
     return errno ? MINTLINTEL_FILE_FAILED : head_from(part, head);
 }
 
@@ -376,7 +398,7 @@ void mtl_read_boot(uint8_t *boot)
     memset(boot, 0, BOOT_BYTES);
     int fd = open("/proc/sys/kernel/random/boot_id", O_RDONLY | O_CLOEXEC);
     if (fd >= 0) {
-        if (read_all(fd, boot, BOOT_BYTES, 0) != 0)
+        if (mtl_read_all(fd, boot, BOOT_BYTES, 0) != 0)
             memset(boot, 0, BOOT_BYTES);
         close(fd);
     }
@@ -435,8 +457,9 @@ static int is_whole(struct mintlintel_image_file *file, uint32_t block, uint32_t
 /* Sets a version aside, so that it is none from now on. Its bytes stay. */
 static int set_aside(struct mintlintel_image_file *file, uint32_t block, uint32_t page)
 {
-    uint8_t aside[4] = {1, 0, 0, 0};
-    return mtl_file_set(file, aside, sizeof aside, spare_at(file, block, page) + AT_ASIDE);
+    uint8_t tag[4];
+    put32(tag, mtl_get32(file->spares + (size_t)page * SPARE_BYTES + AT_TAG) | 1);
+    return mtl_file_set(file, tag, sizeof tag, spare_at(file, block, page) + AT_TAG);
 }
 
 /* Reads each page, and sets aside those that were cut. In mode `flush` writes may have reached the disk in any order, so what stands behind such a
@@ -491,7 +514,7 @@ static uint64_t in_whole_parts(uint64_t bytes)
 
 struct image_layout mtl_image_layout(uint32_t version, const struct mintlintel_durable_numbers *numbers)
 {
-    struct image_layout layout = {.sides = version == VERSION_OF_ONE_SIDE ? 1 : 2};
+    struct image_layout layout = {.sides = version == VERSION_OF_ONE_SIDE ? 1 : 2, .has_lists = version > VERSION_WITHOUT_LISTS};
     layout.spare_bytes = in_whole_parts((uint64_t)numbers->pages * SPARE_BYTES);
     layout.block_bytes = layout.spare_bytes + in_whole_parts((uint64_t)numbers->pages * numbers->page_bytes);
     layout.length = layout.entries_at = HEAD_BYTES + layout.sides * numbers->blocks * layout.block_bytes;
@@ -601,10 +624,13 @@ static uint32_t take_image(struct mintlintel_image_file *file, const struct mint
     if (!file->sides.of_blocks || !file->sides.moved || !file->spares || !file->zeros || !file->page || !file->queue.copies)
         return MINTLINTEL_NO_MEMORY;
     map_file(file);
-    code = mtl_sides_read(file);
+    int has_doubts = needs_checks(file, &mode);
+    code = mtl_sides_read(file, has_doubts);
+    if (code == MINTLINTEL_FILE_FAILED)
+        mtl_file_failed(file, errno);
     if (code != MINTLINTEL_DONE)
         return code;
-    if (needs_checks(file, &mode) && (mtl_sides_go_back(file) != 0 || check_pages(file, mode) != 0))
+    if (has_doubts && (mtl_sides_go_back(file) != 0 || check_pages(file, mode) != 0))
         return MINTLINTEL_FILE_FAILED;
     return write_session(file, IN_USE) == 0 ? MINTLINTEL_DONE : MINTLINTEL_FILE_FAILED;
 }
@@ -689,7 +715,7 @@ static int copy_run(struct mintlintel_image_file *file, int to, off_t at, off_t 
     int error = bytes ? 0 : ENOMEM;
     while (error == 0 && at < end) {
         size_t count = (size_t)(end - at) < MOST ? (size_t)(end - at) : MOST;
-        error = read_all(file->fd, bytes, count, at);
+        error = mtl_read_all(file->fd, bytes, count, at);
         if (error == 0)
             error = write_all(to, bytes, count, at);
         at += (off_t)count;

@@ -4,7 +4,6 @@
 
 #include "flash.h"
 #include "image_format.h"
-#include <sys/types.h>
 #include <sys/uio.h>
 
 /* How many commands wait at most, of how many pages one call of the system writes the main bytes or the spare bytes, how many turns the threads share
@@ -37,6 +36,11 @@ struct sides {
     uint8_t *of_blocks;      /* 0 or 1, and HAS_MOVED since the last checkpoint. Atomic */
     uint32_t *moved, count;  /* the blocks that have moved */
     uint64_t checkpoint;     /* the number of the last one */
+    uint64_t last;           /* the same, or the number of a list that an open hasn't taken */
+    int is_list;             /* whether that is a list */
+    struct filled list[MOST_LISTED]; /* the blocks that were programmed since the last checkpoint. The last one was erased last */
+    uint32_t listed;
+    int is_unlisted;         /* others were programmed too */
 };
 enum { HAS_MOVED = 2 };
 
@@ -78,8 +82,8 @@ int mtl_sides_move(const struct mintlintel_image_file *file);
 /* Writes the entries and checkpoints of a new image, so that there is room for them on the disk: 0, 6 or 46. */
 uint32_t mtl_sides_make(struct mintlintel_image_file *file);
 
-/* Reads the last checkpoint and the sides: 0, 6, 42 or 46. */
-uint32_t mtl_sides_read(struct mintlintel_image_file *file);
+/* Reads the checkpoint and the sides, of an image that may have lost power: 0, 6, 42 or 46. */
+uint32_t mtl_sides_read(struct mintlintel_image_file *file, int has_doubts);
 
 /* After a power cut: blocks that have moved since the last checkpoint are back. A sync makes that durable. */
 int mtl_sides_go_back(struct mintlintel_image_file *file);
@@ -87,9 +91,15 @@ int mtl_sides_go_back(struct mintlintel_image_file *file);
 /* Erases a block: on its other side, unless it has moved already or doesn't move. */
 int mtl_sides_erase(struct mintlintel_image_file *file, uint32_t block);
 
-/* Writes the next checkpoint, and once that is durable lets the sides go that blocks have moved from. */
-int mtl_sides_write_checkpoint(struct mintlintel_image_file *file);
-void mtl_sides_let_go(struct mintlintel_image_file *file);
+/* Notes that a page was programmed. */
+void mtl_sides_fill(struct mintlintel_image_file *file, uint32_t block, uint32_t page, const uint8_t *spare);
+
+/* Whether blocks have moved, and a checkpoint can list all that was programmed. */
+int mtl_sides_are_listed(const struct mintlintel_image_file *file);
+
+/* Writes the next checkpoint, a list or a plain one, and once that is durable lets the sides go that blocks have moved from. */
+int mtl_sides_write_checkpoint(struct mintlintel_image_file *file, int is_list);
+void mtl_sides_let_go(struct mintlintel_image_file *file, int is_list);
 
 /* Gives the disk's room of all sides that no block has back, if the system can. */
 void mtl_sides_punch(const struct mintlintel_image_file *file);
@@ -101,7 +111,7 @@ static inline uint32_t side_of(const struct mintlintel_image_file *file, uint32_
 
 static inline off_t side_at(const struct mintlintel_image_file *file, uint32_t block, uint32_t side)
 {
-    return (off_t)(HEAD_BYTES + ((uint64_t)side * file->numbers.blocks + block) * file->layout.block_bytes);
+    return (off_t)mtl_side_at(&file->numbers, &file->layout, block, side);
 }
 
 /* Where the spare bytes of a page stand, and its main bytes. */

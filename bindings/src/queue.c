@@ -91,6 +91,8 @@ static int program(struct mintlintel_image_file *file, uint64_t first, uint32_t 
         mtl_file_set_parts(file, main, count, page_at(file, command->block, command->page)) != 0 ||
         mtl_file_set_parts(file, spares, count, spare_at(file, command->block, command->page)) != 0)
         return 3;
+    for (uint32_t i = 0; i < count; i++)
+        mtl_sides_fill(file, command->block, command->page + i, queue->spares[(first + i) % MOST_WAITING]);
     return file->mode == MINTLINTEL_ALWAYS ? mtl_file_sync(file) : 0;
 }
 

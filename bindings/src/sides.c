@@ -7,9 +7,6 @@
 #include <stdlib.h>
 #include <string.h>
 
-/* Where the check of an entry stands. */
-enum { AT_ENTRY_CHECK = 12 };
-
 /* ---- Entries and checkpoints ---- */
 
 static off_t entry_at(const struct mintlintel_image_file *file, uint32_t block)
@@ -22,39 +19,10 @@ static off_t checkpoint_at(const struct mintlintel_image_file *file, uint32_t pl
     return (off_t)(file->layout.checkpoints_at + (uint64_t)place * PART_BYTES);
 }
 
-static void entry_into(uint8_t *entry, uint64_t number)
-{
-    memset(entry, 0, ENTRY_BYTES);
-    for (int i = 0; i < 8; i++)
-        entry[i] = (uint8_t)(number >> 8 * i);
-    uint32_t check = mtl_crc(0, entry, AT_ENTRY_CHECK);
-    for (int i = 0; i < CHECK_BYTES; i++)
-        entry[AT_ENTRY_CHECK + i] = (uint8_t)(check >> 8 * i);
-}
-
-int mtl_entry_number(const uint8_t *entry, uint64_t *number)
-{
-    *number = mtl_get32(entry) | (uint64_t)mtl_get32(entry + 4) << 32;
-    return mtl_get32(entry + AT_ENTRY_CHECK) == mtl_crc(0, entry, AT_ENTRY_CHECK);
-}
-
-int mtl_last_checkpoint(const uint8_t (*parts)[PART_BYTES], uint64_t *number)
-{
-    uint64_t other;
-    int found = 0;
-    *number = 0;
-    for (int place = 0; place < CHECKPOINTS; place++)
-        if (mtl_entry_number(parts[place], &other)) {
-            *number = other > *number ? other : *number;
-            found = 1;
-        }
-    return found;
-}
-
 static int set_number(struct mintlintel_image_file *file, uint64_t number, off_t at)
 {
     uint8_t entry[ENTRY_BYTES];
-    entry_into(entry, number);
+    mtl_checkpoint_into(entry, &(struct checkpoint){.number = number});
     return mtl_file_set(file, entry, sizeof entry, at);
 }
 
@@ -65,20 +33,12 @@ uint32_t mtl_sides_make(struct mintlintel_image_file *file)
     if (!entries)
         return MINTLINTEL_NO_MEMORY;
     for (uint32_t block = 0; block < blocks; block++)
-        entry_into(entries + (size_t)block * ENTRY_BYTES, 0);
+        mtl_checkpoint_into(entries + (size_t)block * ENTRY_BYTES, &(struct checkpoint){0});
     int result = mtl_file_set(file, entries, (size_t)blocks * ENTRY_BYTES, entry_at(file, 0));
     for (uint32_t place = 0; result == 0 && place < CHECKPOINTS; place++)
         result = set_number(file, 0, checkpoint_at(file, place));
     free(entries);
     return result == 0 ? MINTLINTEL_DONE : MINTLINTEL_FILE_FAILED;
-}
-
-static uint32_t read_checkpoint(struct mintlintel_image_file *file)
-{
-    uint8_t parts[CHECKPOINTS][PART_BYTES];
-    if (mtl_file_get(file, parts, sizeof parts, checkpoint_at(file, 0)) != 0)
-        return MINTLINTEL_FILE_FAILED;
-    return mtl_last_checkpoint((const uint8_t (*)[PART_BYTES])parts, &file->sides.checkpoint) ? MINTLINTEL_DONE : MINTLINTEL_NOT_AN_IMAGE;
 }
 
 static void note_move(struct sides *sides, uint32_t block, uint32_t side)
@@ -88,30 +48,35 @@ static void note_move(struct sides *sides, uint32_t block, uint32_t side)
 }
 
 /* An entry has the number of the checkpoint that the block's last move comes before, and its side as the lowest bit. */
-static uint32_t read_entries(struct mintlintel_image_file *file, uint8_t *entries)
+static void read_entries(struct sides *sides, const uint8_t *entries, uint32_t blocks)
 {
-    struct sides *sides = &file->sides;
     uint64_t number;
-    if (mtl_file_get(file, entries, (size_t)file->numbers.blocks * ENTRY_BYTES, entry_at(file, 0)) != 0)
-        return MINTLINTEL_FILE_FAILED;
-    for (uint32_t block = 0; block < file->numbers.blocks; block++) {
-        if (!mtl_entry_number(entries + (size_t)block * ENTRY_BYTES, &number) || number / 2 > sides->checkpoint + 1)
-            return MINTLINTEL_NOT_AN_IMAGE;
+    for (uint32_t block = 0; block < blocks; block++) {
+        mtl_entry_number(entries + (size_t)block * ENTRY_BYTES, &number);
         sides->of_blocks[block] = number % 2;
         if (number / 2 > sides->checkpoint)
             note_move(sides, block, number % 2);
     }
-    return MINTLINTEL_DONE;
+    sides->is_unlisted = sides->count > 0;
 }
 
-uint32_t mtl_sides_read(struct mintlintel_image_file *file)
+uint32_t mtl_sides_read(struct mintlintel_image_file *file, int has_doubts)
 {
+    struct image_bytes image = {file->fd, file->numbers, file->layout, file->spares, file->page};
+    size_t bytes = (size_t)file->numbers.blocks * ENTRY_BYTES;
+    struct taken taken;
     if (file->layout.sides == 1)
         return MINTLINTEL_DONE;
-    uint8_t *entries = malloc((size_t)file->numbers.blocks * ENTRY_BYTES);
-    uint32_t code = entries ? read_checkpoint(file) : MINTLINTEL_NO_MEMORY;
+    uint8_t *entries = malloc(bytes);
+    uint32_t code = !entries ? MINTLINTEL_NO_MEMORY : mtl_file_get(file, entries, bytes, entry_at(file, 0)) == 0 ? MINTLINTEL_DONE : MINTLINTEL_FILE_FAILED;
     if (code == MINTLINTEL_DONE)
-        code = read_entries(file, entries);
+        code = mtl_take_checkpoint(&image, entries, has_doubts, &taken);
+    if (code == MINTLINTEL_DONE) {
+        file->sides.checkpoint = taken.number;
+        file->sides.last = taken.last;
+        file->sides.is_list = taken.is_list;
+        read_entries(&file->sides, entries, file->numbers.blocks);
+    }
     free(entries);
     return code;
 }
@@ -135,6 +100,38 @@ int mtl_sides_move(const struct mintlintel_image_file *file)
     return file->mode == MINTLINTEL_FLUSH && file->layout.sides == 2 && file->boot[0];
 }
 
+/* An erased block is the last of the list from now on. */
+static void list_erased(struct sides *sides, uint32_t block, uint32_t side)
+{
+    for (uint32_t i = 0; i < sides->listed; i++)
+        if (sides->list[i].block == block)
+            sides->list[i] = sides->list[--sides->listed];
+    if (sides->listed == MOST_LISTED) {
+        sides->is_unlisted = 1;
+        sides->listed--;
+    }
+    sides->list[sides->listed++] = (struct filled){block, side, 0, 0};
+}
+
+void mtl_sides_fill(struct mintlintel_image_file *file, uint32_t block, uint32_t page, const uint8_t *spare)
+{
+    struct sides *sides = &file->sides;
+    uint32_t at = sides->listed;
+    while (at > 0 && sides->list[at - 1].block != block)
+        at--;
+    if (at == 0 || sides->list[at - 1].pages != page) {
+        sides->is_unlisted = 1;
+        return;
+    }
+    sides->list[at - 1].pages++;
+    sides->list[at - 1].check = mtl_crc(sides->list[at - 1].check, spare, SPARE_BYTES);
+}
+
+int mtl_sides_are_listed(const struct mintlintel_image_file *file)
+{
+    return file->layout.has_lists && file->sides.count > 0 && !file->sides.is_unlisted;
+}
+
 /* A process that is killed has moved the block, or not. */
 int mtl_sides_erase(struct mintlintel_image_file *file, uint32_t block)
 {
@@ -142,6 +139,7 @@ int mtl_sides_erase(struct mintlintel_image_file *file, uint32_t block)
     uint32_t side = side_of(file, block);
     int moves = mtl_sides_move(file) && !(sides->of_blocks[block] & HAS_MOVED);
     side ^= (uint32_t)moves;
+    list_erased(sides, block, side);
     if (mtl_file_set(file, file->zeros, (size_t)file->numbers.pages * SPARE_BYTES, side_at(file, block, side)) != 0)
         return 3;
     if (!moves)
@@ -152,22 +150,37 @@ int mtl_sides_erase(struct mintlintel_image_file *file, uint32_t block)
     return 0;
 }
 
-/* Those with even numbers and those with odd ones take turns, so that the last one stays whole; each has a copy, in case that a bit of it is lost. */
-int mtl_sides_write_checkpoint(struct mintlintel_image_file *file)
+/* The number of the next checkpoint. It is written over a list that an open hasn't taken. */
+static uint64_t next_of(const struct sides *sides)
 {
-    uint64_t next = file->sides.checkpoint + 1;
-    uint32_t place = next % 2;
-    return set_number(file, next, checkpoint_at(file, place)) != 0 ? 3 : set_number(file, next, checkpoint_at(file, place + 2));
+    return sides->last + (sides->last == sides->checkpoint ? 1 : 2);
 }
 
-void mtl_sides_let_go(struct mintlintel_image_file *file)
+/* Those with even numbers and those with odd ones take turns, so that the last one stays whole; each has a copy, in case that a bit of it is lost. */
+int mtl_sides_write_checkpoint(struct mintlintel_image_file *file, int is_list)
+{
+    const struct sides *sides = &file->sides;
+    struct checkpoint next = {.number = next_of(sides), .count = is_list ? sides->listed : 0};
+    uint8_t part[MOST_OF_A_CHECKPOINT];
+    uint32_t place = next.number % 2;
+    memcpy(next.list, sides->list, next.count * sizeof *next.list);
+    size_t bytes = mtl_checkpoint_into(part, &next);
+    return mtl_file_set(file, part, bytes, checkpoint_at(file, place)) != 0 ? 3 : mtl_file_set(file, part, bytes, checkpoint_at(file, place + 2));
+}
+
+void mtl_sides_let_go(struct mintlintel_image_file *file, int is_list)
 {
     struct sides *sides = &file->sides;
-    sides->checkpoint++;
+    sides->checkpoint = sides->last = next_of(sides);
+    sides->is_list = is_list;
     for (; sides->count > 0; sides->count--) {
         uint32_t block = sides->moved[sides->count - 1];
         __atomic_store_n(&sides->of_blocks[block], (uint8_t)side_of(file, block), __ATOMIC_SEQ_CST);
     }
+    if (sides->listed > 1)
+        sides->list[0] = sides->list[sides->listed - 1];
+    sides->listed = sides->listed > 0;
+    sides->is_unlisted = 0;
 }
 
 void mtl_sides_punch(const struct mintlintel_image_file *file)

@@ -1,4 +1,4 @@
-/* format HEX HEX FOLDER: what the library reads from images of formats 1 and 2 that are kept as text, and CRC-32C against the examples of RFC 3720,
+/* format HEX HEX HEX FOLDER: what the library reads from images of formats 1 to 3 that are kept as text, and CRC-32C against the examples of RFC 3720,
  * appendix B.4. */
 #include "../src/crc.h"
 #include "mintlintel_image.h"
@@ -124,17 +124,18 @@ static void check_crc(void)
 int main(int argc, char **argv)
 {
     char path[4096];
-    CHECK(argc == 4);
-    const struct kept images[] = {{argv[1], 1, 0x8000, 0x3000}, {argv[2], 2, MOST, 0x9000}};
-    snprintf(path, sizeof path, "%s/format.image", argv[3]);
+    CHECK(argc == 5);
+    const struct kept images[] = {{argv[1], 1, 0x8000, 0x3000}, {argv[2], 2, MOST, 0x9000}, {argv[3], 3, MOST, 0x9000}};
+    snprintf(path, sizeof path, "%s/format.image", argv[4]);
     check_crc();
-    for (int i = 0; i < 2; i++) {
+    for (int i = 0; i < 3; i++) {
         read_hex(images[i].hex);
         check_kept_image(path, &images[i]);
         lose_power();
         check_after_a_cut(path, &images[i]);
+        if (images[i].version > 1)
+            check_without_checkpoint(path, &images[i]);
     }
-    check_without_checkpoint(path, &images[1]);
-    printf("format: kept images of formats 1 and 2 read as they did, and CRC-32C has the values of RFC 3720\n");
+    printf("format: kept images of formats 1 to 3 read as they did, and CRC-32C has the values of RFC 3720\n");
     return 0;
 }

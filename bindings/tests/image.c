@@ -123,7 +123,7 @@ static void sessions(void)
         mintlintel_image_close(&image);
         CHECK(stat(path, &about) == 0 && about.st_size == LENGTH && about.st_blocks * 512 <= LENGTH - BLOCKS * BLOCK_BYTES);
     }
-    CHECK(mintlintel_image_look(path, &head) == MINTLINTEL_DONE && head.version == 2 && head.numbers.sectors == SECTORS);
+    CHECK(mintlintel_image_look(path, &head) == MINTLINTEL_DONE && head.version == 3 && head.numbers.sectors == SECTORS);
 }
 
 /* Files that are not this image. */
@@ -140,10 +140,10 @@ static void refusals(void)
     CHECK(mintlintel_image_open(&image, in_no_folder, MINTLINTEL_NEVER, NUMBERS) == MINTLINTEL_NO_FILE && errno == ENOENT);
     CHECK(mintlintel_image_open(&image, other, MINTLINTEL_NEVER, 0, 0, 0, 0, 0) == MINTLINTEL_NO_FILE);
     CHECK(mintlintel_image_look(other, &head) == MINTLINTEL_NO_FILE);
-    change_byte(8, 1);
+    change_byte(8, 4);
     CHECK(mintlintel_image_open(&image, path, MINTLINTEL_NEVER, NUMBERS) == MINTLINTEL_OTHER_VERSION);
-    CHECK(mintlintel_image_look(path, &head) == MINTLINTEL_DONE && head.version == 3);
-    change_byte(8, 1);
+    CHECK(mintlintel_image_look(path, &head) == MINTLINTEL_DONE && head.version == 7);
+    change_byte(8, 4);
     CHECK(truncate(path, LENGTH - 1) == 0);
     CHECK(mintlintel_image_open(&image, path, MINTLINTEL_NEVER, NUMBERS) == MINTLINTEL_CUT_SHORT);
     CHECK(truncate(path, HEAD_BYTES) == 0);
@@ -154,28 +154,43 @@ static void refusals(void)
     CHECK(mintlintel_image_open(&image, path, MINTLINTEL_NEVER, NUMBERS) == MINTLINTEL_NOT_AN_IMAGE);
 }
 
-/* The byte behind this one, of those that are flipped: all of the head, of the entries and of the checkpoints. */
-static off_t next_byte(off_t at)
+/* The byte behind this one, of those that are flipped: all of the head, of the entries and of the checkpoints, of which the last one lists so many bytes. */
+static off_t next_byte(off_t at, off_t listed)
 {
     if (at == HEAD_BYTES - 1)
         return ENTRIES_AT;
     if (at == ENTRIES_AT + BLOCKS * ENTRY_BYTES - 1)
         return CHECKPOINTS_AT;
-    return at >= CHECKPOINTS_AT && at % 4096 == ENTRY_BYTES - 1 ? at + 4096 - ENTRY_BYTES + 1 : at + 1;
+    return at >= CHECKPOINTS_AT && at % 4096 == ENTRY_BYTES + listed - 1 ? at + 4096 - ENTRY_BYTES - listed + 1 : at + 1;
+}
+
+/* Reads or writes the session, and what tells the sides. */
+static void keep_sides(uint8_t *kept, int writes)
+{
+    static const off_t places[2] = {SESSION_AT, ENTRIES_AT};
+    static const size_t counts[2] = {48, LENGTH - ENTRIES_AT};
+    int fd = open(path, O_RDWR);
+    for (int i = 0; i < 2; kept += counts[i++])
+        CHECK((writes ? pwrite(fd, kept, counts[i], places[i]) : pread(fd, kept, counts[i], places[i])) == (ssize_t)counts[i]);
+    close(fd);
 }
 
 /* Each byte of the head and of what tells the sides, flipped in one bit: the image is refused, or it is right, and a checkpoint has a copy. Then the same
  * after a power cut. */
 static void flipped_heads(void)
 {
+    static uint8_t kept[48 + LENGTH - ENTRIES_AT];
     struct mintlintel_image image = {0};
     int refused = 0;
+    off_t listed = 0;
     begin(&image, MINTLINTEL_FLUSH);
     mintlintel_image_close(&image);
-    for (off_t at = 0; at < LENGTH; at = next_byte(at)) {
-        uint8_t flip = (uint8_t)(1 << drawn(&state) % 8), session[48];
-        int fd = open(path, O_RDWR);
-        CHECK(pread(fd, session, sizeof session, SESSION_AT) == sizeof session);
+    keep_sides(kept, 0);
+    for (int place = 0; place < 4; place++)
+        listed = 12 * kept[48 + 4096 + place * 4096 + 8] > listed ? 12 * kept[48 + 4096 + place * 4096 + 8] : listed;
+    CHECK(listed > 0);
+    for (off_t at = 0; at < LENGTH; at = next_byte(at, listed)) {
+        uint8_t flip = (uint8_t)(1 << drawn(&state) % 8);
         if (at >= ENTRIES_AT)
             lose_power(path);
         change_byte(at, flip);
@@ -184,10 +199,9 @@ static void flipped_heads(void)
         CHECK(code == MINTLINTEL_DONE || code == MINTLINTEL_NOT_AN_IMAGE || code == MINTLINTEL_OTHER_VERSION);
         CHECK(code != MINTLINTEL_DONE || unreadable(&image) == 0);
         mintlintel_image_close(&image);
-        if (at < SESSION_AT || at >= SESSION_AT + 48)
+        if (at < SESSION_AT || (at >= SESSION_AT + 48 && at < ENTRIES_AT))
             change_byte(at, flip);
-        CHECK(pwrite(fd, session, sizeof session, SESSION_AT) == sizeof session);
-        close(fd);
+        keep_sides(kept, 1);
     }
     CHECK(refused == SESSION_AT + BLOCKS * ENTRY_BYTES);
 }

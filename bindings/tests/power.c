@@ -16,7 +16,7 @@ enum { LUNS = 1, BLOCKS = 5, PAGES = 40, PAGE_BYTES = 256, SECTORS = 120, BLOCK_
 enum { SECTOR_BYTES = 512, PART_BYTES = 4096, MOST = 1 << 16, CALLS = 3000, MOST_TOGETHER = 8 };
 enum { NOTHING, SOME, ALL };
 /* Where the format's version stands, the state of the last session and its mode, and what the state is. */
-enum { AT_VERSION = 8, AT_SESSION = 4096, AT_MODE = 4100, IN_USE = 1, CLOSED = 2 };
+enum { AT_VERSION = 8, AT_SESSION = 4096, AT_MODE = 4100, IN_USE = 1, CLOSED = 2, VERSION = 3 };
 
 struct write { size_t at, count; uint8_t *bytes; };
 struct update { uint32_t sector, value; };
@@ -317,20 +317,20 @@ static void close_and_open(struct mintlintel_image *image, enum mintlintel_image
     open_image(image, mode);
 }
 
-/* A new image is one of format 1: with another head it is shorter. */
-static void make_old(void)
+/* A new image is one of an earlier format: one of format 1 is shorter, and one of format 2 has another head alone. */
+static void make_old(uint8_t version)
 {
     struct mintlintel_image image = {0};
     CHECK(mintlintel_image_open(&image, path, MINTLINTEL_ALWAYS, LUNS, BLOCKS, PAGES, PAGE_BYTES, SECTORS) == MINTLINTEL_DONE);
-    CHECK(mintlintel_image_close(&image) == MINTLINTEL_DONE && disk[AT_VERSION] == 2);
-    disk[AT_VERSION] = 1;
+    CHECK(mintlintel_image_close(&image) == MINTLINTEL_DONE && disk[AT_VERSION] == VERSION);
+    disk[AT_VERSION] = version;
     put_check(disk, PART_BYTES - 4);
     int fd = open(path, O_RDWR);
-    CHECK(fd >= 0 && __real_pwrite64(fd, disk, PART_BYTES, 0) == PART_BYTES && ftruncate(fd, LENGTH_OF_ONE_SIDE) == 0);
+    CHECK(fd >= 0 && __real_pwrite64(fd, disk, PART_BYTES, 0) == PART_BYTES && (version > 1 || ftruncate(fd, LENGTH_OF_ONE_SIDE) == 0));
     close(fd);
 }
 
-static void run(enum mintlintel_image_mode mode, int is_old)
+static void run(enum mintlintel_image_mode mode, uint8_t version)
 {
     struct mintlintel_image image = {0};
     unlink(path);
@@ -338,11 +338,11 @@ static void run(enum mintlintel_image_mode mode, int is_old)
     begun = safe = 0;
     left = 1000;
     is_off = is_write = 0;
-    if (is_old)
-        make_old();
+    if (version < VERSION)
+        make_old(version);
     used = mode;
     CHECK(mintlintel_image_open(&image, path, mode, LUNS, BLOCKS, PAGES, PAGE_BYTES, SECTORS) == MINTLINTEL_DONE);
-    CHECK(disk[AT_SESSION] == IN_USE && disk[AT_VERSION] == 2 - is_old);
+    CHECK(disk[AT_SESSION] == IN_USE && disk[AT_VERSION] == version);
     for (int i = 0; i < CALLS; i++) {
         uint32_t code = one_call(&image);
         CHECK(code <= MINTLINTEL_WRITTEN || (code == MINTLINTEL_FILE_FAILED && is_off));
@@ -386,7 +386,7 @@ int main(int argc, char **argv)
     for (int round = 0; round < rounds; round++) {
         is_nameless = round / 4 % 2;
         changes_mode = round / 8 % 2;
-        run(round % 2 ? MINTLINTEL_FLUSH : MINTLINTEL_ALWAYS, round % 4 / 2);
+        run(round % 2 ? MINTLINTEL_FLUSH : MINTLINTEL_ALWAYS, (uint8_t)(round % 4 < 2 ? VERSION : 1 + round / 4 % 2));
     }
     never();
     unlink(path);
