@@ -150,17 +150,11 @@ int mtl_sides_erase(struct mintlintel_image_file *file, uint32_t block)
     return 0;
 }
 
-/* The number of the next checkpoint. It is written over a list that an open hasn't taken. */
-static uint64_t next_of(const struct sides *sides)
-{
-    return sides->last + (sides->last == sides->checkpoint ? 1 : 2);
-}
-
 /* Those with even numbers and those with odd ones take turns, so that the last one stays whole; each has a copy, in case that a bit of it is lost. */
 int mtl_sides_write_checkpoint(struct mintlintel_image_file *file, int is_list)
 {
     const struct sides *sides = &file->sides;
-    struct checkpoint next = {.number = next_of(sides), .count = is_list ? sides->listed : 0};
+    struct checkpoint next = {.number = sides->last + 1, .count = is_list ? sides->listed : 0};
     uint8_t part[MOST_OF_A_CHECKPOINT];
     uint32_t place = next.number % 2;
     memcpy(next.list, sides->list, next.count * sizeof *next.list);
@@ -171,7 +165,7 @@ int mtl_sides_write_checkpoint(struct mintlintel_image_file *file, int is_list)
 void mtl_sides_let_go(struct mintlintel_image_file *file, int is_list)
 {
     struct sides *sides = &file->sides;
-    sides->checkpoint = sides->last = next_of(sides);
+    sides->checkpoint = ++sides->last;
     sides->is_list = is_list;
     for (; sides->count > 0; sides->count--) {
         uint32_t block = sides->moved[sides->count - 1];

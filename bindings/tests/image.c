@@ -359,6 +359,123 @@ static void runs(enum mintlintel_image_mode mode)
     mintlintel_image_close(&image);
 }
 
+/* How many blocks the last checkpoint of an image of so many blocks of 2 pages of 512 bytes lists. */
+static uint32_t listed_of(const char *name, uint32_t blocks)
+{
+    uint8_t part[16];
+    uint64_t last = 0, number;
+    uint32_t count = 0;
+    int fd = open(name, O_RDONLY);
+    for (off_t place = 0, at = HEAD_BYTES + 2 * blocks * BLOCK_BYTES + (blocks * ENTRY_BYTES + 4095) / 4096 * 4096; place < 4; place++, at += 4096) {
+        CHECK(fd >= 0 && pread(fd, part, sizeof part, at) == sizeof part);
+        memcpy(&number, part, sizeof number);
+        if (number >= last)
+            memcpy(&count, part + 8, sizeof count);
+        last = number > last ? number : last;
+    }
+    close(fd);
+    return count;
+}
+
+/* A checkpoint lists what was programmed since the one before, if that are at most 32 blocks. One of them may have been open then. */
+static void lists(void)
+{
+    enum { MANY = 80, MOST = 32 };
+    struct mintlintel_image image = {0};
+    uint8_t page[PAGE_BYTES] = {0};
+    CHECK(mintlintel_image_open(&image, other, MINTLINTEL_FLUSH, 1, MANY, 2, PAGE_BYTES, MANY) == MINTLINTEL_DONE);
+    for (uint32_t blocks = 1; blocks <= MOST + 4; blocks++) {
+        for (uint32_t i = 0; i < 2 * blocks; i++)
+            CHECK(mintlintel_durable_write(&image.device, i % MANY, page, sizeof page) <= MINTLINTEL_WRITTEN);
+        CHECK(mintlintel_durable_flush(&image.device) == MINTLINTEL_DONE);
+        uint32_t listed = listed_of(other, MANY);
+        CHECK(listed == blocks || listed == blocks + 1 || listed == 0);
+        CHECK(blocks == MOST || (listed == 0) == (blocks > MOST));
+    }
+    mintlintel_image_close(&image);
+    unlink(other);
+}
+
+/* Writes sectors in turn: each write has its number as value. */
+static void write_in_turn(struct mintlintel_image *image, uint32_t from, uint32_t to)
+{
+    for (uint32_t i = from; i < to; i++)
+        CHECK(write_value(image, i % SECTORS, (uint8_t)i) <= MINTLINTEL_WRITTEN);
+    CHECK(mintlintel_durable_flush(&image->device) == MINTLINTEL_DONE);
+}
+
+/* After a power cut an image with these bytes has so many of the writes. */
+static void check_after_a_cut(const uint8_t *bytes, uint32_t writes)
+{
+    struct mintlintel_image image = {0};
+    int fd = open(other, O_RDWR | O_CREAT | O_TRUNC, 0666);
+    CHECK(fd >= 0 && pwrite(fd, bytes, LENGTH, 0) == LENGTH);
+    close(fd);
+    for (uint32_t i = writes - SECTORS; i < writes; i++)
+        values[i % SECTORS] = (uint8_t)i;
+    lose_power(other);
+    for (int opens = 0; opens < 2; opens++) {
+        CHECK(mintlintel_image_open(&image, other, opens ? MINTLINTEL_ALWAYS : MINTLINTEL_FLUSH, NUMBERS) == MINTLINTEL_DONE);
+        CHECK(unreadable(&image) == 0);
+        mintlintel_image_close(&image);
+    }
+}
+
+/* The same if a power cut has left so many bytes of an earlier image. */
+static void check_left(const uint8_t *now, const uint8_t *before, off_t at, size_t count, uint32_t writes)
+{
+    static uint8_t bytes[LENGTH];
+    memcpy(bytes, now, LENGTH);
+    memcpy(bytes + at, before + at, count);
+    CHECK(memcmp(bytes, now, LENGTH) != 0);
+    check_after_a_cut(bytes, writes);
+}
+
+static void read_image(uint8_t *bytes)
+{
+    int fd = open(path, O_RDONLY);
+    CHECK(fd >= 0 && pread(fd, bytes, LENGTH, 0) == LENGTH);
+    close(fd);
+}
+
+/* Checkpoints that list a block that was open and has got 2 pages more, one that has moved and is full, and one that has moved and has 2 pages. If any of
+ * that is lost in a power cut, or an erase, or an entry, the checkpoint before counts, and what the open block got. Pages behind a list don't matter. */
+static void parts_of_lists(void)
+{
+    enum { EACH = 8, FIRST = 202, LAST = FIRST + EACH };
+    static uint8_t before[LENGTH], now[LENGTH];
+    struct mintlintel_image image = {0};
+    off_t at[3], list = 0;
+    unlink(path);
+    CHECK(mintlintel_image_open(&image, path, MINTLINTEL_FLUSH, NUMBERS) == MINTLINTEL_DONE);
+    for (uint32_t to = FIRST % EACH; to <= FIRST; to += EACH)
+        write_in_turn(&image, to < EACH ? 0 : to - EACH, to);
+    read_image(before);
+    write_in_turn(&image, FIRST, LAST);
+    read_image(now);
+    for (int place = 0; place < 4; place++)
+        if (memcmp(now + CHECKPOINTS_AT + place * 4096, before + CHECKPOINTS_AT + place * 4096, 16) != 0)
+            list = CHECKPOINTS_AT + place * 4096 + 16;
+    CHECK(list > 0 && now[list - 8] == 3);
+    for (int i = 0; i < 3; i++) {
+        const uint8_t *listed = now + list + 12 * i;
+        CHECK(listed[4] / 2 == (i < 2 ? PAGES : 2));
+        at[i] = HEAD_BYTES + (listed[4] % 2 * BLOCKS + listed[0]) * BLOCK_BYTES;
+    }
+    check_after_a_cut(now, LAST);
+    check_left(now, before, at[0], 4096, FIRST);
+    check_left(now, before, at[0] + 3 * SPARE_BYTES, SPARE_BYTES, FIRST + 1);
+    check_left(now, before, at[1] + 4096 + 2 * PAGE_BYTES, PAGE_BYTES, FIRST + 2);
+    check_left(now, before, at[2] + 2 * SPARE_BYTES, 2 * SPARE_BYTES, FIRST + 2);
+    check_left(now, before, ENTRIES_AT + now[list + 12] * ENTRY_BYTES, ENTRY_BYTES, FIRST + 2);
+    check_left(now, before, ENTRIES_AT + now[list + 24] * ENTRY_BYTES, ENTRY_BYTES, FIRST + 2);
+    write_in_turn(&image, LAST, LAST + 1);
+    read_image(now);
+    check_after_a_cut(now, LAST + 1);
+    mintlintel_image_close(&image);
+    unlink(other);
+}
+
 /* A file that can't grow: the call says so, and nothing that was acknowledged is lost. */
 static void full_disk(void)
 {
@@ -403,6 +520,8 @@ int main(int argc, char **argv)
     collections();
     runs(MINTLINTEL_NEVER);
     runs(MINTLINTEL_FLUSH);
+    lists();
+    parts_of_lists();
     full_disk();
     unlink(path);
     printf("image: sessions, refusals, flipped and swapped bytes, copies and a full disk agree with what was acknowledged\n");

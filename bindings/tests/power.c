@@ -139,14 +139,14 @@ static void put_check(uint8_t *part, size_t count)
         part[count + (size_t)i] = (uint8_t)(check >> 8 * i);
 }
 
-/* What the disk has after the cut, and another run of the machine. */
+/* What the disk has after the cut, in every other one nearly all, and another run of the machine. */
 static void lose_power(void)
 {
     static uint8_t is_frozen[LENGTH / SECTOR_BYTES], parts[LENGTH / PART_BYTES];
-    uint32_t one_in = 2 + drawn(&state) % 8;
+    uint32_t one_in = 2 + drawn(&state) % 8, has_most = drawn(&state) % 2;
     memset(is_frozen, 0, sizeof is_frozen);
     for (size_t part = 0; part < sizeof parts; part++)
-        parts[part] = drawn(&state) % 3;
+        parts[part] = has_most && drawn(&state) % 8 ? ALL : drawn(&state) % 3;
     for (size_t i = 0; i < writes; i++)
         for (size_t at = pending[i].at, end = at + pending[i].count; at < end;) {
             size_t sector = at / SECTOR_BYTES, stop = (sector + 1) * SECTOR_BYTES < end ? (sector + 1) * SECTOR_BYTES : end;
@@ -261,6 +261,7 @@ static uint32_t one_call(struct mintlintel_image *image)
     uint32_t kind = drawn(&state) % 64, code;
     calls++;
     if (kind == 63) {
+        left = used != MINTLINTEL_NEVER && drawn(&state) % 2 && left > 4 ? 1 + drawn(&state) % 4 : left;
         code = mintlintel_durable_flush(&image->device);
         safe = code == MINTLINTEL_DONE ? begun : safe;
         return code;
