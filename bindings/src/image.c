@@ -110,11 +110,12 @@ static int sync_bytes(struct mintlintel_image_file *file)
     return 0;
 }
 
-/* If blocks have moved, a list of all that was programmed is synced with it, or else a plain checkpoint behind it. An open leaves no list: other modes erase
- * what is listed. */
+/* If blocks have moved, a list of all that was programmed is synced with it, or else a plain checkpoint behind it. An open and a close leave no list: other
+ * modes erase what is listed. */
 int mtl_file_sync(struct mintlintel_image_file *file)
 {
-    int is_list = mtl_sides_are_listed(file), is_due = file->sides.count > 0 || (file->is_mounting && file->sides.is_list);
+    int settles = file->is_mounting || file->is_closing, is_due = file->sides.count > 0 || (settles && file->sides.is_list);
+    int is_list = !settles && mtl_sides_are_listed(file);
     if ((is_list && mtl_sides_write_checkpoint(file, 1) != 0) || sync_bytes(file) != 0)
         return 3;
     if (is_due && !is_list && (mtl_sides_write_checkpoint(file, 0) != 0 || sync_bytes(file) != 0))
@@ -689,6 +690,8 @@ uint32_t mintlintel_image_close(struct mintlintel_image *image)
     uint32_t code = MINTLINTEL_DONE;
     mintlintel_durable_close(&image->device);
     image->file = NULL;
+    if (file)
+        file->is_closing = 1;
     /* In mode `never` nothing says that the pages are on the disk, so the session stays in use until its machine ends. */
     if (file && !file->reason && file->mode != MINTLINTEL_NEVER && (mtl_file_sync(file) != 0 || write_session(file, CLOSED) != 0)) {
         code = MINTLINTEL_FILE_FAILED;

@@ -52,7 +52,7 @@ struct mintlintel_image_file {
     struct mintlintel_durable_numbers numbers;
     struct image_layout layout;
     struct sides sides;
-    int is_mounting, is_dirty, is_erased; /* stamps or such were written since the last sync; a block was erased since then */
+    int is_mounting, is_closing, is_dirty, is_erased; /* stamps or such were written since the last sync; a block was erased since then */
     uint32_t cached;         /* the block whose spare bytes are in `spares`; it isn't programmed before it is erased */
     uint8_t *spares, *zeros, *page;
     uint8_t *map;            /* the bytes of the file, or null. Only the system reads them: where it can't, a write fails */

@@ -164,6 +164,20 @@ static off_t next_byte(off_t at, off_t listed)
     return at >= CHECKPOINTS_AT && at % 4096 == ENTRY_BYTES + listed - 1 ? at + 4096 - ENTRY_BYTES - listed + 1 : at + 1;
 }
 
+static void read_image(uint8_t *bytes)
+{
+    int fd = open(path, O_RDONLY);
+    CHECK(fd >= 0 && pread(fd, bytes, LENGTH, 0) == LENGTH);
+    close(fd);
+}
+
+static void write_image(const char *name, const uint8_t *bytes)
+{
+    int fd = open(name, O_RDWR | O_CREAT | O_TRUNC, 0666);
+    CHECK(fd >= 0 && pwrite(fd, bytes, LENGTH, 0) == LENGTH);
+    close(fd);
+}
+
 /* Reads or writes the session, and what tells the sides. */
 static void keep_sides(uint8_t *kept, int writes)
 {
@@ -175,16 +189,19 @@ static void keep_sides(uint8_t *kept, int writes)
     close(fd);
 }
 
-/* Each byte of the head and of what tells the sides, flipped in one bit: the image is refused, or it is right, and a checkpoint has a copy. Then the same
- * after a power cut. */
+/* Each byte of the head and of what tells the sides, flipped in one bit: the image is refused, or it is right, and a checkpoint has a copy. What tells the
+ * sides is flipped after a power cut. The last checkpoint is a list. */
 static void flipped_heads(void)
 {
-    static uint8_t kept[48 + LENGTH - ENTRIES_AT];
+    static uint8_t kept[48 + LENGTH - ENTRIES_AT], all[LENGTH];
     struct mintlintel_image image = {0};
     int refused = 0;
     off_t listed = 0;
     begin(&image, MINTLINTEL_FLUSH);
+    CHECK(mintlintel_durable_flush(&image.device) == MINTLINTEL_DONE);
+    read_image(all);
     mintlintel_image_close(&image);
+    write_image(path, all);
     keep_sides(kept, 0);
     for (int place = 0; place < 4; place++)
         listed = 12 * kept[48 + 4096 + place * 4096 + 8] > listed ? 12 * kept[48 + 4096 + place * 4096 + 8] : listed;
@@ -408,9 +425,7 @@ static void write_in_turn(struct mintlintel_image *image, uint32_t from, uint32_
 static void check_after_a_cut(const uint8_t *bytes, uint32_t writes)
 {
     struct mintlintel_image image = {0};
-    int fd = open(other, O_RDWR | O_CREAT | O_TRUNC, 0666);
-    CHECK(fd >= 0 && pwrite(fd, bytes, LENGTH, 0) == LENGTH);
-    close(fd);
+    write_image(other, bytes);
     for (uint32_t i = writes - SECTORS; i < writes; i++)
         values[i % SECTORS] = (uint8_t)i;
     lose_power(other);
@@ -429,13 +444,6 @@ static void check_left(const uint8_t *now, const uint8_t *before, off_t at, size
     memcpy(bytes + at, before + at, count);
     CHECK(memcmp(bytes, now, LENGTH) != 0);
     check_after_a_cut(bytes, writes);
-}
-
-static void read_image(uint8_t *bytes)
-{
-    int fd = open(path, O_RDONLY);
-    CHECK(fd >= 0 && pread(fd, bytes, LENGTH, 0) == LENGTH);
-    close(fd);
 }
 
 /* Checkpoints that list a block that was open and has got 2 pages more, one that has moved and is full, and one that has moved and has 2 pages. If any of
