@@ -57,7 +57,6 @@ static void read_entries(struct sides *sides, const uint8_t *entries, uint32_t b
         if (number / 2 > sides->checkpoint)
             note_move(sides, block, number % 2);
     }
-    sides->is_unlisted = sides->count > 0;
 }
 
 uint32_t mtl_sides_read(struct mintlintel_image_file *file, int has_doubts)
