@@ -185,6 +185,6 @@ int head_refused(uint32_t code, const struct mintlintel_image_head *head)
         return image_refused(code);
     if (head->numbers.blocks > 0)
         return -1;
-    fprintf(stderr, "image: version %u, not 1 or 2\n", head->version);
+    fprintf(stderr, "image: version %u, not 1 to 3\n", head->version);
     return BROKEN;
 }

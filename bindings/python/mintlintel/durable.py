@@ -190,7 +190,7 @@ class Image(DurableDevice):
         head = _library.ImageHead()
         error = ctypes.get_errno()
         if code in (Code.OTHER_NUMBERS, Code.OTHER_VERSION) and LIBRARY.mintlintel_image_look(os.fsencode(self._path), head) == 0:
-            there, asked = (DurableNumbers.of(head.numbers), given) if code == Code.OTHER_NUMBERS else (f"version {head.version}", "version 1 or 2")
+            there, asked = (DurableNumbers.of(head.numbers), given) if code == Code.OTHER_NUMBERS else (f"version {head.version}", "version 1 to 3")
             raised: MintlintelError = (OtherNumbers if code == Code.OTHER_NUMBERS else OtherVersion)(f"{self._path} has {there}, and it was opened for {asked}")
             raised.code = code
             raise raised
