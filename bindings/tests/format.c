@@ -42,6 +42,17 @@ static void write_file(const char *path, const struct kept *kept)
     close(fd);
 }
 
+/* Whether a checkpoint of this file lists blocks. */
+static int has_list(const char *path)
+{
+    uint8_t part[16] = {0};
+    int fd = open(path, O_RDONLY), has = 0;
+    for (off_t at = 0xf000; at < MOST; at += 0x1000)
+        has |= pread(fd, part, sizeof part, at) == sizeof part && part[8] != 0;
+    close(fd);
+    return has;
+}
+
 static void check_kept_image(const char *path, const struct kept *kept)
 {
     struct mintlintel_image image = {0};
@@ -55,6 +66,7 @@ static void check_kept_image(const char *path, const struct kept *kept)
         CHECK(mintlintel_durable_read(&image.device, 1, page, sizeof page) == MINTLINTEL_WRITTEN && memcmp(page, "0123456789abcdef", 16) == 0);
         CHECK(mintlintel_durable_read(&image.device, 2, page, sizeof page) == MINTLINTEL_EMPTY);
         CHECK(mintlintel_durable_write(&image.device, 2, page, sizeof page) == MINTLINTEL_EMPTY);
+        CHECK(mintlintel_durable_flush(&image.device) == MINTLINTEL_DONE && has_list(path) == (kept->version == 3));
         CHECK(mintlintel_image_close(&image) == MINTLINTEL_DONE);
     }
     unlink(path);

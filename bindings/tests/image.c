@@ -421,7 +421,7 @@ static void write_in_turn(struct mintlintel_image *image, uint32_t from, uint32_
     CHECK(mintlintel_durable_flush(&image->device) == MINTLINTEL_DONE);
 }
 
-/* After a power cut an image with these bytes has so many of the writes. */
+/* After a power cut an image with these bytes has so many of the writes, and no open leaves a list. */
 static void check_after_a_cut(const uint8_t *bytes, uint32_t writes)
 {
     struct mintlintel_image image = {0};
@@ -431,7 +431,7 @@ static void check_after_a_cut(const uint8_t *bytes, uint32_t writes)
     lose_power(other);
     for (int opens = 0; opens < 2; opens++) {
         CHECK(mintlintel_image_open(&image, other, opens ? MINTLINTEL_ALWAYS : MINTLINTEL_FLUSH, NUMBERS) == MINTLINTEL_DONE);
-        CHECK(unreadable(&image) == 0);
+        CHECK(unreadable(&image) == 0 && listed_of(other, BLOCKS) == 0);
         mintlintel_image_close(&image);
     }
 }
@@ -446,18 +446,21 @@ static void check_left(const uint8_t *now, const uint8_t *before, off_t at, size
     check_after_a_cut(bytes, writes);
 }
 
-/* Checkpoints that list a block that was open and has got 2 pages more, one that has moved and is full, and one that has moved and has 2 pages. If any of
+/* A checkpoint that lists blocks which were erased more than once since the one before. Then checkpoints that list a block that was open and has got 2 pages more, one that has moved and is full, and one that has moved and has 2 pages. If any of
  * that is lost in a power cut, or an erase, or an entry, the checkpoint before counts, and what the open block got. Pages behind a list don't matter. */
 static void parts_of_lists(void)
 {
-    enum { EACH = 8, FIRST = 202, LAST = FIRST + EACH };
-    static uint8_t before[LENGTH], now[LENGTH];
+    enum { ALONE = 122, EACH = 8, FIRST = ALONE + 10 * EACH, LAST = FIRST + EACH };
+    static uint8_t before[LENGTH], now[LENGTH], older[LENGTH];
     struct mintlintel_image image = {0};
     off_t at[3], list = 0;
     unlink(path);
     CHECK(mintlintel_image_open(&image, path, MINTLINTEL_FLUSH, NUMBERS) == MINTLINTEL_DONE);
-    for (uint32_t to = FIRST % EACH; to <= FIRST; to += EACH)
-        write_in_turn(&image, to < EACH ? 0 : to - EACH, to);
+    write_in_turn(&image, 0, ALONE);
+    read_image(now);
+    check_after_a_cut(now, ALONE);
+    for (uint32_t to = ALONE; to < FIRST; to += EACH)
+        write_in_turn(&image, to, to + EACH);
     read_image(before);
     write_in_turn(&image, FIRST, LAST);
     read_image(now);
@@ -477,6 +480,9 @@ static void parts_of_lists(void)
     check_left(now, before, at[2] + 2 * SPARE_BYTES, 2 * SPARE_BYTES, FIRST + 2);
     check_left(now, before, ENTRIES_AT + now[list + 12] * ENTRY_BYTES, ENTRY_BYTES, FIRST + 2);
     check_left(now, before, ENTRIES_AT + now[list + 24] * ENTRY_BYTES, ENTRY_BYTES, FIRST + 2);
+    memcpy(older, now, LENGTH);
+    memcpy(older + at[2] + 4096, before + at[2] + 4096, 2 * PAGE_BYTES);
+    check_left(older, before, at[2], 2 * SPARE_BYTES, FIRST + 2);
     write_in_turn(&image, LAST, LAST + 1);
     read_image(now);
     check_after_a_cut(now, LAST + 1);

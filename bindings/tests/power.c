@@ -260,7 +260,7 @@ static uint32_t one_call(struct mintlintel_image *image)
 {
     uint32_t kind = drawn(&state) % 64, code;
     calls++;
-    if (kind == 63) {
+    if (kind > 61) {
         left = used != MINTLINTEL_NEVER && drawn(&state) % 2 && left > 4 ? 1 + drawn(&state) % 4 : left;
         code = mintlintel_durable_flush(&image->device);
         safe = code == MINTLINTEL_DONE ? begun : safe;
@@ -382,12 +382,12 @@ static void never(void)
 
 int main(int argc, char **argv)
 {
-    int rounds = argc > 2 ? atoi(argv[2]) : 20;
+    int rounds = argc > 2 ? atoi(argv[2]) : 24;
     snprintf(path, sizeof path, "%s/power.image", argc > 1 ? argv[1] : "out");
     for (int round = 0; round < rounds; round++) {
-        is_nameless = round / 4 % 2;
+        is_nameless = round % 8 > 5;
         changes_mode = round / 8 % 2;
-        run(round % 2 ? MINTLINTEL_FLUSH : MINTLINTEL_ALWAYS, (uint8_t)(round % 4 < 2 ? VERSION : 1 + round / 4 % 2));
+        run(round % 4 ? MINTLINTEL_FLUSH : MINTLINTEL_ALWAYS, (uint8_t)(round % 4 == 3 || round % 8 == 4 ? 1 + round / 8 % 2 : VERSION));
     }
     never();
     unlink(path);
