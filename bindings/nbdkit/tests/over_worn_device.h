@@ -24,14 +24,18 @@ static int can_a_tenth_be_erased(void) {
     return count > 0 && 10 * count >= device.options.blocks;
 }
 
-// A sector in a block that can be erased, or as many as there are if none is.
-static uint32_t find_to_trim(void) {
+// A sector in a block that can be erased, or in one that can't, or as many as there are if none is.
+static uint32_t find_in_block(int is_erasable) {
     struct host *host = stock_take(&device.stock);
     uint32_t sector = 0, block;
-    while (sector < device.options.sectors && ((block = block_of(host->seat, sector, NULL, 0)) == NO_BLOCK || !can_be_erased(block)))
+    while (sector < device.options.sectors && ((block = block_of(host->seat, sector, NULL, 0)) == NO_BLOCK || can_be_erased(block) != is_erasable))
         sector++;
     stock_give(&device.stock, host);
     return sector;
+}
+
+static uint32_t find_to_trim(void) {
+    return find_in_block(1);
 }
 
 static void count_live(uint32_t *live) {

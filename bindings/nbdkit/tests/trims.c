@@ -1,7 +1,8 @@
 // trims [DEVICES]: worn devices of several brooms, in one thread: the test deals out the rounds, at random while a client writes, and after a refusal
-// to the broom with the least room first. A write is refused only if no broom could win back a block. While a tenth of the blocks or more can be erased,
-// sectors of these are trimmed one by one: before these are more than a block has pages, a write is done again, since the broom with the most room does
-// all drains. On every second device no write waits, so that all brooms but one may leave. Nothing depends on time or chance.
+// to the broom with the least room first. A write is refused only if no broom could win back a block, and a trim in a block that can't be erased changes
+// nothing. While a tenth of the blocks or more can be erased, sectors of these are trimmed one by one: before these are more than a block has pages, a
+// write is done again, since the broom with the most room does all drains. On every second device no write waits, so that all brooms but one may leave.
+// Nothing depends on time or chance.
 #include <brooms.c>
 #define fail fail_test
 #include <stock.c>
@@ -10,7 +11,7 @@
 
 enum { PAGE = 8, MOST_BROOMS = 3, MOST_PAGES = 8, DEVICES = 400 };
 
-static unsigned tried, taken_again, with_one_that_left;
+static unsigned tried, taken_again, tried_in_vain, with_one_that_left;
 static int waits_for_blocks;
 
 static void choose_device(uint32_t *random) {
@@ -68,6 +69,21 @@ static void write_until_refused(uint32_t *random) {
     } while (is_written(sector, random));
 }
 
+// What can still be programmed are the erased pages, and those of blocks that can be erased again but for the live ones. A trim in another block adds to
+// neither.
+static void trim_in_vain(void) {
+    uint32_t sector = find_in_block(0), block;
+    struct host *host = stock_take(&device.stock);
+    block = sector < device.options.sectors ? block_of(host->seat, sector, NULL, 0) : NO_BLOCK;
+    stock_give(&device.stock, host);
+    if (block == NO_BLOCK || !brooms_retire(&device.brooms, atomic_load(&device.brooms.erases[block])))
+        return;
+    device_trim(&device, PAGE, sector * (uint64_t) PAGE);
+    tried_in_vain++;
+    if (is_written(sector, NULL))
+        fail("a write is done again after a trim in block %u, which can't be erased", block);
+}
+
 static void trim_one_by_one(void) {
     uint32_t trimmed = 0, sector, pages = device.options.pages;
     while (trimmed < pages && can_a_tenth_be_erased() && (sector = find_to_trim()) < device.options.sectors) {
@@ -92,12 +108,14 @@ int main(int count, char **words) {
         waits_for_blocks = tried % 2 == 0;
         write_until_refused(&random);
         look_for_more();
+        trim_in_vain();
         trim_one_by_one();
         with_one_that_left += device.stock.has_left[1];
         device_close(&device);
     }
-    if (taken_again == 0 || with_one_that_left == 0)
-        fail("no device was left with a tenth of its blocks, or no broom has left");
-    printf("%u devices, %u took writes again after trims, and of %u a broom has left\n", tried, taken_again, with_one_that_left);
+    if (taken_again == 0 || tried_in_vain == 0 || with_one_that_left == 0)
+        fail("no device was left with a tenth of its blocks or with one that can't be erased, or no broom has left");
+    printf("%u devices, %u took writes again after trims, %u were trimmed in a block that can't be erased, and of %u a broom has left\n", tried, taken_again,
+           tried_in_vain, with_one_that_left);
     return failures > 0;
 }
