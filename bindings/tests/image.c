@@ -458,9 +458,9 @@ static void check_rotted(const uint8_t *bytes, uint32_t i)
     mintlintel_image_close(&image);
 }
 
-/* A checkpoint that lists blocks which were erased more than once since the one before. Then checkpoints that list a block that was open and has got 2 pages more, one that has moved and is full, and one that has moved and has 2 pages. If any of
- * that is lost in a power cut, or an erase, or an entry, the checkpoint before counts, and what the open block got. Pages behind a list don't matter; nor
- * does a lost bit, once a block has moved behind it. */
+/* A checkpoint that lists blocks which were erased more than once since the one before. Then checkpoints that list a block that was open and has got 2
+ * pages more, one that has moved and is full, and one that has moved and has 2 pages. If any of that is lost in a power cut, or an erase, or an entry,
+ * the checkpoint before counts, and what the open block got. Pages behind a list don't matter; nor does a lost bit, once a block has moved behind it. */
 static void parts_of_lists(void)
 {
     enum { ALONE = 122, EACH = 8, FIRST = ALONE + 10 * EACH, LAST = FIRST + EACH };

@@ -382,7 +382,7 @@ static void never(void)
 
 int main(int argc, char **argv)
 {
-    int rounds = argc > 2 ? atoi(argv[2]) : 24;
+    int rounds = argc > 2 ? atoi(argv[2]) : 32;
     snprintf(path, sizeof path, "%s/power.image", argc > 1 ? argv[1] : "out");
     for (int round = 0; round < rounds; round++) {
         is_nameless = round % 8 > 5;
