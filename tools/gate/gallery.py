@@ -1,5 +1,4 @@
-"""gallery [--write]: the tables of docs/GALLERY.md, made from crates/*/wrong-bodies.edits. Without a word it
-changes nothing, and fails if the page differs. What refuses an edit stays as `wrong-bodies` has put it there."""
+"""gallery [--write]: checks, or writes, the tables of docs/GALLERY.md. What refuses an edit stays on the page as `wrong-bodies` has put it there."""
 
 import re
 from pathlib import Path
