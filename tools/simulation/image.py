@@ -12,7 +12,7 @@ from .faults import BROKEN, Fault
 MAGIC = b"\x89MNTL\r\n\x1a"
 HEAD = struct.Struct("<8s6I")
 NAMES = ("luns", "blocks", "pages", "page_bytes", "sectors")
-FORMATS, WORD_BYTES = (1, 2), 8
+FORMATS, WORD_BYTES = (1, 2, 3), 8
 # Where it is installed, the player of images is a program of its own; the launcher finds it by itself.
 INSTALLED = device.TOP / "flashplay-image"
 PROGRAM = str(INSTALLED) if INSTALLED.exists() and "FLASHPLAY" not in os.environ else device.LAUNCHER
@@ -24,7 +24,7 @@ def numbers_of(path, endurance: int) -> dict:
         head = source.read(HEAD.size)
     magic, version, *numbers = HEAD.unpack(head) if len(head) == HEAD.size else (b"", 0)
     if magic != MAGIC or version not in FORMATS:
-        raise Fault(f"{path} isn't an image of format 1 or 2", BROKEN)
+        raise Fault(f"{path} isn't an image of format 1, 2 or 3", BROKEN)
     named = dict(zip(NAMES, numbers))
     if named["page_bytes"] % WORD_BYTES:
         raise Fault(f"{path} has pages of {named['page_bytes']:,} bytes, and the tools know pages of whole words of {WORD_BYTES} bytes")

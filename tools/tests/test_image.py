@@ -110,7 +110,7 @@ class Simulate(WithImages):
         ):
             self.assertIn(message, self.simulate(*words, status=2).errors)
         other = self.file("other.img", b"something else, of more than 32 bytes")
-        self.assertIn("isn't an image of format 1 or 2", self.simulate(image=other, status=3).errors)
+        self.assertIn("isn't an image of format 1, 2 or 3", self.simulate(image=other, status=3).errors)
 
     def test_report_counts_the_erases_since_the_run_began(self):
         self.simulate()
