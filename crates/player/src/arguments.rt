@@ -46,7 +46,7 @@ const NUMBERS: [NumberOption; 10] = numbers! {
     "endurance", "1000", 0 to MAX: "Erase cycles of a block, from 1 to 1000000; the last one fails";
     "workers", "0", 0 to MAX: "Workers that play the trace, each in a thread of its own, from 1 to 500; with 0 one thread plays all";
     "brooms", "0", 0 to MAX: "Brooms that collect beside the workers, each in a thread of its own, from 0 to 32";
-    "patience", "1000000", 1 to 1_000_000_000: "Tries of a worker's write that finds no block, before it is full";
+    "patience", "1000000", 1 to 1_000_000_000: "Times that a worker's write looks for a free block before it answers full";
     "drains", "1", 1 to 4096: "Blocks that a broom drains by one survey, from 1 to 4096";
 };
 

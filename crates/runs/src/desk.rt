@@ -19,7 +19,7 @@ use trace::{Command, Op};
 
 /// The room for a run: a page, and the lines that wait to be written; and how many writes were refused.
 #[derive(Drop)]
-pub struct Desk {
+pub(crate) struct Desk {
     page: Vec<u8>,
     lines: Lines,
     pub refused: u64,
@@ -27,7 +27,7 @@ pub struct Desk {
 }
 
 impl Desk {
-    pub fn new(alloc: Global, geometry: &Geometry) -> Result<Desk, AllocError>
+    pub(crate) fn new(alloc: Global, geometry: &Geometry) -> Result<Desk, AllocError>
         ensures page { IfOk result (λ desk. vec_len desk.page ≡ page_bytes_of geometry.now) }
         ensures lines { IfOk result (λ desk. waiting_of desk.lines ≡ []) }
         ensures refused { IfOk result (λ desk. desk.refused ≡ 0) }
@@ -41,7 +41,7 @@ impl Desk {
 
     /// Does a command, and if its answer is wanted adds the line to those that wait.
     #[inline(always)]
-    pub fn answer(&mut self, ftl: &mut OneFtl, command: &Command<'_>, line: u64, wanted: bool)
+    pub(crate) fn answer(&mut self, ftl: &mut OneFtl, command: &Command<'_>, line: u64, wanted: bool)
         requires playable { IsPlayable (geometry_of ftl.old) command.now }
         requires page { vec_len self.old.page ≡ page_bytes_of (geometry_of ftl.old) }
         requires room { length (waiting_of self.old.lines) ≤ PIECE_BYTES }
@@ -92,7 +92,7 @@ impl Desk {
     }
 
     /// Adds the last line.
-    pub fn end(&mut self, ftl: &OneFtl)
+    pub(crate) fn end(&mut self, ftl: &OneFtl)
         requires room { length (waiting_of self.old.lines) ≤ PIECE_BYTES }
         ensures refused { self.new.refused ≡ self.old.refused }
         ensures lines { waiting_of self.new.lines
@@ -104,7 +104,7 @@ impl Desk {
     }
 
     /// Adds the header line of the wear.
-    pub fn wear_names(&mut self)
+    pub(crate) fn wear_names(&mut self)
         requires room { length (waiting_of self.old.lines) ≤ PIECE_BYTES }
         ensures lines { waiting_of self.new.lines ≡ waiting_of self.old.lines ++ wear_names }
     {
@@ -112,7 +112,7 @@ impl Desk {
     }
 
     /// Adds a block's line of the wear.
-    pub fn wear(&mut self, ftl: &OneFtl, block: u32)
+    pub(crate) fn wear(&mut self, ftl: &OneFtl, block: u32)
         requires block { block < blocks_of (geometry_of ftl.now) }
         requires room { length (waiting_of self.old.lines) ≤ PIECE_BYTES }
         ensures lines { waiting_of self.new.lines
@@ -123,7 +123,7 @@ impl Desk {
     }
 
     /// Writes the lines that wait.
-    pub fn hand_on<W: Write>(&mut self, writer: &mut Watched<W>) -> Result<(), OutputFailed>
+    pub(crate) fn hand_on<W: Write>(&mut self, writer: &mut Watched<W>) -> Result<(), OutputFailed>
         ensures sent { WritesOut (waiting_of self.old.lines)
             (over W.contents writer.old writer.new) result }
         ensures empty { OnOk result (waiting_of self.new.lines ≡ []) }
@@ -133,7 +133,7 @@ impl Desk {
     }
 
     /// Writes the lines that wait if there are many, so that there is room for another line.
-    pub fn make_room<W: Write>(&mut self, writer: &mut Watched<W>) -> Result<(), OutputFailed>
+    pub(crate) fn make_room<W: Write>(&mut self, writer: &mut Watched<W>) -> Result<(), OutputFailed>
         ensures moved { Moves (over W.contents writer.old writer.new)
             (waiting_of self.new.lines) (waiting_of self.old.lines) }
         ensures failed { FailsBy result (over W.contents writer.old writer.new) }

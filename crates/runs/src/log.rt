@@ -14,7 +14,7 @@ use trace::Op;
 
 /// The log of the collections of a run.
 #[derive(Drop)]
-pub enum Log {
+pub(crate) enum Log {
     /// No log is wanted.
     Unwanted,
     /// These lines wait to be written.
@@ -25,7 +25,7 @@ pub enum Log {
 
 impl Log {
     /// A log on which the names wait, if one is wanted.
-    pub fn new(alloc: Global, geometry: &Geometry, wanted: bool) -> Result<Log, AllocError>
+    pub(crate) fn new(alloc: Global, geometry: &Geometry, wanted: bool) -> Result<Log, AllocError>
         ensures wanted { IfOk result (λ log. is_wanted log ≡ wanted) }
         ensures names { IfOk result
             (λ log. (known : Stream)
@@ -40,7 +40,7 @@ impl Log {
     }
 
     /// The collection that a command makes if it programs a page. It is searched for only if the log is written.
-    pub fn due(&self, ftl: &OneFtl, op: Op) -> Option<Collection>
+    pub(crate) fn due(&self, ftl: &OneFtl, op: Op) -> Option<Collection>
         ensures { IsOpen self.now → result ≡ due_before op (geometry_of ftl.now) (stock_of ftl.now) }
     {
         match (self, op) {
@@ -50,7 +50,7 @@ impl Log {
     }
 
     /// Records the collection that was made for a line of the trace.
-    pub fn tell<V: Write>(&mut self, line: u64, made: Option<Collection>, file: &mut Watched<V>)
+    pub(crate) fn tell<V: Write>(&mut self, line: u64, made: Option<Collection>, file: &mut Watched<V>)
         ensures wanted { is_wanted self.new ≡ is_wanted self.old }
         ensures logged { (before : Stream) → (text : List ℕ)
             → (more : List ℕ) → (IsOpen self.old → more ≡ log_part line made)
@@ -76,7 +76,7 @@ impl Log {
     }
 
     /// Writes the lines that wait. Returns whether a wanted log was written whole.
-    pub fn finish<V: Write>(self, file: &mut Watched<V>) -> Result<(), OutputFailed>
+    pub(crate) fn finish<V: Write>(self, file: &mut Watched<V>) -> Result<(), OutputFailed>
         ensures { (before : Stream) → (text : List ℕ)
             → IsLogged self (record { before = before; after = stream_of V.contents file.old }) text
             → WritesIf (is_wanted self) text (record { before = before; after = stream_of V.contents file.new }) result }

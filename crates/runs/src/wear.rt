@@ -13,7 +13,7 @@ use streams::Watched;
 
 /// A device after its run, the desk, on which no line waits, and the log of its collections.
 #[derive(Drop)]
-pub struct Played {
+pub(crate) struct Played {
     pub ftl: OneFtl,
     pub desk: Desk,
     pub log: Log,

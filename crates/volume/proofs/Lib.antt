@@ -1,5 +1,4 @@
 pub mod FreshBrooms
-pub mod Sparing
 pub mod Still
 pub mod Answered
 pub mod Looks

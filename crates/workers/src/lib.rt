@@ -7,8 +7,6 @@ mod runs;
 mod team;
 mod worker;
 
-pub use collector::Collector;
-pub use collector::broom_answer::BroomAnswer;
 pub use collector::collector_end::CollectorEnd;
 pub use collector::tally::Tally;
 pub use fault::RoundFault;
@@ -19,6 +17,4 @@ pub use trace::{Command, Commands, Op};
 pub use volume::{
     Broom, Drain, Erase, Folded, Gate, Geometry, GeometryFault, NoGate, Pass, Point, Volume,
 };
-pub use worker::Worker;
 pub use worker::plays::play;
-pub use worker::round_limits::RoundLimits;

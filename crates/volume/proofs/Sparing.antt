@@ -1,1 +1,0 @@
--- What a word of a held page tells of another player is that it has not disturbed the hold.
