@@ -41,7 +41,13 @@ impl Desk {
 
     /// Does a command, and if its answer is wanted adds the line to those that wait.
     #[inline(always)]
-    pub(crate) fn answer(&mut self, ftl: &mut OneFtl, command: &Command<'_>, line: u64, wanted: bool)
+    pub(crate) fn answer(
+        &mut self,
+        ftl: &mut OneFtl,
+        command: &Command<'_>,
+        line: u64,
+        wanted: bool,
+    )
         requires playable { IsPlayable (geometry_of ftl.old) command.now }
         requires page { vec_len self.old.page ≡ page_bytes_of (geometry_of ftl.old) }
         requires room { length (waiting_of self.old.lines) ≤ PIECE_BYTES }
@@ -133,7 +139,10 @@ impl Desk {
     }
 
     /// Writes the lines that wait if there are many, so that there is room for another line.
-    pub(crate) fn make_room<W: Write>(&mut self, writer: &mut Watched<W>) -> Result<(), OutputFailed>
+    pub(crate) fn make_room<W: Write>(
+        &mut self,
+        writer: &mut Watched<W>,
+    ) -> Result<(), OutputFailed>
         ensures moved { Moves (over W.contents writer.old writer.new)
             (waiting_of self.new.lines) (waiting_of self.old.lines) }
         ensures failed { FailsBy result (over W.contents writer.old writer.new) }

@@ -50,7 +50,12 @@ impl Log {
     }
 
     /// Records the collection that was made for a line of the trace.
-    pub(crate) fn tell<V: Write>(&mut self, line: u64, made: Option<Collection>, file: &mut Watched<V>)
+    pub(crate) fn tell<V: Write>(
+        &mut self,
+        line: u64,
+        made: Option<Collection>,
+        file: &mut Watched<V>,
+    )
         ensures wanted { is_wanted self.new ≡ is_wanted self.old }
         ensures logged { (before : Stream) → (text : List ℕ)
             → (more : List ℕ) → (IsOpen self.old → more ≡ log_part line made)
