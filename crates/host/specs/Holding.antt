@@ -1,7 +1,5 @@
 -- A pass that holds a page.
 use Rattle.std.specs.Prelude.{◌≡◌, ℕ, List, None, Some}
-use Rattle.geometry.specs.Geometry.{sectors_of}
-use Rattle.geometry.specs.History.{held}
 use Rattle.geometry.specs.declared.words.MapWord.{MapWord}
 use Rattle.geometry.specs.declared.page_addr.PageAddr.{PageAddr}
 use Rattle.flash_rule.specs.declared.carried.Carried.{Carried}
@@ -9,11 +7,11 @@ use Rattle.flash_rule.specs.declared.view.View.{View}
 use Rattle.flash_rule.specs.Plays.{Spared}
 use Rattle.flash_table.specs.declared.flash.Flash.{Flash}
 use Rattle.flash_table.specs.declared.pass.Pass.{Pass}
-use Rattle.flash_table.specs.Flash.{view_of, geometry_of}
+use Rattle.flash_table.specs.Flash.{view_of}
 use Rattle.host.specs.declared.holding.Held.{Held}
 use Rattle.host.specs.declared.holding.Holding.{Holding}
 use Rattle.host.specs.declared.holding.Holding.TheVariants as holding
-use Rattle.host.specs.Ready.{IsReady, IsPinned}
+use Rattle.host.specs.Ready.{IsReady, IsPinned, seen_at}
 use Rattle.host.specs.Told.{Searched}
 
 -- the pass that pins
@@ -45,7 +43,7 @@ IsSpared h = (c : Carried) → (view_of (pass_of h)).copy ≡ Some c → Spared 
 -- then
 abbrev pub Found : Flash → View → ℕ → Holding → Type 0
 Found f v s (holding.Held h) =
-    (value : List ℕ) × Holds f h value × (held (sectors_of (geometry_of f)) (view_of (pass_of h)).seen s ≡ Some value)
+    (value : List ℕ) × Holds f h value × (seen_at f (pass_of h) s ≡ Some value)
     × ((tries : ℕ) × Searched v tries (view_of (pass_of h)))
 Found f v s (holding.Empty p) =
-    IsReady f p × (held (sectors_of (geometry_of f)) (view_of p).seen s ≡ None) × ((tries : ℕ) × Searched v tries (view_of p))
+    IsReady f p × (seen_at f p s ≡ None) × ((tries : ℕ) × Searched v tries (view_of p))

@@ -12,7 +12,7 @@ use Rattle.flash_table.specs.declared.flash.Flash.{Flash}
 use Rattle.flash_table.specs.declared.pass.Pass.{Pass}
 use Rattle.flash_table.specs.declared.pass.OpenBlock.{OpenBlock}
 use Rattle.flash_table.specs.Flash.{IsPassOf, device, view_of, opened_of, geometry_of}
-use Rattle.geometry.specs.History.{held}
+use Rattle.geometry.specs.{History.held, Sectors.Sector}
 
 -- The pass is of this device. The block that it has open, if any, has a page left, in a generation less than the endurance; no page of it
 -- is half written, and without an open block no page is. Each call that it saw is of a host, its own ones are all the calls that it made,
@@ -41,6 +41,10 @@ pub record IsPinned (f : Flash) (p : Pass) (at : MapWord) (value : List ℕ) : T
   pub block : at.block < blocks_of (geometry_of f)
   pub page : at.page < pages_of (geometry_of f)
 
+-- what a sector holds after all that a pass has seen
+abbrev pub seen_at : Flash → Pass → ℕ → Sector
+seen_at f p s = held (sectors_of (geometry_of f)) (view_of p).seen s
+
 -- this page is pinned, and holds what the sector held at the last look
 abbrev pub HasFound : Flash → Pass → ℕ → MapWord → Type 0
-HasFound f p sector page = (value : List ℕ) × IsPinned f p page value × (held (sectors_of (geometry_of f)) (view_of p).seen sector ≡ Some value)
+HasFound f p sector page = (value : List ℕ) × IsPinned f p page value × (seen_at f p sector ≡ Some value)

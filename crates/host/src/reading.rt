@@ -1,10 +1,9 @@
 //! Reads: a look names the sector's page, a pin keeps its block from being erased, and the page is read.
 ghost use Rattle.std.specs.Prelude.{◌≡◌, ◌<◌, is_some, length};
 ghost use Rattle.geometry.specs.Geometry.{sectors_of, page_bytes_of};
-ghost use Rattle.geometry.specs.History.{held};
 ghost use Rattle.geometry.specs.Sectors.{Answers};
 ghost use Rattle.flash_table.specs.Flash.{view_of, opened_of, geometry_of};
-ghost use Rattle.host.specs.Ready.{IsReady};
+ghost use Rattle.host.specs.Ready.{IsReady, seen_at};
 ghost use Rattle.host.specs.Told.{Searched};
 
 use crate::searching::{read_page, search};
@@ -25,8 +24,7 @@ pub fn read(flash: &Flash, pass: &mut Pass, sector: u32, out: &mut [u8]) -> Read
     requires page { length out.old ≡ page_bytes_of (geometry_of flash.now) }
     ensures searched { Searched (view_of pass.old) result.tries (view_of pass.new) }
     ensures answer { Answers
-        (held (sectors_of (geometry_of flash.now))
-        (view_of pass.new).seen sector) result.got out.old out.new }
+        (seen_at flash.now pass.new sector) result.got out.old out.new }
     ensures pass { IsReady flash.now pass.new }
     ensures opened { opened_of pass.new ≡ opened_of pass.old }
 {
@@ -46,8 +44,7 @@ pub fn read_gated<G: Gate>(
     requires page { length out.old ≡ page_bytes_of (geometry_of flash.now) }
     ensures searched { Searched (view_of pass.old) result.tries (view_of pass.new) }
     ensures answer { Answers
-        (held (sectors_of (geometry_of flash.now))
-        (view_of pass.new).seen sector) result.got out.old out.new }
+        (seen_at flash.now pass.new sector) result.got out.old out.new }
     ensures pass { IsReady flash.now pass.new }
     ensures opened { opened_of pass.new ≡ opened_of pass.old }
 {
@@ -73,7 +70,7 @@ pub fn look(flash: &Flash, pass: &mut Pass, sector: u32) -> bool
     requires sector { sector < sectors_of (geometry_of flash.now) }
     ensures searched { Searched (view_of pass.old) 1 (view_of pass.new) }
     ensures answer { result
-        ≡ is_some (held (sectors_of (geometry_of flash.now)) (view_of pass.new).seen sector) }
+        ≡ is_some (seen_at flash.now pass.new sector) }
     ensures pass { IsReady flash.now pass.new }
     ensures opened { opened_of pass.new ≡ opened_of pass.old }
 {

@@ -1,12 +1,11 @@
 //! The search for a sector's page, with which reads and holds begin, and the reading of a pinned page.
 ghost use Rattle.std.specs.Prelude.{◌≡◌, ℕ, ◌<◌, List, IfSome, IfNone, None, Some, length};
 ghost use Rattle.geometry.specs.Geometry.{blocks_of, sectors_of, page_bytes_of};
-ghost use Rattle.geometry.specs.History.{held};
 ghost use Rattle.flash_rule.specs.declared.carried.Carried.{Carried};
 ghost use Rattle.flash_rule.specs.declared.facts.Pin.TheVariants as pin;
 ghost use Rattle.flash_rule.specs.Plays.{Spared};
 ghost use Rattle.flash_table.specs.Flash.{IsPassOf, view_of, opened_of, geometry_of};
-ghost use Rattle.host.specs.Ready.{IsReady, IsPinned, HasFound};
+ghost use Rattle.host.specs.Ready.{IsReady, IsPinned, HasFound, seen_at};
 ghost use Rattle.host.specs.Told.{Searched, PinnedInTime};
 
 use flash_table::{Flash, Gate, Pass, Point};
@@ -42,7 +41,7 @@ pub(crate) fn search<G: Gate>(flash: &Flash, pass: &mut Pass, sector: u32, gate:
     ensures searched { Searched (view_of pass.old) result.tries (view_of pass.new) }
     ensures found { IfSome result.page (HasFound flash.now pass.new sector) }
     ensures empty { IfNone result.page (IsReady flash.now pass.new
-        × (held (sectors_of (geometry_of flash.now)) (view_of pass.new).seen sector ≡ None)) }
+        × (seen_at flash.now pass.new sector ≡ None)) }
     ensures opened { opened_of pass.new ≡ opened_of pass.old }
 {
     let mut tries = 0;

@@ -1,9 +1,7 @@
 //! Hosts, holders of pages and brooms at one small device, whose calls return their answers.
 ghost use Rattle.std.specs.Prelude.{◌<◌, Option, None};
-ghost use Rattle.geometry.specs.Geometry.{sectors_of};
-ghost use Rattle.flash_table.specs.Flash.{geometry_of};
 ghost use Rattle.volume.specs.declared.volume.Volume.{Volume};
-ghost use Rattle.volume.specs.Volume.{flash_of, IsBroomReady, IsBroomReady-prop};
+ghost use Rattle.volume.specs.Volume.{flash_of, IsBroomReady, IsBroomReady-prop, sectors};
 ghost use Rattle.host.specs.Ready.{IsReady};
 ghost use Rattle.host.specs.Holding.{Holds};
 ghost use Rattle.shared_acceptance.specs.Kept.{IsHome, held_value, Holds-prop};
@@ -66,7 +64,7 @@ impl<'a, H: Home> Host<'a, H> {
     }
 
     fn write<G: Gate>(&mut self, sector: u32, number: u64, gate: &mut G) -> Done
-        requires { sector < sectors_of (geometry_of (flash_of self.old.volume.now)) }
+        requires { sector < sectors self.old.volume.now }
     {
         let answer = self
             .volume
@@ -75,7 +73,7 @@ impl<'a, H: Home> Host<'a, H> {
     }
 
     fn write_new<G: Gate>(&mut self, sector: u32, number: u64, gate: &mut G) -> Done
-        requires { sector < sectors_of (geometry_of (flash_of self.old.volume.now)) }
+        requires { sector < sectors self.old.volume.now }
     {
         match self
             .volume
@@ -88,13 +86,13 @@ impl<'a, H: Home> Host<'a, H> {
     }
 
     fn trim(&mut self, sector: u32) -> Done
-        requires { sector < sectors_of (geometry_of (flash_of self.old.volume.now)) }
+        requires { sector < sectors self.old.volume.now }
     {
         Done::Trimmed(self.volume.trim(&mut self.pass, sector))
     }
 
     fn read<G: Gate>(&mut self, sector: u32, gate: &mut G) -> Done
-        requires { sector < sectors_of (geometry_of (flash_of self.old.volume.now)) }
+        requires { sector < sectors self.old.volume.now }
     {
         let mut out = [99; BYTES];
         let done = self
@@ -104,14 +102,14 @@ impl<'a, H: Home> Host<'a, H> {
     }
 
     fn ask(&mut self, sector: u32) -> Done
-        requires { sector < sectors_of (geometry_of (flash_of self.old.volume.now)) }
+        requires { sector < sectors self.old.volume.now }
     {
         Done::Asked(self.volume.look(&mut self.pass, sector))
     }
 
     // Holds the page of a sector.
     fn hold(self, sector: u32) -> (Actor<'a, H>, Done)
-        requires { sector < sectors_of (geometry_of (flash_of self.volume.now)) }
+        requires { sector < sectors self.volume.now }
     {
         let Host { volume, pass, of } = self;
         match volume.hold(pass, sector) {

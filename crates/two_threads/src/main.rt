@@ -2,10 +2,8 @@
 #![tactic(auto)]
 
 ghost use Rattle.std.specs.Prelude.{◌≡◌, ◌<◌, ◌+◌, All, length};
-ghost use Rattle.geometry.specs.Geometry.{page_bytes_of, sectors_of};
-ghost use Rattle.flash_table.specs.Flash.{geometry_of};
 ghost use Rattle.host.specs.Ready.{IsReady};
-ghost use Rattle.volume.specs.Volume.{IsBroomReady, flash_of};
+ghost use Rattle.volume.specs.Volume.{IsBroomReady, flash_of, sectors, page_bytes};
 
 use std::thread::Threads;
 use uses::{Sweeper, Writer, two_writers_and_a_broom};
@@ -43,8 +41,8 @@ fn share<R: Threads + Sync>(
     requires two { length passes.items ≡ 2 }
     requires brooms { All (IsBroomReady volume.now) brooms.items }
     requires one { length brooms.items ≡ 1 }
-    requires sectors { 1 < sectors_of (geometry_of (flash_of volume.now)) }
-    requires page { page_bytes_of (geometry_of (flash_of volume.now)) ≡ 8 }
+    requires sectors { 1 < sectors volume.now }
+    requires page { page_bytes volume.now ≡ 8 }
 {
     let (mut passes, mut brooms) = (passes, brooms);
     let mut second = writer(volume, &mut passes, 1, b"Another!");
@@ -70,8 +68,8 @@ fn writer<'a>(
 ) -> Writer<'a>
     requires ready { All (IsReady (flash_of volume.now)) passes.old.items }
     requires count { 0 < length passes.old.items }
-    requires sector { sector < sectors_of (geometry_of (flash_of volume.now)) }
-    requires value { length value.now ≡ page_bytes_of (geometry_of (flash_of volume.now)) }
+    requires sector { sector < sectors volume.now }
+    requires value { length value.now ≡ page_bytes volume.now }
     ensures volume { result.volume.now ≡ volume.now }
     ensures ready { All (IsReady (flash_of volume.now)) passes.new.items }
     ensures count { length passes.old.items ≡ length passes.new.items + 1 }

@@ -1,8 +1,7 @@
 ghost use Rattle.std.specs.Prelude.{◌≡◌, ℕ, ◌∷◌, [], All, Some, IfOk, IfErr, length, slice_get};
-ghost use Rattle.geometry.specs.Geometry.{hosts_of, page_bytes_of, sectors_of};
-ghost use Rattle.flash_table.specs.{Flash.device, Flash.first_view, Flash.geometry_of, Flash.view_of, declared.pass.Pass.Pass};
+ghost use Rattle.flash_table.specs.{Flash.device, Flash.first_view, Flash.view_of, declared.pass.Pass.Pass};
 ghost use Rattle.host.specs.Ready.{IsReady};
-ghost use Rattle.volume.specs.{Closing.sectors_left, Volume.flash_of};
+ghost use Rattle.volume.specs.{Closing.sectors_left, Volume.flash_of, Volume.sectors, Volume.page_bytes, Volume.hosts};
 
 use std::alloc::Global;
 use volume::{Closed, Pass, Volume};
@@ -16,14 +15,14 @@ pub fn two_writers(
     first: &[u8],
     second: &[u8],
 ) -> Result<Closed, (Volume, Vec<Pass>)>
-    requires hosts { hosts_of (geometry_of (flash_of volume)) ≡ 2 }
-    requires sectors { sectors_of (geometry_of (flash_of volume)) ≡ 2 }
+    requires hosts { hosts volume ≡ 2 }
+    requires sectors { sectors volume ≡ 2 }
     requires count { length passes.items ≡ 2 }
     requires new { (t : ℕ) (p : Pass) → slice_get passes.items t ≡ Some p
         → (view_of p ≡ first_view (device (flash_of volume)) t)
         × IsReady (flash_of volume) p }
-    requires first { length first.now ≡ page_bytes_of (geometry_of (flash_of volume)) }
-    requires second { length second.now ≡ page_bytes_of (geometry_of (flash_of volume)) }
+    requires first { length first.now ≡ page_bytes volume }
+    requires second { length second.now ≡ page_bytes volume }
     ensures both { IfOk result
         (λ closed. sectors_left closed ≡ Some first.now ∷ Some second.now ∷ []) }
     ensures handed_back { IfErr result (λ back. All (IsReady (flash_of back.0)) back.1.items) }

@@ -1,9 +1,9 @@
 ghost use Rattle.std.specs.Prelude.{◌≡◌, ◌<◌, length};
-ghost use Rattle.geometry.specs.{Geometry.page_bytes_of, Geometry.sectors_of, History.held, History.Begins, Sectors.Answers};
+ghost use Rattle.geometry.specs.{History.Begins, Sectors.Answers};
 ghost use Rattle.geometry.specs.declared.answer.Got.TheVariants as got;
-ghost use Rattle.flash_table.specs.Flash.{geometry_of, view_of};
-ghost use Rattle.host.specs.Ready.{IsReady};
-ghost use Rattle.volume.specs.Volume.{IsBroomReady, flash_of};
+ghost use Rattle.flash_table.specs.Flash.{view_of};
+ghost use Rattle.host.specs.Ready.{IsReady, seen_at};
+ghost use Rattle.volume.specs.Volume.{IsBroomReady, flash_of, sectors, page_bytes};
 
 use volume::{Broom, Got, Holding, NoGate, Pass, Volume};
 
@@ -22,16 +22,15 @@ pub fn held_through_collection(
     requires reader { IsReady (flash_of volume.now) reader }
     requires writer { IsReady (flash_of volume.now) writer.old }
     requires broom { IsBroomReady volume.now broom.old }
-    requires sector { sector < sectors_of (geometry_of (flash_of volume.now)) }
-    requires fresh { length fresh.now ≡ page_bytes_of (geometry_of (flash_of volume.now)) }
-    requires before { length before.old ≡ page_bytes_of (geometry_of (flash_of volume.now)) }
-    requires after { length after.old ≡ page_bytes_of (geometry_of (flash_of volume.now)) }
+    requires sector { sector < sectors volume.now }
+    requires fresh { length fresh.now ≡ page_bytes volume.now }
+    requires before { length before.old ≡ page_bytes volume.now }
+    requires after { length after.old ≡ page_bytes volume.now }
 
     // What was read first is what the sector held at a point of the history that is not before anything the reader had seen.
     ensures later { Begins (view_of reader).seen (view_of result.0).seen }
     ensures found { Answers
-        (held (sectors_of (geometry_of (flash_of volume.now)))
-        (view_of result.0).seen sector) result.1 before.old before.new }
+        (seen_at (flash_of volume.now) result.0 sector) result.1 before.old before.new }
 
     // And what was read last is the same, whatever was written, drained and erased in between, here and by other threads.
     ensures same { result.1 ≡ got.Data → after.new ≡ before.new }

@@ -1,9 +1,8 @@
 ghost use Rattle.std.specs.Prelude.{◌≡◌, ℕ, ◌<◌, IfOk, length};
-ghost use Rattle.geometry.specs.Geometry.{page_bytes_of, sectors_of};
-ghost use Rattle.flash_table.specs.{Flash.geometry_of, Flash.view_of, Steps.HasNumber};
+ghost use Rattle.flash_table.specs.{Flash.view_of, Steps.HasNumber};
 ghost use Rattle.host.specs.Ready.{IsReady};
 ghost use Rattle.uses.specs.Sharing.{IsReadBehind};
-ghost use Rattle.volume.specs.Volume.{flash_of};
+ghost use Rattle.volume.specs.Volume.{flash_of, sectors, page_bytes};
 
 use volume::{Got, NoBlock, Pass, Volume};
 
@@ -16,14 +15,14 @@ pub fn write_and_read(
     out: &mut [u8],
 ) -> Result<Got, NoBlock>
     requires pass { IsReady (flash_of volume.now) pass.old }
-    requires sector { sector < sectors_of (geometry_of (flash_of volume.now)) }
-    requires value { length value.now ≡ page_bytes_of (geometry_of (flash_of volume.now)) }
-    requires out { length out.old ≡ page_bytes_of (geometry_of (flash_of volume.now)) }
+    requires sector { sector < sectors volume.now }
+    requires value { length value.now ≡ page_bytes volume.now }
+    requires out { length out.old ≡ page_bytes volume.now }
 
     // What is read is what the sector held when the value was written, or later.
     ensures behind { IfOk result
         (λ got. (t : ℕ) → HasNumber t pass.old
-        → IsReadBehind (sectors_of (geometry_of (flash_of volume.now))) t sector value.now
+        → IsReadBehind (sectors volume.now) t sector value.now
         (view_of pass.old) got out.old out.new) }
     ensures pass { IsReady (flash_of volume.now) pass.new }
 {

@@ -1,9 +1,8 @@
 //! Threads that share a device: what each one needs is in a struct, whose ghost fields say that it is ready.
 ghost use Rattle.std.specs.Prelude.{◌≡◌, ◌<◌, length};
-ghost use Rattle.geometry.specs.Geometry.{page_bytes_of, sectors_of};
-ghost use Rattle.flash_table.specs.Flash.{geometry_of, view_of};
+ghost use Rattle.flash_table.specs.Flash.{view_of};
 ghost use Rattle.host.specs.Ready.{IsReady};
-ghost use Rattle.volume.specs.Volume.{IsBroomReady, IsBroomReady-prop, flash_of};
+ghost use Rattle.volume.specs.Volume.{IsBroomReady, IsBroomReady-prop, flash_of, sectors, page_bytes};
 ghost use Rattle.uses.specs.Sharing.{IsStored, HasHeard};
 
 use std::thread::{Threads, join_mut};
@@ -16,8 +15,8 @@ pub struct Writer<'a> {
     pub sector: u32,
     pub value: &'a [u8],
     ghost ready: { IsReady (flash_of volume.now) pass },
-    ghost sector_is_there: { sector < sectors_of (geometry_of (flash_of volume.now)) },
-    ghost whole_page: { length value.now ≡ page_bytes_of (geometry_of (flash_of volume.now)) },
+    ghost sector_is_there: { sector < sectors volume.now },
+    ghost whole_page: { length value.now ≡ page_bytes volume.now },
 }
 
 impl Writer<'_> {

@@ -1,11 +1,11 @@
 ghost use Rattle.std.specs.Prelude.{◌≡◌, ◌<◌, ℕ, List, length};
-ghost use Rattle.geometry.specs.{Geometry.page_bytes_of, Geometry.sectors_of, History.Begins};
+ghost use Rattle.geometry.specs.{History.Begins};
 ghost use Rattle.flash_rule.specs.Plays.{Disjoint};
-ghost use Rattle.flash_table.specs.Flash.{geometry_of, view_of};
+ghost use Rattle.flash_table.specs.Flash.{view_of};
 ghost use Rattle.broom.specs.Ready.{view_of_broom};
 ghost use Rattle.host.specs.{Holding.Holds, Holding.page_of, Holding.pass_of, Ready.IsReady};
 ghost use Rattle.uses.specs.Sharing.{HasNoErase};
-ghost use Rattle.volume.specs.Volume.{IsBroomReady, flash_of};
+ghost use Rattle.volume.specs.Volume.{IsBroomReady, flash_of, sectors, page_bytes};
 
 use volume::{Broom, Held, NoGate, Pass, Volume};
 
@@ -38,8 +38,8 @@ pub fn held_beside_a_writer(
 ) -> Held
     requires held { (value : List ℕ) × Holds (flash_of volume.now) held value }
     requires writer { IsReady (flash_of volume.now) writer.old }
-    requires sector { sector < sectors_of (geometry_of (flash_of volume.now)) }
-    requires fresh { length fresh.now ≡ page_bytes_of (geometry_of (flash_of volume.now)) }
+    requires sector { sector < sectors volume.now }
+    requires fresh { length fresh.now ≡ page_bytes volume.now }
 
     // Whatever the writer has ever programmed, it was no page that the holder has programmed in the same generation of its block.
     ensures apart { Disjoint (view_of (pass_of result)).programs (view_of writer.new).programs }

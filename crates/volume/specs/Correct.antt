@@ -2,11 +2,10 @@
 -- of sectors, at a place of one history that only grows, and not before anything that its pass had seen.
 use Rattle.std.specs.Prelude.{◌≡◌, ℕ, Bool, List, [], ◌∷◌, ◌++◌, is_some}
 use Rattle.geometry.specs.{Sectors.Answers, History.Call, History.held, History.was, History.Begins, declared.answer.Got.Got, declared.answer.Was.Was}
-use Rattle.geometry.specs.Geometry.{sectors_of}
 use Rattle.geometry.specs.History as call
 use Rattle.flash_rule.specs.{Views.calls_of, declared.view.View.View}
-use Rattle.flash_table.specs.{declared.pass.Pass.Pass, Flash.geometry_of, Flash.view_of, Steps.HasNumber}
-use Rattle.volume.specs.{declared.volume.Volume.Volume, Volume.flash_of}
+use Rattle.flash_table.specs.{declared.pass.Pass.Pass, Flash.view_of, Steps.HasNumber}
+use Rattle.volume.specs.{declared.volume.Volume.Volume, Volume.sectors}
 
 -- what a pass may ask: the value of a sector, whether it has one, a new value for it, a value for it if it is empty, or that it become
 -- empty
@@ -66,4 +65,4 @@ pub record Correct (n t : ℕ) (asked : Asked) (answer : Answer) (old new : Know
 -- what a pass of a volume asked was answered so, as one step of the array of its sectors
 abbrev pub Does : Volume → Pass → Asked → Answer → Pass → Type 0
 Does volume old asked answer new =
-    (t : ℕ) → HasNumber t old → Correct (sectors_of (geometry_of (flash_of volume))) t asked answer (known_by (view_of old)) (known_by (view_of new))
+    (t : ℕ) → HasNumber t old → Correct (sectors volume) t asked answer (known_by (view_of old)) (known_by (view_of new))

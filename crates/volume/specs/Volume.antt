@@ -5,7 +5,8 @@ use Rattle.volume.specs.declared.volume.Volume.{Volume}
 use Rattle.std.specs.Prelude.{◌≡◌, None, ℕ}
 use Rattle.std.proofs.Props.{props}
 use Rattle.erase_queue.specs.Queue.{IsNewPass}
-use Rattle.flash_table.specs.Flash.{device, first_blocks, first_broom, broom_view, own_blocks}
+use Rattle.geometry.specs.Geometry.{blocks_of, hosts_of, page_bytes_of, sectors_of, words_of}
+use Rattle.flash_table.specs.Flash.{device, geometry_of, first_blocks, first_broom, broom_view, own_blocks}
 use Rattle.broom.specs.declared.broom.Broom.{Broom}
 use Rattle.broom.specs.Handing.{IsQueued, place_of, aside_of}
 use Rattle.broom.specs.Once.{IsReady-prop, IsQueued-prop}
@@ -21,6 +22,26 @@ flash_of v = v.flash
 -- the queue of its drained blocks
 abbrev pub queue_of : Volume → EraseQueue
 queue_of v = v.queue
+
+-- how many hosts it was opened for
+abbrev pub hosts : Volume → ℕ
+hosts v = hosts_of (geometry_of (flash_of v))
+
+-- how many sectors it has
+abbrev pub sectors : Volume → ℕ
+sectors v = sectors_of (geometry_of (flash_of v))
+
+-- how many blocks it has
+abbrev pub blocks : Volume → ℕ
+blocks v = blocks_of (geometry_of (flash_of v))
+
+-- how many words a page has
+abbrev pub words : Volume → ℕ
+words v = words_of (geometry_of (flash_of v))
+
+-- how many bytes a page has
+abbrev pub page_bytes : Volume → ℕ
+page_bytes v = page_bytes_of (geometry_of (flash_of v))
 
 -- A broom between two calls: it is ready at the volume's device, and its place is one at the volume's queue
 pub record IsBroomReady (v : Volume) (b : Broom) : Type 0 where

@@ -1,11 +1,11 @@
 //! The end of a device: what its sectors hold when all passes are retired.
 ghost use Rattle.std.specs.Prelude.{◌≡◌, ◌<◌, All, Some, IfOk, IfErr, length, slice_get, option_map};
 ghost use Rattle.std.specs.Vec.Iter.{into_iter_items};
-ghost use Rattle.geometry.specs.{Geometry.sectors_of, Geometry.hosts_of, History.held};
+ghost use Rattle.geometry.specs.{Geometry.sectors_of};
 ghost use Rattle.flash_table.specs.{declared.pass.Pass.Pass, Flash.view_of, Flash.geometry_of, Flash.device};
-ghost use Rattle.host.specs.Ready.{IsReady};
+ghost use Rattle.host.specs.Ready.{IsReady, seen_at};
 ghost use Rattle.volume.specs.Closing.{array_of, sectors_left, last_view, AreAll, AreRead, IsFinal, HasLooked, HaveLooked, HasLeft};
-ghost use Rattle.volume.specs.{Closing.IsFinalBy, Closing.IsReadBy, Closing.MetEach, Closing.HasRead, Volume.flash_of};
+ghost use Rattle.volume.specs.{Closing.IsFinalBy, Closing.IsReadBy, Closing.MetEach, Closing.HasRead, Volume.flash_of, Volume.hosts};
 
 use crate::volume::Volume;
 use flash_table::{Flash, Pass, Retired};
@@ -47,7 +47,7 @@ fn read_sector(
     ensures looked { HasLooked (view_of pass.old) (view_of pass.new) }
     ensures value { IfOk result
         (λ value. option_map (λ x. x.items) value
-        ≡ held (sectors_of (geometry_of flash.now)) (view_of pass.new).seen sector) }
+        ≡ seen_at flash.now pass.new sector) }
     ensures pass { IsReady flash.now pass.new }
 {
     let mut page = vec![in alloc; 0u8; flash.geometry().page_bytes()]?;
@@ -126,7 +126,7 @@ impl Volume {
 
         // Where all passes are given, the sectors are those after one history; else each is what it is after a history that grows.
         ensures one_history { IfOk result
-            (λ closed. AreAll (hosts_of (geometry_of (flash_of self))) passes.items
+            (λ closed. AreAll (hosts self) passes.items
             → IsFinal (flash_of self) passes.items closed) }
         ensures read { IfOk result
             (λ closed. AreRead (device (flash_of self)) passes.items

@@ -25,9 +25,8 @@ pub struct Volume {
 impl Volume {
     ghost use Rattle.volume.specs.LeavesArray.{LeavesArray};
     ghost use Rattle.std.specs.Prelude.{ℕ, ◌<◌, All, List, None, Some, Err, IfOk, IfSome, OnErr, is_some, length, slice_get};
-    ghost use Rattle.geometry.specs.Geometry.{brooms_of, hosts_of, sectors_of, words_of, page_bytes_of};
+    ghost use Rattle.geometry.specs.Geometry.{brooms_of, hosts_of};
     ghost use Rattle.geometry.specs.History as call;
-    ghost use Rattle.geometry.specs.History.{held};
     ghost use Rattle.geometry.specs.Sectors.{Answers};
     ghost use Rattle.geometry.specs.declared.words.PinWord.{PinWord};
     ghost use Rattle.flash_rule.specs.declared.facts.Pin.TheVariants as pin;
@@ -45,12 +44,12 @@ impl Volume {
     ghost use Rattle.broom.specs.Meeting.{StoodTold, BroomsMet};
     ghost use Rattle.broom.specs.Handing.{DrainDeadOneTold, DrainNextOneTold, DrainOneTold, EraseOneTold, HandsNothing, IsBelow, LeftAt, aside_of, place_of};
     ghost use Rattle.broom.specs.Loading.{AllLoaded, StateLoaded, counts_in};
-    ghost use Rattle.host.specs.Ready.{IsReady};
+    ghost use Rattle.host.specs.Ready.{IsReady, seen_at};
     ghost use Rattle.host.specs.Told.{Searched, Wrote, WroteNew, Refused, MetHolding, MetTold, was_found};
     ghost use Rattle.host.specs.declared.writing_new.NewFault.TheVariants as fault;
     ghost use Rattle.host.specs.Holding.{Holds, Found, pass_of, page_of};
     ghost use Rattle.volume.specs.Correct.{Does, Read, Look, Write, WriteNew, Trim, Found as Got, IsWritten, Replaced};
-    ghost use Rattle.volume.specs.Volume.{IsBroomReady, IsFresh, IsUnused, flash_of, queue_of};
+    ghost use Rattle.volume.specs.Volume.{IsBroomReady, IsFresh, IsUnused, flash_of, queue_of, sectors, blocks, words, page_bytes};
     ghost use Rattle.volume.specs.Undisturbed.{IsUndisturbed};
 
     /// A device with every sector empty, its passes, pass t with number t, and its brooms, broom i with number i. `Err` means out of memory.
@@ -125,14 +124,13 @@ impl Volume {
     /// Reads a sector into `out`, a buffer of one page.
     pub fn read(&self, pass: &mut Pass, sector: u32, out: &mut [u8]) -> ReadDone
         requires pass { IsReady (flash_of self.now) pass.old }
-        requires sector { sector < sectors_of (geometry_of (flash_of self.now)) }
-        requires page { length out.old ≡ page_bytes_of (geometry_of (flash_of self.now)) }
+        requires sector { sector < sectors self.now }
+        requires page { length out.old ≡ page_bytes self.now }
         ensures correct { Does self.now pass.old (Read sector)
             (Got result.got out.old out.new) pass.new }
         ensures searched { Searched (view_of pass.old) result.tries (view_of pass.new) }
         ensures answer { Answers
-            (held (sectors_of (geometry_of (flash_of self.now)))
-            (view_of pass.new).seen sector) result.got out.old out.new }
+            (seen_at (flash_of self.now) pass.new sector) result.got out.old out.new }
         ensures pass { IsReady (flash_of self.now) pass.new }
         ensures opened { opened_of pass.new ≡ opened_of pass.old }
     {
@@ -148,14 +146,13 @@ impl Volume {
         gate: &mut G,
     ) -> ReadDone
         requires pass { IsReady (flash_of self.now) pass.old }
-        requires sector { sector < sectors_of (geometry_of (flash_of self.now)) }
-        requires page { length out.old ≡ page_bytes_of (geometry_of (flash_of self.now)) }
+        requires sector { sector < sectors self.now }
+        requires page { length out.old ≡ page_bytes self.now }
         ensures correct { Does self.now pass.old (Read sector)
             (Got result.got out.old out.new) pass.new }
         ensures searched { Searched (view_of pass.old) result.tries (view_of pass.new) }
         ensures answer { Answers
-            (held (sectors_of (geometry_of (flash_of self.now)))
-            (view_of pass.new).seen sector) result.got out.old out.new }
+            (seen_at (flash_of self.now) pass.new sector) result.got out.old out.new }
         ensures pass { IsReady (flash_of self.now) pass.new }
         ensures opened { opened_of pass.new ≡ opened_of pass.old }
     {
@@ -165,12 +162,11 @@ impl Volume {
     /// Whether a sector is written, by one look at its map word. No page is read.
     pub fn look(&self, pass: &mut Pass, sector: u32) -> bool
         requires pass { IsReady (flash_of self.now) pass.old }
-        requires sector { sector < sectors_of (geometry_of (flash_of self.now)) }
+        requires sector { sector < sectors self.now }
         ensures correct { Does self.now pass.old (Look sector) (IsWritten result) pass.new }
         ensures searched { Searched (view_of pass.old) 1 (view_of pass.new) }
         ensures answer { result
-            ≡ is_some
-            (held (sectors_of (geometry_of (flash_of self.now))) (view_of pass.new).seen sector) }
+            ≡ is_some (seen_at (flash_of self.now) pass.new sector) }
         ensures pass { IsReady (flash_of self.now) pass.new }
         ensures opened { opened_of pass.new ≡ opened_of pass.old }
     {
@@ -180,8 +176,8 @@ impl Volume {
     /// Writes a page of bytes to a sector. Returns what the sector was.
     pub fn write(&self, pass: &mut Pass, sector: u32, bytes: &[u8]) -> Result<Was, NoBlock>
         requires pass { IsReady (flash_of self.now) pass.old }
-        requires sector { sector < sectors_of (geometry_of (flash_of self.now)) }
-        requires page { length bytes.now ≡ page_bytes_of (geometry_of (flash_of self.now)) }
+        requires sector { sector < sectors self.now }
+        requires page { length bytes.now ≡ page_bytes self.now }
         ensures correct { IfOk result
             (λ was. Does self.now pass.old (Write sector bytes.now) (Replaced was) pass.new) }
         ensures wrote { IfOk result
@@ -202,8 +198,8 @@ impl Volume {
         gate: &mut G,
     ) -> Result<Was, NoBlock>
         requires pass { IsReady (flash_of self.now) pass.old }
-        requires sector { sector < sectors_of (geometry_of (flash_of self.now)) }
-        requires page { length bytes.now ≡ page_bytes_of (geometry_of (flash_of self.now)) }
+        requires sector { sector < sectors self.now }
+        requires page { length bytes.now ≡ page_bytes self.now }
         ensures correct { IfOk result
             (λ was. Does self.now pass.old (Write sector bytes.now) (Replaced was) pass.new) }
         ensures wrote { IfOk result
@@ -219,8 +215,8 @@ impl Volume {
     /// `Written` if both apply. After `Written` that page is dead, and its block is closed if it is full.
     pub fn write_new(&self, pass: &mut Pass, sector: u32, bytes: &[u8]) -> Result<(), NewFault>
         requires pass { IsReady (flash_of self.now) pass.old }
-        requires sector { sector < sectors_of (geometry_of (flash_of self.now)) }
-        requires page { length bytes.now ≡ page_bytes_of (geometry_of (flash_of self.now)) }
+        requires sector { sector < sectors self.now }
+        requires page { length bytes.now ≡ page_bytes self.now }
         ensures correct { IfSome (was_found result)
             (λ was. Does self.now pass.old (WriteNew sector bytes.now) (Replaced was) pass.new) }
         ensures wrote { IfSome (was_found result)
@@ -242,8 +238,8 @@ impl Volume {
         gate: &mut G,
     ) -> Result<(), NewFault>
         requires pass { IsReady (flash_of self.now) pass.old }
-        requires sector { sector < sectors_of (geometry_of (flash_of self.now)) }
-        requires page { length bytes.now ≡ page_bytes_of (geometry_of (flash_of self.now)) }
+        requires sector { sector < sectors self.now }
+        requires page { length bytes.now ≡ page_bytes self.now }
         ensures correct { IfSome (was_found result)
             (λ was. Does self.now pass.old (WriteNew sector bytes.now) (Replaced was) pass.new) }
         ensures wrote { IfSome (was_found result)
@@ -259,7 +255,7 @@ impl Volume {
     /// Empties a sector. Returns what it was.
     pub fn trim(&self, pass: &mut Pass, sector: u32) -> Was
         requires pass { IsReady (flash_of self.now) pass.old }
-        requires sector { sector < sectors_of (geometry_of (flash_of self.now)) }
+        requires sector { sector < sectors self.now }
         ensures correct { Does self.now pass.old (Trim sector) (Replaced result) pass.new }
         ensures called { (t : ℕ) → HasNumber t pass.old
             → HasCalled pass.old (call.Trim t sector) sector result pass.new }
@@ -272,7 +268,7 @@ impl Volume {
     /// Pins the page that has a sector's value.
     pub fn hold(&self, pass: Pass, sector: u32) -> Holding
         requires pass { IsReady (flash_of self.now) pass }
-        requires sector { sector < sectors_of (geometry_of (flash_of self.now)) }
+        requires sector { sector < sectors self.now }
         ensures { Found (flash_of self.now) (view_of pass) sector result }
     {
         host::hold(&self.flash, pass, sector)
@@ -281,7 +277,7 @@ impl Volume {
     /// Copies the value that is held into a buffer of one page.
     pub fn copy_into(&self, held: &mut Held, out: &mut [u8])
         requires held { (value : List ℕ) × Holds (flash_of self.now) held.old value }
-        requires page { length out.old ≡ page_bytes_of (geometry_of (flash_of self.now)) }
+        requires page { length out.old ≡ page_bytes self.now }
         ensures value { (value : List ℕ) → Holds (flash_of self.now) held.old value
             → (out.new ≡ value) × Holds (flash_of self.now) held.new value }
         ensures undisturbed { IsUndisturbed (flash_of self.now) held.old
@@ -295,7 +291,7 @@ impl Volume {
     /// Word `i` of the value that is held.
     pub fn word(&self, held: &mut Held, i: u32) -> u64
         requires held { (value : List ℕ) × Holds (flash_of self.now) held.old value }
-        requires word { i < words_of (geometry_of (flash_of self.now)) }
+        requires word { i < words self.now }
         ensures value { (value : List ℕ) → Holds (flash_of self.now) held.old value
             → (result ≡ data_word value i) × Holds (flash_of self.now) held.new value }
         ensures undisturbed { IsUndisturbed (flash_of self.now) held.old
@@ -405,7 +401,7 @@ impl Volume {
         ensures ready { IsBroomReady self.now broom.new }
         ensures array { LeavesArray (view_of_broom broom.old) (view_of_broom broom.new) }
         ensures queue { HandsNothing broom.old broom.new }
-        ensures block { IsBelow (blocks_of (geometry_of (flash_of self.now))) result }
+        ensures block { IsBelow (blocks self.now) result }
     {
         broom::drain(&self.flash, broom, gate)
     }
@@ -419,7 +415,7 @@ impl Volume {
         ensures ready { IsBroomReady self.now broom.new }
         ensures array { LeavesArray (view_of_broom broom.old) (view_of_broom broom.new) }
         ensures queue { HandsNothing broom.old broom.new }
-        ensures block { IsBelow (blocks_of (geometry_of (flash_of self.now))) result }
+        ensures block { IsBelow (blocks self.now) result }
     {
         broom::drain_next(&self.flash, broom, gate)
     }
@@ -433,7 +429,7 @@ impl Volume {
         ensures ready { IsBroomReady self.now broom.new }
         ensures array { LeavesArray (view_of_broom broom.old) (view_of_broom broom.new) }
         ensures queue { HandsNothing broom.old broom.new }
-        ensures block { IsBelow (blocks_of (geometry_of (flash_of self.now))) result }
+        ensures block { IsBelow (blocks self.now) result }
     {
         broom::drain_dead(&self.flash, broom, gate)
     }
@@ -442,7 +438,7 @@ impl Volume {
     #[tactic(auto, using(crate::proofs::ArrayLeft::still_ready))]
     pub fn erase<G: Gate>(&self, broom: &mut Broom, block: u32, gate: &mut G) -> Erase
         requires broom { IsBroomReady self.now broom.old }
-        requires block { block < blocks_of (geometry_of (flash_of self.now)) }
+        requires block { block < blocks self.now }
         ensures erased { EraseTold broom.old block result broom.new }
         ensures marks { Unmarks broom.old block broom.new }
         ensures ready { IsBroomReady self.now broom.new }
@@ -469,7 +465,7 @@ impl Volume {
     #[tactic(auto, using(crate::proofs::ArrayLeft::still_ready))]
     pub fn load_state(&self, broom: &mut Broom, block: u32) -> PinWord
         requires broom { IsBroomReady self.now broom.old }
-        requires block { block < blocks_of (geometry_of (flash_of self.now)) }
+        requires block { block < blocks self.now }
         ensures loaded { StateLoaded broom.old block result broom.new }
         ensures range { IsInRange (device (flash_of self.now)) result }
         ensures ready { IsBroomReady self.now broom.new }

@@ -8,11 +8,10 @@ use Rattle.rounds.specs.Merging.{merge, IsDisjointTrace, AreAtOneHistory, lines_
 use Rattle.rounds.specs.Told.{lines_text, IsTextOfSome}
 use Rattle.std.specs.Arc.{arc_value}
 use Rattle.flash_rule.specs.declared.view.View.{View}
-use Rattle.flash_table.specs.Flash.{geometry_of}
 use Rattle.rounds.specs.Answers.{said_in}
 use Rattle.rounds.specs.Playing.{Plays, LinesFound, calls_done, writes_done}
 use Rattle.volume.specs.declared.volume.Volume.{Volume}
-use Rattle.volume.specs.Volume.{flash_of}
+use Rattle.volume.specs.Volume.{hosts, sectors}
 use Rattle.rounds.specs.Plans.{places_for, ends_of}
 use Rattle.workers.specs.declared.worker.Worker.{Worker}
 use Rattle.workers.specs.Meetings.{AreSeated, IsAt, PassesMet, passes_of, rest_of, views_of}
@@ -35,7 +34,7 @@ pub record RoundPlayed (volume : Volume) (patience end : ℕ) (workers back : Li
 -- the workers can play a round: there is one for each pass of this volume, at its number
 pub record AreManned (volume : Volume) (workers : List Worker) : Type 0 where
   pub some : 0 < length workers
-  pub all : length workers ≡ hosts_of (geometry_of (flash_of volume))
+  pub all : length workers ≡ hosts volume
   pub at : All (IsAt volume) workers
   pub seated : AreSeated (passes_of workers)
 
@@ -57,7 +56,7 @@ pub record HasOwnLines (trace : List Command) (t : ℕ) (p : Worker) : Type 0 wh
 pub record HasBegun (volume : Volume) (trace : List Command) (ends : List ℕ) (workers : List Worker) : Type 0 where
   pub rounds : ends ≡ ends_of trace
   pub known : All (λ c. c.worker < length workers) trace
-  pub sectors : All (λ c. c.sector < sectors_of (geometry_of (flash_of volume))) trace
+  pub sectors : All (λ c. c.sector < sectors volume) trace
   pub dealt : (t : ℕ) (p : Worker) → t < length workers → HasOwnLines trace t (slice_index_or workers t p)
   pub none : (t : ℕ) (p : Worker) → t < length workers → HasPlayedNone (slice_index_or workers t p)
   pub new : (t : ℕ) → t < length workers → ((views_of volume (passes_of workers) t).seen ≡ []) × ((views_of volume (passes_of workers) t).mine ≡ [])
@@ -83,10 +82,10 @@ pub record HasRun (t patience : ℕ) (earlier : List ℕ) (lines : List Command)
 pub record HasEnded (volume : Volume) (patience : ℕ) (trace : List Command) (before workers : List Worker) : Type 0 where
   pub count : HaveAnswers (rows_of workers) trace
   pub dealt : (t : ℕ) (p : Worker) → t < length workers → HasOwnLines trace t (slice_index_or workers t p)
-  pub told : AreAtOneHistory (sectors_of (geometry_of (flash_of volume))) (length workers) trace (rows_of workers)
+  pub told : AreAtOneHistory (sectors volume) (length workers) trace (rows_of workers)
   pub each : (t : ℕ) → t < length workers
       → HasRun t patience (denied_by volume before t) (lines_for t trace) (rows_of workers t) (views_of volume (passes_of workers) t)
-  pub text : IsDisjointTrace trace → IsTextOfSome (sectors_of (geometry_of (flash_of volume))) trace (lines_text 0 (merge trace (rows_of workers)))
+  pub text : IsDisjointTrace trace → IsTextOfSome (sectors volume) trace (lines_text 0 (merge trace (rows_of workers)))
 
 -- a run of any trace that these workers were about to play has ended with those
 abbrev pub EndsRun : Volume → ℕ → List ℕ → List Worker → List Worker → Type 0

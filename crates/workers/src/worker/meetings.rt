@@ -1,11 +1,10 @@
 //! Meetings of the passes after a round: each pass comes to see all that the others have done.
 ghost use Rattle.std.specs.Prelude.{◌≡◌, ◌<◌, All, map, length};
 ghost use Rattle.std.specs.Arc.{arc_value};
-ghost use Rattle.geometry.specs.Geometry.{hosts_of};
-ghost use Rattle.flash_table.specs.Flash.{view_of, geometry_of};
+ghost use Rattle.flash_table.specs.Flash.{view_of};
 ghost use Rattle.host.specs.Told.{MetTold};
 ghost use Rattle.volume.specs.Closing.{MetEach};
-ghost use Rattle.volume.specs.Volume.{flash_of};
+ghost use Rattle.volume.specs.Volume.{hosts};
 ghost use Rattle.workers.specs.Meetings.{AreSeated, IsAt, PassesMet, passes_of, rest_of};
 
 use crate::worker::Worker;
@@ -41,7 +40,7 @@ fn meet_others(volume: &Volume, first: &mut Worker, others: &mut [Worker])
 // before.
 pub(crate) fn meet_all(volume: &Volume, workers: &mut [Worker])
     requires some { 0 < length workers.old }
-    requires all { length workers.old ≡ hosts_of (geometry_of (flash_of volume.now)) }
+    requires all { length workers.old ≡ hosts volume.now }
     requires at { All (IsAt volume.now) workers.old }
     requires seated { AreSeated (passes_of workers.old) }
     ensures all_met { PassesMet volume.now (passes_of workers.old) (passes_of workers.new) }

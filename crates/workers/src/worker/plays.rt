@@ -1,8 +1,7 @@
 ghost use Rattle.std.specs.Prelude.{◌≡◌, ◌<◌, ℕ, All, IfNone, IfSome, length, map};
-ghost use Rattle.geometry.specs.Geometry.{sectors_of, page_bytes_of};
 ghost use Rattle.flash_table.specs.{Flash.geometry_of, Flash.view_of, Steps.HasNumber};
 ghost use Rattle.host.specs.{Ready.IsReady, Told.Programmed, Told.Refused};
-ghost use Rattle.volume.specs.Volume.{flash_of};
+ghost use Rattle.volume.specs.Volume.{flash_of, sectors, page_bytes};
 ghost use Rattle.rounds.specs.Lines.{said};
 ghost use Rattle.rounds.specs.Answers.{page_size_of, HasSpaceFor};
 ghost use Rattle.workers.specs.Playable.{IsLine, HasPage, HasAnswered, HasPlayedLines, added, lines_at, kind_found, HasPlayedLine, write_call, write_op};
@@ -45,8 +44,8 @@ fn try_write<G: Gate>(
     gate: &mut G,
 ) -> Option<Was>
     requires pass { IsReady (flash_of volume.now) pass.old }
-    requires sector { sector < sectors_of (geometry_of (flash_of volume.now)) }
-    requires page { length bytes.now ≡ page_bytes_of (geometry_of (flash_of volume.now)) }
+    requires sector { sector < sectors volume.now }
+    requires page { length bytes.now ≡ page_bytes volume.now }
     ensures wrote { IfSome result
         (λ was. (t : ℕ) → HasNumber t pass.old
         → Programmed (view_of pass.old) (write_call only_new t sector bytes.now) sector was
@@ -78,8 +77,8 @@ fn write_patiently<G: Gate>(
     gate: &mut G,
 ) -> Kind
     requires pass { IsReady (flash_of volume.now) pass.old }
-    requires sector { sector < sectors_of (geometry_of (flash_of volume.now)) }
-    requires page { length bytes.now ≡ page_bytes_of (geometry_of (flash_of volume.now)) }
+    requires sector { sector < sectors volume.now }
+    requires page { length bytes.now ≡ page_bytes volume.now }
     ensures played { HasPlayedLine patience pass.old (write_op only_new) sector bytes.now result
         bytes.now pass.new }
     ensures pass { IsReady (flash_of volume.now) pass.new }
@@ -104,7 +103,7 @@ fn play_line<G: Gate>(
 ) -> Kind
     requires pass { IsReady (flash_of volume.now) pass.old }
     requires line { IsLine (geometry_of (flash_of volume.now)) line.now }
-    requires page { length page.old ≡ page_bytes_of (geometry_of (flash_of volume.now)) }
+    requires page { length page.old ≡ page_bytes volume.now }
     ensures played { HasPlayedLine patience pass.old line.now.op line.now.sector line.now.page result page.new pass.new }
     ensures pass { IsReady (flash_of volume.now) pass.new }
 {
@@ -163,8 +162,8 @@ pub(crate) fn play_at<G: Gate>(
     requires there { All (λ p. p < length commands.now) places.now }
     requires lines { All (IsLine (geometry_of (flash_of volume.now)))
         (lines_at commands.now places.now) }
-    requires buffer { length buffer.old ≡ page_bytes_of (geometry_of (flash_of volume.now)) }
-    requires page { page_size_of answers.old ≡ page_bytes_of (geometry_of (flash_of volume.now)) }
+    requires buffer { length buffer.old ≡ page_bytes volume.now }
+    requires page { page_size_of answers.old ≡ page_bytes volume.now }
     requires space { HasSpaceFor answers.old (lines_at commands.now places.now) }
     ensures played { HasPlayedLines patience pass.old
         (lines_at commands.now places.now) (added answers.old answers.new) pass.new }
