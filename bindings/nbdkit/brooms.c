@@ -12,6 +12,7 @@
 #include <sys/resource.h>
 
 #include "cold.h"
+#include "reserve.h"
 
 enum {
     DRAINS_OF_A_SURVEY = 64,
@@ -39,7 +40,8 @@ int brooms_begin(struct brooms *brooms, const struct options *options, struct st
     brooms->brooms = aligned_alloc(_Alignof(struct broom), (options->brooms + 1) * sizeof *brooms->brooms);
     brooms->erases = calloc(options->blocks, sizeof *brooms->erases);
     brooms->is_loose = calloc(options->blocks, sizeof *brooms->is_loose);
-    int is_short = !brooms->brooms || !brooms->erases || !brooms->is_loose;
+    brooms->can_be_won = calloc(options->blocks, sizeof *brooms->can_be_won);
+    int is_short = !brooms->brooms || !brooms->erases || !brooms->is_loose || !brooms->can_be_won;
     for (uint32_t i = 0; i < options->brooms && brooms->brooms; i++) {
         struct broom *broom = &brooms->brooms[i];
         *broom = (struct broom){.seat = &seats[i], .all = brooms, .number = i, .destination = NO_BLOCK, .random = options->seed + i};
@@ -60,6 +62,7 @@ void brooms_end(struct brooms *brooms) {
     free(brooms->brooms);
     free((void *) brooms->erases);
     free((void *) brooms->is_loose);
+    free(brooms->can_be_won);
     pthread_rwlock_destroy(&brooms->choosing);
 }
 
@@ -118,7 +121,7 @@ static uint32_t next_destination(struct broom *broom) {
         broom->spare = NO_BLOCK;
         broom->filled = 0;
     }
-    atomic_store(&broom->room, broom->all->pages - ++broom->filled);
+    broom->filled++;
     return broom->destination;
 }
 
@@ -363,23 +366,8 @@ static int erase_drained(struct broom *broom, int are_all) {
     return was_there;
 }
 
-// Whether a broom leaves the drains to another one with more room in the block that it copies to. A block is won back for hosts once a broom has room for
-// all that it moves. So where pages die one by one, a single broom needs no more of them than a block has.
-static int leaves_drains(struct broom *broom) {
-    struct brooms *all = broom->all;
-    uint32_t room = atomic_load(&broom->room);
-    for (uint32_t i = 0; i < all->count; i++) {
-        uint32_t its = atomic_load(&all->brooms[i].room);
-        if ((its > room || (its == room && i < broom->number)) && stock_leaves_to(all->stock, i))
-            return 1;
-    }
-    return 0;
-}
-
 // Drains a block. 0 if there is nothing to gain, or the broom's next spare still waits to be erased.
 static int drain(struct broom *broom) {
-    if (leaves_drains(broom))
-        return 0;
     uint32_t block = 0, moved = 0, code = drain_one(broom, &block, &moved), copies = new_copies(broom);
     broom->was_poor = copies > broom->all->pages - broom->all->pages / POOR_PART;
     switch (code) {
@@ -400,12 +388,16 @@ static int drain(struct broom *broom) {
     }
 }
 
-// Whether the device has a broom too many. Each keeps blocks, so that the others find more live pages in those that are left. What it gives back it never
+// Whether the device has a broom too many, also since pages become scarce. Each keeps blocks, so that the others find more live pages in those that are left. What it gives back it never
 // gets again, so it looks only a few times in the life of a device: one that lasts keeps its brooms.
 static int is_needless(struct broom *broom) {
     struct brooms *all = broom->all;
     uint64_t most = all->blocks * (uint64_t) (all->endurance - 1), part = most > 0 ? atomic_load(&all->all_erases) * LOOKS_OF_A_LIFE / most : 0;
-    if (broom->number == 0 || broom->drained_count > 0 || part == broom->looked_at)
+    if (broom->number == 0 || broom->drained_count > 0)
+        return 0;
+    if (stock_spares(all->stock, broom->number))
+        return 1;
+    if (part == broom->looked_at)
         return 0;
     broom->looked_at = part;
     return stock_is_calm(all->stock, &broom->load);
@@ -415,23 +407,31 @@ static int is_needless(struct broom *broom) {
 static void leave(struct broom *broom) {
     mintlintel_seat_close(announced(broom->seat));
     broom->destination = broom->spare = NO_BLOCK;
-    atomic_store(&broom->room, 0);
     stock_leave(broom->all->stock, broom->number);
+}
+
+static int collect(struct broom *broom) {
+    int was_fruitful = erase_drained(broom, 0);
+    was_fruitful |= drain(broom);
+    was_fruitful |= erase_drained(broom, 0);
+    return was_fruitful || erase_drained(broom, 1);
 }
 
 // What a broom does in a round that it has begun. 0 if it has left.
 static int go_round(struct broom *broom, uint64_t known) {
-    int was_fruitful = erase_drained(broom, 0);
-    was_fruitful |= drain(broom);
-    was_fruitful |= erase_drained(broom, 0);
-    was_fruitful = was_fruitful || erase_drained(broom, 1);
+    struct stock *stock = broom->all->stock;
+    int counts = stock_wants_count(stock, broom->number), was_fruitful;
+    if (counts)
+        was_fruitful = reserve_count(broom);
+    else
+        was_fruitful = stock_spares(stock, broom->number) ? erase_drained(broom, 1) : collect(broom);
     if (!was_fruitful)
         tally_add(&broom->fruitless, 1);
     if (is_needless(broom)) {
         leave(broom);
         return 0;
     }
-    stock_end_round(broom->all->stock, broom->number, known, !was_fruitful, broom->was_poor);
+    stock_end_round(stock, broom->number, known, !was_fruitful, broom->was_poor);
     return 1;
 }
 

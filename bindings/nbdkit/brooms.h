@@ -33,7 +33,6 @@ struct broom {
     uint32_t choices;         // how often it has chosen between the first two
     int was_poor; // its last drain moved nearly a whole block
     uint32_t destination, filled; // the block that it copies to, and how many of its pages are copies; or NO_BLOCK
-    _Atomic uint32_t room;        // its pages that are left
     uint32_t spare;               // the block after that, or NO_BLOCK
     uint64_t random;              // for the sectors whose blocks are compared
     uint64_t looked_at;           // parts of all erases that were used when it last looked whether it is needed
@@ -59,6 +58,7 @@ struct brooms {
     _Atomic uint32_t *erases;     // of each block
     _Atomic uint8_t *is_loose;    // of each block: it has cold data and a dead page, and is drained into a block that is filled for the last time
     _Atomic uint32_t loose_count;
+    uint8_t *can_be_won; // of each block, for a count of the pages: it is closed, and can be erased again
 };
 
 // 0, or -1 with an error reported if there is no memory.

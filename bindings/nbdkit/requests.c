@@ -164,6 +164,8 @@ static int store(struct device *device, uint32_t sector, const uint8_t *page, st
     for (handles->kept = NULL;; host = NULL) {
         if (!host)
             host = stock_take_to_write(&device->stock, &attempt);
+        if (!host)
+            return fail_full(device);
         uint32_t code = mintlintel_host_write(announced(host->seat), sector, page, device->options.page);
         if (code <= MINTLINTEL_WRITTEN) {
             tally_add(&host->writes, 1);

@@ -64,9 +64,8 @@ int stock_begin(struct stock *stock, const struct options *options, struct mintl
     stock->hosts = aligned_alloc(_Alignof(struct host), hosts * sizeof *stock->hosts);
     stock->fruitless_at = calloc(options->brooms + 1, sizeof *stock->fruitless_at);
     stock->poor_at = calloc(options->brooms + 1, sizeof *stock->poor_at);
-    stock->works = calloc(options->brooms + 1, sizeof *stock->works);
     stock->has_left = calloc(options->brooms + 1, sizeof *stock->has_left);
-    if (!stock->hosts || !stock->fruitless_at || !stock->poor_at || !stock->works || !stock->has_left) {
+    if (!stock->hosts || !stock->fruitless_at || !stock->poor_at || !stock->has_left) {
         nbdkit_error("there is no memory for the handles");
         stock_end(stock);
         return -1;
@@ -82,7 +81,6 @@ void stock_end(struct stock *stock) {
     free(stock->hosts);
     free(stock->fruitless_at);
     free(stock->poor_at);
-    free(stock->works);
     free(stock->has_left);
     pthread_cond_destroy(&stock->for_any);
     pthread_cond_destroy(&stock->for_write);
@@ -147,6 +145,22 @@ static struct host *take_roomy(struct stock *stock, uint32_t own, int may_open) 
     return host || (may_open && opens_own(stock, own)) ? host : take_idle(stock, &stock->roomy);
 }
 
+// Takes a page for a handle's next program: 0 if the budget has none. It is marked first, so that a count sees it here or there.
+static int take_page(struct stock *stock, struct host *host) {
+    atomic_store(&host->page, ANY_PAGE);
+    if (!atomic_load(&stock->is_rationed))
+        return 1;
+    int64_t left = atomic_load(&stock->budget);
+    while (left > 0 && !atomic_compare_exchange_weak(&stock->budget, &left, left - 1))
+        ;
+    atomic_store(&host->page, left > 0 ? PAGE_OF_BUDGET : NO_PAGE);
+    return left > 0;
+}
+
+static int is_used_up(struct stock *stock) {
+    return atomic_load(&stock->is_rationed) && atomic_load(&stock->budget) <= 0;
+}
+
 // ---- The mutex is held from here to the next line of this form.
 
 // Whether each broom has looked in vain since the last change.
@@ -169,6 +183,11 @@ static int may_open(const struct stock *stock) {
 // Whether no write can be done until somebody trims.
 static int is_hopeless(struct stock *stock) {
     return lacks_block(stock) && stock->open_count == 0 && is_fruitless(stock);
+}
+
+// Whether a write waits for pages, and something has changed since there were none.
+static int waits_for_count(struct stock *stock) {
+    return stock->waiting_to_write > 0 && is_used_up(stock) && stock->counted_at < atomic_load(&stock->changes);
 }
 
 // Wakes one write that waits, or all.
@@ -220,7 +239,7 @@ static struct host *take_any(struct stock *stock) {
 }
 
 // A handle with room, or one that may take a free block; NULL if there is neither. No block is opened before it is needed.
-static struct host *take_with_room(struct stock *stock, uint32_t own, int may_open) {
+static struct host *find_with_room(struct stock *stock, uint32_t own, int may_open) {
     struct host *host = take_roomy(stock, own, may_open);
     if (host || !may_open)
         return host;
@@ -242,7 +261,7 @@ static struct host *take_with_room(struct stock *stock, uint32_t own, int may_op
 static void tell(struct stock *stock, int has_room) {
     if (stock->waiting_for_any > 0)
         pthread_cond_signal(&stock->for_any);
-    if (atomic_load(&stock->listening) > 0 && !is_fruitless(stock))
+    if ((atomic_load(&stock->listening) > 0 && !is_fruitless(stock)) || waits_for_count(stock))
         pthread_cond_broadcast(&stock->for_broom);
     if (stock->waiting_to_write == 0)
         return;
@@ -252,10 +271,32 @@ static void tell(struct stock *stock, int has_room) {
         wake_writes(stock);
 }
 
+// Gives a handle back, and its page if it has not programmed it.
 static void give(struct stock *stock, struct host *host) {
     int has_room = host->room > 0;
+    if (atomic_load(&host->page) == PAGE_OF_BUDGET)
+        atomic_fetch_add(&stock->budget, 1);
+    atomic_store(&host->page, NO_PAGE);
     put_idle(stock, host);
     tell(stock, has_room);
+}
+
+// The same handle as find_with_room with a page, or NULL if there is none for it.
+static struct host *take_with_room(struct stock *stock, uint32_t own, int may_open) {
+    struct host *host = is_used_up(stock) ? NULL : find_with_room(stock, own, may_open);
+    if (!host || take_page(stock, host))
+        return host;
+    give(stock, host);
+    return NULL;
+}
+
+// Any handle with a page, or NULL if there is no page.
+static struct host *take_last(struct stock *stock) {
+    struct host *host = is_used_up(stock) ? NULL : take_any(stock);
+    if (!host || take_page(stock, host))
+        return host;
+    give(stock, host);
+    return NULL;
 }
 
 // Something was done after which a broom that found nothing may find something: a write or a trim, or a block came free.
@@ -269,9 +310,10 @@ static int is_over(const struct stock *stock, const struct attempt *attempt) {
 }
 
 static int has_waited_in_vain(struct stock *stock, const struct attempt *attempt) {
-    if (stock->is_stopping || is_hopeless(stock) || is_over(stock, attempt))
+    int is_without_page = is_used_up(stock);
+    if (stock->is_stopping || is_hopeless(stock) || is_over(stock, attempt) || (is_without_page && stock->counted_at >= attempt->known))
         return 1;
-    if (attempt->began == 0 || !lacks_block(stock))
+    if (attempt->began == 0 || !(is_without_page || lacks_block(stock)))
         return 0;
     uint64_t since = attempt->began > stock->gained_at ? attempt->began : stock->gained_at;
     return now() - since >= stock->wait_ns;
@@ -279,20 +321,20 @@ static int has_waited_in_vain(struct stock *stock, const struct attempt *attempt
 
 // Whether a write could have a handle now.
 static int has_room_for_write(struct stock *stock) {
-    return has_idle(stock, &stock->roomy) || (may_open(stock) && has_idle(stock, &stock->roomless));
+    return !is_used_up(stock) && (has_idle(stock, &stock->roomy) || (may_open(stock) && has_idle(stock, &stock->roomless)));
 }
 
 static void wait_to_write(struct stock *stock, struct attempt *attempt) {
-    uint32_t lacks = lacks_block(stock);
+    uint32_t lacks = lacks_block(stock) || is_used_up(stock);
     if (attempt->began == 0 && lacks) {
         attempt->began = now();
         stock->waits++;
     }
-    if (lacks && stock->batch > 1)
+    if (lacks_block(stock) && stock->batch > 1)
         stock->is_gathering = 1;
     stock->waiting_to_write++;
     stock->starving += lacks;
-    if (stock->resting > 0 || (lacks && stock->pausing > 0))
+    if (stock->resting > 0 || (lacks && stock->pausing > 0) || waits_for_count(stock))
         pthread_cond_broadcast(&stock->for_broom);
     uint64_t known = stock->wake_ups;
     int was_told = wait_at_most(&stock->for_write, &stock->mutex, LOOK_AGAIN_MS);
@@ -309,15 +351,25 @@ static void end_attempt(struct stock *stock, const struct attempt *attempt) {
         waits_add(&stock->waited, now() - attempt->began);
 }
 
+static void end_refused(struct stock *stock, const struct attempt *attempt) {
+    end_attempt(stock, attempt);
+    stock->gave_up++;
+}
+
 // Whether a broom that has gained little rests: no write waits, and no block was opened since.
 static int may_rest(const struct stock *stock, uint32_t broom) {
     return stock->poor_at[broom] == stock->opened + 1 && stock->waiting_to_write == 0;
 }
 
-// Whether a broom has work: something may have changed since it last found nothing.
+// Whether a broom has work: something may have changed since it last found nothing. While hosts may program nothing, the first one counts alone, and
+// the others leave if that has found nothing.
 static int is_wanted(struct stock *stock, uint32_t broom) {
     if (stock->has_left[broom] || (stock->is_held && stock->waiting_to_write == 0))
         return 0;
+    if (broom > 0 && stock->is_scarce)
+        return 1;
+    if (is_used_up(stock))
+        return broom == 0 && waits_for_count(stock);
     return stock->is_collecting && !may_rest(stock, broom) && stock->fruitless_at[broom] != atomic_load(&stock->changes);
 }
 
@@ -344,12 +396,16 @@ static void rest(struct stock *stock, uint32_t broom) {
 
 // Puts a handle back, and wakes those who wait, if there are any; brooms only if something has changed.
 static void put_and_tell(struct stock *stock, struct host *host, int has_changed) {
-    int has_room = host->room > 0;
-    put_idle(stock, host);
-    if (atomic_load(&stock->waiting) == 0 && !(has_changed && atomic_load(&stock->listening) > 0))
+    int has_room = host->room > 0, has_page = atomic_load_explicit(&host->page, memory_order_relaxed) != NO_PAGE;
+    if (!has_page)
+        put_idle(stock, host);
+    if (!has_page && atomic_load(&stock->waiting) == 0 && !(has_changed && atomic_load(&stock->listening) > 0))
         return;
     pthread_mutex_lock(&stock->mutex);
-    tell(stock, has_room);
+    if (has_page)
+        give(stock, host);
+    else
+        tell(stock, has_room);
     pthread_mutex_unlock(&stock->mutex);
 }
 
@@ -387,19 +443,24 @@ struct host *stock_yield(struct stock *stock, struct host *host) {
 
 struct host *stock_take_to_write(struct stock *stock, struct attempt *attempt) {
     struct host *host = take_roomy(stock, attempt->own, 1);
-    if (host)
+    if (host && take_page(stock, host))
         return host;
     pthread_mutex_lock(&stock->mutex);
+    if (host)
+        give(stock, host);
+    attempt->known = attempt->known > 0 ? attempt->known : atomic_load(&stock->changes);
     atomic_fetch_add(&stock->waiting, 1);
     host = take_with_room(stock, attempt->own, may_open(stock));
-    while (!host) {
+    while (!host && !attempt->is_last) {
         attempt->is_last = has_waited_in_vain(stock, attempt);
         if (!attempt->is_last)
             wait_to_write(stock, attempt);
         host = take_with_room(stock, attempt->own, may_open(stock));
         if (!host && attempt->is_last)
-            host = take_any(stock);
+            host = take_last(stock);
     }
+    if (!host)
+        end_refused(stock, attempt);
     atomic_fetch_sub(&stock->waiting, 1);
     pthread_mutex_unlock(&stock->mutex);
     return host;
@@ -413,6 +474,7 @@ struct host *stock_try_to_write(struct stock *stock) {
 }
 
 void stock_give_written(struct stock *stock, struct host *host, const struct attempt *attempt) {
+    atomic_store(&host->page, NO_PAGE);
     count_change(stock);
     if (host->room > 1 && attempt->began == 0) {
         host->room--;
@@ -449,9 +511,7 @@ void stock_give_refused(struct stock *stock, struct host *host, struct attempt *
     attempt->is_last |= is_over(stock, attempt) || is_hopeless(stock);
     give(stock, host);
     if (attempt->is_last) {
-        end_attempt(stock, attempt);
-        stock->gave_up++;
-        stock->refused_at = stock->opened + 1;
+        end_refused(stock, attempt);
     } else {
         stock->waiting_to_write++;
         atomic_fetch_add(&stock->waiting, 1);
@@ -468,7 +528,7 @@ void stock_give_changed(struct stock *stock, struct host *host) {
 }
 
 struct host *stock_keep_written(struct stock *stock, struct host *host, const struct attempt *attempt) {
-    if (host->room > 1 && attempt->began == 0 && atomic_load(&stock->waiting) == 0) {
+    if (host->room > 1 && attempt->began == 0 && atomic_load(&stock->waiting) == 0 && take_page(stock, host)) {
         host->room--;
         return host;
     }
@@ -501,7 +561,6 @@ int stock_begin_round(struct stock *stock, uint32_t broom, uint64_t *known) {
     *known = atomic_load(&stock->changes);
     int goes_on = !stock->is_stopping;
     stock->working += (uint32_t) goes_on;
-    stock->works[broom] = (uint8_t) goes_on;
     pthread_mutex_unlock(&stock->mutex);
     return goes_on;
 }
@@ -509,7 +568,6 @@ int stock_begin_round(struct stock *stock, uint32_t broom, uint64_t *known) {
 void stock_end_round(struct stock *stock, uint32_t broom, uint64_t known, int was_fruitless, int was_poor) {
     pthread_mutex_lock(&stock->mutex);
     stock->working--;
-    stock->works[broom] = 0;
     stock->poor_at[broom] = was_poor ? stock->opened + 1 : 0;
     stock->fruitless_at[broom] = was_fruitless ? known : 0;
     stock->gained_at = was_fruitless ? stock->gained_at : now();
@@ -518,11 +576,49 @@ void stock_end_round(struct stock *stock, uint32_t broom, uint64_t known, int wa
     pthread_mutex_unlock(&stock->mutex);
 }
 
-int stock_leaves_to(struct stock *stock, uint32_t broom) {
+int stock_wants_count(struct stock *stock, uint32_t broom) {
     pthread_mutex_lock(&stock->mutex);
-    int looks = stock->refused_at == stock->opened + 1 && (stock->works[broom] || is_wanted(stock, broom));
+    int wants = broom == 0 && waits_for_count(stock);
     pthread_mutex_unlock(&stock->mutex);
-    return looks;
+    return wants;
+}
+
+// The budget before the handles: a page that a write takes meanwhile stands in one of them.
+void stock_begin_count(struct stock *stock, struct count *count) {
+    uint32_t brooms = 0;
+    pthread_mutex_lock(&stock->mutex);
+    uint64_t promised = (uint64_t) atomic_load(&stock->budget);
+    for (uint32_t i = 0; i < stock->host_count; i++)
+        promised += atomic_load(&stock->hosts[i].page) != NO_PAGE;
+    for (uint32_t i = 0; i < stock->broom_count; i++)
+        brooms += !stock->has_left[i];
+    *count = (struct count){.known = atomic_load(&stock->changes), .is_final = promised == 0 && brooms == 1};
+    count->kept = 2 * (uint64_t) stock->pages * brooms - 1 + promised;
+    pthread_mutex_unlock(&stock->mutex);
+}
+
+int stock_end_count(struct stock *stock, const struct count *count, uint64_t pages) {
+    pthread_mutex_lock(&stock->mutex);
+    int has_more = pages > count->kept;
+    if (pages == UINT64_MAX)
+        atomic_store(&stock->is_rationed, 0);
+    else if (has_more)
+        atomic_fetch_add(&stock->budget, (int64_t) (pages - count->kept));
+    stock->counted_at = has_more || !count->is_final ? 0 : count->known;
+    stock->is_scarce |= !has_more;
+    if (!has_more)
+        pthread_cond_broadcast(&stock->for_broom);
+    if (stock->waiting_to_write > 0)
+        wake_writes(stock);
+    pthread_mutex_unlock(&stock->mutex);
+    return has_more;
+}
+
+int stock_spares(struct stock *stock, uint32_t broom) {
+    pthread_mutex_lock(&stock->mutex);
+    int is_spared = broom > 0 && stock->is_scarce;
+    pthread_mutex_unlock(&stock->mutex);
+    return is_spared;
 }
 
 int stock_is_calm(struct stock *stock, struct load *last) {
@@ -537,7 +633,6 @@ int stock_is_calm(struct stock *stock, struct load *last) {
 void stock_leave(struct stock *stock, uint32_t broom) {
     pthread_mutex_lock(&stock->mutex);
     stock->has_left[broom] = 1;
-    stock->works[broom] = 0;
     stock->working--;
     stock->gained_at = now();
     count_change(stock);
@@ -557,6 +652,7 @@ void stock_count_retired(struct stock *stock) {
     pthread_mutex_lock(&stock->mutex);
     uint32_t spare = stock->marks.spare, left = spare > ++stock->marks.retired ? spare - stock->marks.retired : 0;
     atomic_store(&stock->own_most, left / OWN_PART);
+    atomic_store(&stock->is_rationed, 1);
     if (spare > 0) {
         stock->low = stock->marks.low * left / spare;
         stock->low = stock->low > 0 ? stock->low : 1;

@@ -32,10 +32,14 @@ static inline uint64_t tally_of(tally *count) {
     return atomic_load_explicit(count, memory_order_relaxed);
 }
 
+// The page that a write has with its handle: any, or one of the budget.
+enum page { NO_PAGE, ANY_PAGE, PAGE_OF_BUDGET };
+
 // A host's handle. Only the thread that has taken it uses it.
 struct host {
     _Alignas(64) struct mintlintel_seat *seat;
     uint32_t room; // pages that are left in its open block
+    _Atomic enum page page;
     tally reads, writes, trims, refusals;
     tally filled, emptied; // writes of a sector that was empty, and trims of one that was written
 };
@@ -50,6 +54,8 @@ struct stock {
     struct idle roomy, roomless;           // idle handles with room in an open block, and without
     _Alignas(64) _Atomic uint64_t changes; // what was done so far, from 1 on: after each a broom may find something new
     _Atomic uint32_t waiting, listening;   // requests that wait, and brooms that wait for a change
+    _Atomic int is_rationed;               // hosts program pages of the budget alone
+    _Atomic int64_t budget;                // those that no handle has taken
 
     _Alignas(64) pthread_mutex_t mutex; // of all fields below that change
     pthread_cond_t for_any, for_write, for_broom;
@@ -73,9 +79,9 @@ struct stock {
     int is_collecting, is_stopping;
     int is_held;             // brooms work only for a write that waits
     uint32_t working;        // brooms in a round
-    uint8_t *works;          // of each broom, whether it is in one
     uint8_t *has_left;       // of each broom, whether it collects no more
-    uint32_t refused_at;     // one more than the blocks that were opened as a write was last refused, or 0
+    uint64_t counted_at;     // the changes that were known as a count found no page for hosts, or 0
+    int is_scarce;           // a count found none, so brooms leave up to the first
     int is_gathering; // writes wait until some blocks are free, since one at a time wakes a thread for each page
     uint64_t waits, gave_up, miscounts;
     struct waits waited; // of writes that have ended
@@ -98,14 +104,15 @@ struct host *stock_yield(struct stock *stock, struct host *host);
 // though another client writes faster.
 struct attempt {
     uint32_t own;   // the number of the handle that its client prefers
-    uint64_t began; // when no block was free for it, or 0
+    uint64_t began; // when no block was free for it, or no page in the budget, or 0
+    uint64_t known; // the changes when it began to look for a handle, or 0 if it found one at once
     int is_last;    // it has waited in vain, so this try is its last
 };
 
-// A handle with room for a page, or, if no block comes free, any handle for a last try.
+// A handle with room for a page, or, if no block comes free, any handle for a last try. NULL if hosts may program none: then the attempt has ended.
 struct host *stock_take_to_write(struct stock *stock, struct attempt *attempt);
 
-// A handle with room for a page, if there is one now, also while writes wait until more blocks are free: otherwise NULL.
+// A handle with room for a page that hosts may program, if there is one now, also while writes wait until more blocks are free: otherwise NULL.
 struct host *stock_try_to_write(struct stock *stock);
 
 // Gives a handle back after a write, a write for which the library found no block, or other changes.
@@ -122,8 +129,19 @@ struct host *stock_keep_changed(struct stock *stock, struct host *host);
 int stock_begin_round(struct stock *stock, uint32_t broom, uint64_t *known);
 void stock_end_round(struct stock *stock, uint32_t broom, uint64_t known, int was_fruitless, int was_poor);
 
-// Whether no block was opened since a write was refused, and this broom is in a round, or begins one.
-int stock_leaves_to(struct stock *stock, uint32_t broom);
+// The budget (reserve.h). Whether this broom has to count the pages for it; a write waits for that. The count has what the stock knew as it began.
+struct count {
+    uint64_t known, kept; // the changes, and the pages that hosts may not program, or may already
+    int is_final;         // no write goes on, and one broom is left: if it finds no page, there is none
+};
+int stock_wants_count(struct stock *stock, uint32_t broom);
+void stock_begin_count(struct stock *stock, struct count *count);
+
+// Ends a count that found so many pages, or UINT64_MAX if no page has to be kept any more: whether hosts may program some.
+int stock_end_count(struct stock *stock, const struct count *count, uint64_t pages);
+
+// Whether this broom has to leave since the pages are scarce.
+int stock_spares(struct stock *stock, uint32_t broom);
 
 // How often writes have waited for a block or were refused, and how many blocks were opened.
 struct load {
@@ -140,7 +158,7 @@ void stock_leave(struct stock *stock, uint32_t broom);
 // A block was erased and is free.
 void stock_add_free(struct stock *stock);
 
-// A block was retired: it isn't erased any more.
+// A block was retired: it isn't erased any more. From the first one on there is a budget.
 void stock_count_retired(struct stock *stock);
 
 // From now on brooms work only for a write that waits; a turn lets them do all that they find to do, and waits for its end.

@@ -1,4 +1,4 @@
-// What the tests of worn devices share: draws, which sectors are trimmed, and whether a broom could have won back a block.
+// What the tests of worn devices share: draws, which sectors are trimmed, and whether a write was refused early or late.
 #ifndef TESTS_OVER_WORN_DEVICE_H
 #define TESTS_OVER_WORN_DEVICE_H
 
@@ -17,25 +17,17 @@ static int can_be_erased(uint32_t block) {
     return state.erases + 1 < device.options.endurance && state.phase == MINTLINTEL_PHASE_CLOSED;
 }
 
-static int can_a_tenth_be_erased(void) {
-    uint32_t count = 0;
-    for (uint32_t block = 0; block < device.options.blocks; block++)
-        count += (uint32_t) can_be_erased(block);
-    return count > 0 && 10 * count >= device.options.blocks;
-}
-
-// A sector in a block that can be erased, or in one that can't, or as many as there are if none is.
-static uint32_t find_in_block(int is_erasable) {
+// A sector in a closed block that can be erased, or in another one, from this one on; or as many as there are if none is.
+static uint32_t find_in_block(int is_erasable, uint32_t from) {
     struct host *host = stock_take(&device.stock);
-    uint32_t sector = 0, block;
-    while (sector < device.options.sectors && ((block = block_of(host->seat, sector, NULL, 0)) == NO_BLOCK || can_be_erased(block) != is_erasable))
-        sector++;
+    uint32_t count = device.options.sectors, found = count, block;
+    for (uint32_t i = 0; i < count && found == count; i++) {
+        uint32_t sector = (from + i) % count;
+        if ((block = block_of(host->seat, sector, NULL, 0)) != NO_BLOCK && can_be_erased(block) == is_erasable)
+            found = sector;
+    }
     stock_give(&device.stock, host);
-    return sector;
-}
-
-static uint32_t find_to_trim(void) {
-    return find_in_block(1);
+    return found;
 }
 
 static void count_live(uint32_t *live) {
@@ -51,25 +43,43 @@ static void count_live(uint32_t *live) {
     }
 }
 
+// What can still be programmed without a trim: the erased pages, and the dead ones of closed blocks that can be erased again. `is_any` says whether any
+// block can be.
+static uint32_t count_pages(int *is_any) {
+    uint32_t live[MOST_BLOCKS], pages = 0;
+    count_live(live);
+    *is_any = 0;
+    for (uint32_t block = 0; block < device.options.blocks; block++) {
+        struct mintlintel_state state;
+        mintlintel_broom_block(&device.broom_seats[0], block, &state);
+        int has_erases = state.erases + 1 < device.options.endurance;
+        *is_any |= has_erases;
+        if (state.phase == MINTLINTEL_PHASE_FREE || state.phase == MINTLINTEL_PHASE_OPEN)
+            pages += device.options.pages - state.written;
+        else if (has_erases)
+            pages += device.options.pages - live[block];
+        if (device.brooms.erases[block] != state.erases && state.phase != MINTLINTEL_PHASE_RETIRED)
+            fail("block %u was erased %u times, and %u are counted", block, state.erases, device.brooms.erases[block]);
+    }
+    return pages;
+}
+
+// At a refusal one page is missing to two blocks', so that one trimmed page is enough for a write. If no block can be erased any more, clients have all
+// that is free.
 static void look_for_more(void) {
-    uint32_t live[MOST_BLOCKS];
+    int is_any;
+    uint32_t pages = device.options.brooms > 0 ? count_pages(&is_any) : 0, wanted = 2 * device.options.pages - 1;
     if (device.options.brooms == 0)
         return;
-    count_live(live);
-    if (device.stock.open_count > 0)
+    if (is_any && pages != wanted)
+        fail("a write was refused, and %u pages can be programmed, and not %u", pages, wanted);
+    if (!is_any && device.stock.open_count > 0)
         fail("a write was refused, and %u handles have room", device.stock.open_count);
     for (uint32_t block = 0; block < device.options.blocks; block++) {
         struct mintlintel_state state;
         mintlintel_broom_block(&device.broom_seats[0], block, &state);
-        int can_be_erased = state.erases + 1 < device.options.endurance;
-        if (state.phase == MINTLINTEL_PHASE_FREE)
+        if (!is_any && state.phase == MINTLINTEL_PHASE_FREE)
             fail("a write was refused, and block %u is free", block);
-        else if (can_be_erased && state.phase == MINTLINTEL_PHASE_CLOSED && live[block] < device.options.pages)
-            fail("a write was refused, and block %u can be won back: %u of its pages are live, after %u erases", block, live[block], state.erases);
-        else if (can_be_erased && state.phase > MINTLINTEL_PHASE_CLOSED)
-            fail("a write was refused, and block %u is being won back (phase %u)", block, state.phase);
-        if (device.brooms.erases[block] != state.erases && state.phase != MINTLINTEL_PHASE_RETIRED)
-            fail("block %u was erased %u times, and %u are counted", block, state.erases, device.brooms.erases[block]);
     }
 }
 

@@ -1,0 +1,42 @@
+#include "reserve.h"
+
+// What is erased, and the closed blocks that can be erased again, as if each of their pages were dead. Sets `can_be_won` of these, and whether any block
+// can be erased again.
+static uint64_t count_blocks(struct broom *broom, int *is_any) {
+    struct brooms *all = broom->all;
+    uint64_t pages = 0;
+    *is_any = 0;
+    for (uint32_t block = 0; block < all->blocks; block++) {
+        struct mintlintel_state state = {0};
+        mintlintel_broom_block(announced(broom->seat), block, &state);
+        int is_open = state.phase <= MINTLINTEL_PHASE_OPEN, can_be_erased = !brooms_retire(all, atomic_load(&all->erases[block]));
+        *is_any |= can_be_erased;
+        all->can_be_won[block] = (uint8_t) (!is_open && can_be_erased);
+        pages += is_open ? all->pages - state.written : all->can_be_won[block] ? all->pages : 0;
+    }
+    return pages;
+}
+
+static uint64_t count_live(struct brooms *all, struct host *host) {
+    uint64_t live = 0;
+    for (uint32_t sector = 0; sector < all->sectors; sector++) {
+        uint32_t block = block_of(host->seat, sector, NULL, 0);
+        live += block != NO_BLOCK && all->can_be_won[block];
+    }
+    return live;
+}
+
+// The blocks come first. Then one that was closed has no more live pages than are counted, though writes go on.
+int reserve_count(struct broom *broom) {
+    struct brooms *all = broom->all;
+    struct count count;
+    int is_any;
+    pthread_rwlock_wrlock(&all->choosing);
+    stock_begin_count(all->stock, &count);
+    uint64_t pages = count_blocks(broom, &is_any);
+    struct host *host = stock_take(all->stock);
+    pages -= count_live(all, host);
+    stock_give(all->stock, host);
+    pthread_rwlock_unlock(&all->choosing);
+    return stock_end_count(all->stock, &count, is_any ? pages : UINT64_MAX);
+}
