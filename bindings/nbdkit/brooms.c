@@ -388,8 +388,8 @@ static int drain(struct broom *broom) {
     }
 }
 
-// Whether the device has a broom too many, also since pages become scarce. Each keeps blocks, so that the others find more live pages in those that are left. What it gives back it never
-// gets again, so it looks only a few times in the life of a device: one that lasts keeps its brooms.
+// Whether the device has a broom too many. Each keeps blocks, so that the others find more live pages in those that are left. What it gives back it never
+// gets again, so it looks only a few times in the life of a device: one that lasts keeps its brooms, up to its end.
 static int is_needless(struct broom *broom) {
     struct brooms *all = broom->all;
     uint64_t most = all->blocks * (uint64_t) (all->endurance - 1), part = most > 0 ? atomic_load(&all->all_erases) * LOOKS_OF_A_LIFE / most : 0;
@@ -420,11 +420,8 @@ static int collect(struct broom *broom) {
 // What a broom does in a round that it has begun. 0 if it has left.
 static int go_round(struct broom *broom, uint64_t known) {
     struct stock *stock = broom->all->stock;
-    int counts = stock_wants_count(stock, broom->number), was_fruitful;
-    if (counts)
-        was_fruitful = reserve_count(broom);
-    else
-        was_fruitful = stock_spares(stock, broom->number) ? erase_drained(broom, 1) : collect(broom);
+    int counts = stock_wants_count(stock, broom->number), leaves = stock_spares(stock, broom->number);
+    int was_fruitful = counts ? reserve_count(broom) : leaves ? erase_drained(broom, 1) : collect(broom);
     if (!was_fruitful)
         tally_add(&broom->fruitless, 1);
     if (is_needless(broom)) {

@@ -271,14 +271,13 @@ static void tell(struct stock *stock, int has_room) {
         wake_writes(stock);
 }
 
-// Gives a handle back, and its page if it has not programmed it.
+// Gives a handle back, and its page if it hasn't programmed it. A count comes before or after that.
 static void give(struct stock *stock, struct host *host) {
-    int has_room = host->room > 0;
-    if (atomic_load(&host->page) == PAGE_OF_BUDGET)
-        atomic_fetch_add(&stock->budget, 1);
+    int has_room = host->room > 0, has_page = atomic_load(&host->page) == PAGE_OF_BUDGET;
+    atomic_fetch_add(&stock->budget, has_page);
     atomic_store(&host->page, NO_PAGE);
     put_idle(stock, host);
-    tell(stock, has_room);
+    tell(stock, has_room || has_page);
 }
 
 // The same handle as find_with_room with a page, or NULL if there is none for it.
@@ -442,7 +441,7 @@ struct host *stock_yield(struct stock *stock, struct host *host) {
 }
 
 struct host *stock_take_to_write(struct stock *stock, struct attempt *attempt) {
-    struct host *host = take_roomy(stock, attempt->own, 1);
+    struct host *host = is_used_up(stock) ? NULL : take_roomy(stock, attempt->own, 1);
     if (host && take_page(stock, host))
         return host;
     pthread_mutex_lock(&stock->mutex);
@@ -583,7 +582,7 @@ int stock_wants_count(struct stock *stock, uint32_t broom) {
     return wants;
 }
 
-// The budget before the handles: a page that a write takes meanwhile stands in one of them.
+// The budget comes before the handles, so that a page that a write takes meanwhile is in one of them.
 void stock_begin_count(struct stock *stock, struct count *count) {
     uint32_t brooms = 0;
     pthread_mutex_lock(&stock->mutex);

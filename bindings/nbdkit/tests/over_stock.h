@@ -52,7 +52,8 @@ static inline double seconds(void) {
 static inline struct attempt write_page(void) {
     struct attempt attempt = {0};
     struct host *host = stock_take_to_write(&stock, &attempt);
-    stock_give_written(&stock, host, &attempt);
+    if (host)
+        stock_give_written(&stock, host, &attempt);
     return attempt;
 }
 

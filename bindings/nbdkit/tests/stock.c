@@ -1,5 +1,5 @@
-// The stock without a library: counts that come late, a search that comes too late, and handles that are all in use. It prints what failed, and
-// ends with the number of failures.
+// The stock without a library: counts that come late, a search that comes too late, the budget, and handles that are all in use. It prints what failed,
+// and ends with the number of failures.
 #include "over_stock.h"
 
 enum { PATIENCE_S = 10 };
@@ -53,22 +53,60 @@ static void a_block_that_comes_late(void) {
     stock_end(&stock);
 }
 
-// From a refusal up to the next block that is opened, a broom leaves drains to one that looks anyway.
-static void a_broom_that_leaves_drains(void) {
-    begin(2, 2, 6, 1);
-    want(!stock_leaves_to(&stock, 1), "a broom leaves drains to one that rests");
-    while (stock.free_count > 0 || stock.open_count > 0)
-        write_page();
-    find_nothing(0);
-    find_nothing(1);
+// A count by the first broom that finds so many pages.
+static struct count count_pages(uint64_t pages) {
+    struct count count;
+    stock_begin_count(&stock, &count);
+    stock_end_count(&stock, &count, pages);
+    return count;
+}
+
+// Once a block has retired, writes and pages of cold data are programmed as long as the last count found pages above two blocks' but one.
+static void a_budget(void) {
+    begin(2, 1, 40, 1);
     struct attempt attempt = {0};
-    stock_give_refused(&stock, stock_take_to_write(&stock, &attempt), &attempt);
-    want(!stock_leaves_to(&stock, 1), "a broom leaves drains to one that has found nothing");
+    struct host *host = stock_take_to_write(&stock, &attempt);
+    stock_count_retired(&stock);
+    struct count count = count_pages(4);
+    want(count.kept == 4 && !count.is_final, "a write that goes on doesn't count as done");
+    stock_give_written(&stock, host, &attempt);
+    want(!stock_try_to_write(&stock), "a page is programmed before the pages are counted");
+    want(count_pages(7).kept == 3 && stock.budget == 4, "not all pages but two blocks' but one are for hosts");
+    host = stock_try_to_write(&stock);
+    want(host && stock.budget == 3, "a page of cold data isn't one of the budget");
+    want(count_pages(7).kept == 3 + 4, "a page that a handle has isn't kept, or the budget");
+    stock_give(&stock, host);
+    want(stock.budget == 4, "a page that isn't programmed doesn't come back");
+    for (int i = 0; i < 4; i++)
+        want(!write_page().is_last, "a write is refused while there are pages");
+    want(stock.budget == 0 && !stock_try_to_write(&stock), "a write doesn't take a page");
+    stock_end(&stock);
+}
+
+// A write is refused at once if a count has found no page since its last change, and otherwise waits for one; also if many blocks are free.
+static void no_page_for_hosts(void) {
+    begin(2, 2, 40, 1);
+    stock_count_retired(&stock);
+    want(count_pages(7).kept == 7 && !stock_wants_count(&stock, 0) && stock_spares(&stock, 1) && !stock_spares(&stock, 0),
+         "pages are scarce, and not the first broom alone stays");
+    want(stock.counted_at == 0, "a count is final while a broom may give blocks back");
+    uint64_t known;
+    stock_begin_round(&stock, 1, &known);
+    stock_leave(&stock, 1);
+    want(count_pages(3).kept == 3 && stock.counted_at == atomic_load(&stock.changes), "a count isn't final that found no page");
+    struct attempt attempt = {0};
+    want(!stock_take_to_write(&stock, &attempt) && attempt.is_last && stock.waits == 0, "a write waits, or is tried, though no page is there for it");
+    want(stock.gave_up == 1, "a write that is refused isn't counted");
+    stock.waiting_to_write = 1;
+    want(!stock_wants_count(&stock, 0), "a broom counts though nothing has changed");
     stock_give_changed(&stock, stock_take(&stock));
-    want(stock_leaves_to(&stock, 1), "after a refusal and a trim each broom drains by itself");
-    stock_add_free(&stock);
-    write_page();
-    want(!stock_leaves_to(&stock, 1), "a broom leaves drains to others on a device that is usable");
+    want(stock_wants_count(&stock, 0) && !stock_wants_count(&stock, 1), "after a trim the first broom doesn't count");
+    want(count_pages(4).kept == 3 && !stock_wants_count(&stock, 0), "a page was trimmed, and hosts may program none");
+    stock.waiting_to_write = 0;
+    want(!write_page().is_last && stock.budget == 0, "a write doesn't take the page that was trimmed");
+    count_pages(UINT64_MAX);
+    for (int i = 0; i < 9; i++)
+        want(!write_page().is_last, "pages are kept though no block can be erased");
     stock_end(&stock);
 }
 
@@ -109,8 +147,6 @@ static void a_broom_that_leaves(void) {
     find_nothing(0);
     uint64_t waits = stock.waits;
     want(write_page().is_last && stock.waits == waits, "a write waits for a broom that has left");
-    stock_give_changed(&stock, stock_take(&stock));
-    want(!stock_leaves_to(&stock, 1), "a broom leaves drains to one that has left");
     stock_end(&stock);
 }
 
@@ -230,7 +266,7 @@ static void many_requests(void) {
 int main(void) {
     static void (*const tests[])(void) = {
         blocks_of_brooms, a_block_that_is_counted_late, a_search_that_comes_too_late, a_block_that_comes_late, marks_of_a_device_that_wears_out,
-        a_broom_that_gains_little, a_long_request, a_handle_that_is_kept, a_broom_that_leaves_drains, brooms_that_are_not_needed, a_broom_that_leaves,
+        a_broom_that_gains_little, a_long_request, a_handle_that_is_kept, a_budget, no_page_for_hosts, brooms_that_are_not_needed, a_broom_that_leaves,
         many_requests,
     };
     alarm(10 * PATIENCE_S);

@@ -17,9 +17,9 @@ static void *write_one(void *unused) {
     (void) unused;
     struct attempt attempt = {0};
     struct host *host = stock_take_to_write(&stock, &attempt);
-    if (attempt.is_last)
+    if (host && attempt.is_last)
         stock_give_refused(&stock, host, &attempt);
-    else
+    else if (host)
         stock_give_written(&stock, host, &attempt);
     return NULL;
 }
@@ -34,6 +34,19 @@ static void *begin_a_round(void *unused) {
     (void) unused;
     uint64_t known;
     stock_begin_round(&stock, 0, &known);
+    return NULL;
+}
+
+// A broom that finds pages for hosts, or none.
+static void count_pages(uint64_t pages) {
+    struct count count;
+    stock_begin_count(&stock, &count);
+    stock_end_count(&stock, &count, pages);
+}
+
+static void *count_in_a_round(void *unused) {
+    begin_a_round(unused);
+    count_pages(100);
     return NULL;
 }
 
@@ -93,6 +106,25 @@ static void no_block(void) {
 
 static void no_block_of_four(void) {
     full(4);
+}
+
+// Hosts may program no page until a broom has counted.
+static void no_page(void) {
+    begin(2, 1, 40, 1);
+    stock_count_retired(&stock);
+}
+
+static void no_page_and_no_block(void) {
+    full(1);
+    stock_count_retired(&stock);
+}
+
+// A write has the last page.
+static void one_has_the_last_page(void) {
+    no_page();
+    count_pages(4);
+    its_attempt = (struct attempt){0};
+    in_use = stock_take_to_write(&stock, &its_attempt);
 }
 
 // Blocks enough, so that brooms rest.
@@ -159,6 +191,18 @@ static void no_broom_finds_any(void) {
     find_nothing(0);
 }
 
+static void pages_are_found(void) {
+    count_pages(100);
+}
+
+static void no_page_is_found(void) {
+    count_pages(1);
+}
+
+static void ask_for_pages(void) {
+    write_page();
+}
+
 static void write_until_none_is_free(void) {
     while (stock.free_count > 0)
         write_page();
@@ -193,9 +237,15 @@ static const struct way ways[] = {
     {"fewer blocks come free, and the broom finds no more", no_block_of_four, write_one, one_comes_free_and_no_more},
     {"no block is free, and no broom finds any", no_block, write_one, no_broom_finds_any},
     {"the server stops, and a write waits", no_block, write_one, stop},
+    {"a count finds pages, and a write waits", no_page, write_one, pages_are_found},
+    {"a count finds no page, and a write waits", no_page, write_one, no_page_is_found},
+    {"a count finds no page, and a write waits for a block", no_page_and_no_block, write_one, no_page_is_found},
+    {"a handle is given back with the last page", one_has_the_last_page, write_one, give_trimmed},
+    {"the server stops, and a write waits for pages", no_page, write_one, stop},
     {"few blocks are free, and a broom rests", many_blocks, begin_a_round, write_until_none_is_free},
     {"a trim, behind a broom that found nothing", nothing_was_found, begin_a_round, trim_one},
     {"a write, behind a broom that found nothing", nothing_is_found_beside_a_write, begin_a_round, give_written},
+    {"a write waits for pages, and a broom rests", no_page, count_in_a_round, ask_for_pages},
     {"the server stops, and a broom rests", many_blocks, begin_a_round, stop},
 };
 
@@ -204,7 +254,7 @@ static void each_way(void) {
         pthread_t thread;
         ways[i].before();
         start(&thread, ways[i].waits);
-        if (ways[i].waits == begin_a_round)
+        if (ways[i].waits == begin_a_round || ways[i].waits == count_in_a_round)
             usleep(20000); // nothing tells that it waits, beside what is tested
         else
             while (waiting() == 0)
