@@ -12,7 +12,7 @@
 #include <sys/resource.h>
 
 #include "cold.h"
-#include "reserve.h"
+#include "budget.h"
 
 enum {
     DRAINS_OF_A_SURVEY = 64,
@@ -40,8 +40,8 @@ int brooms_begin(struct brooms *brooms, const struct options *options, struct st
     brooms->brooms = aligned_alloc(_Alignof(struct broom), (options->brooms + 1) * sizeof *brooms->brooms);
     brooms->erases = calloc(options->blocks, sizeof *brooms->erases);
     brooms->is_loose = calloc(options->blocks, sizeof *brooms->is_loose);
-    brooms->can_be_won = calloc(options->blocks, sizeof *brooms->can_be_won);
-    int is_short = !brooms->brooms || !brooms->erases || !brooms->is_loose || !brooms->can_be_won;
+    brooms->can_be_erased = calloc(options->blocks, sizeof *brooms->can_be_erased);
+    int is_short = !brooms->brooms || !brooms->erases || !brooms->is_loose || !brooms->can_be_erased;
     for (uint32_t i = 0; i < options->brooms && brooms->brooms; i++) {
         struct broom *broom = &brooms->brooms[i];
         *broom = (struct broom){.seat = &seats[i], .all = brooms, .number = i, .destination = NO_BLOCK, .random = options->seed + i};
@@ -62,7 +62,7 @@ void brooms_end(struct brooms *brooms) {
     free(brooms->brooms);
     free((void *) brooms->erases);
     free((void *) brooms->is_loose);
-    free(brooms->can_be_won);
+    free(brooms->can_be_erased);
     pthread_rwlock_destroy(&brooms->choosing);
 }
 
@@ -421,7 +421,7 @@ static int collect(struct broom *broom) {
 static int go_round(struct broom *broom, uint64_t known) {
     struct stock *stock = broom->all->stock;
     int counts = stock_wants_count(stock, broom->number), leaves = stock_spares(stock, broom->number);
-    int was_fruitful = counts ? reserve_count(broom) : leaves ? erase_drained(broom, 1) : collect(broom);
+    int was_fruitful = counts ? budget_count(broom) : leaves ? erase_drained(broom, 1) : collect(broom);
     if (!was_fruitful)
         tally_add(&broom->fruitless, 1);
     if (is_needless(broom)) {

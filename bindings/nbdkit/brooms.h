@@ -58,7 +58,7 @@ struct brooms {
     _Atomic uint32_t *erases;     // of each block
     _Atomic uint8_t *is_loose;    // of each block: it has cold data and a dead page, and is drained into a block that is filled for the last time
     _Atomic uint32_t loose_count;
-    uint8_t *can_be_won; // of each block, for a count of the pages: it is closed, and can be erased again
+    uint8_t *can_be_erased; // of each block, for a count of the pages
 };
 
 // 0, or -1 with an error reported if there is no memory.

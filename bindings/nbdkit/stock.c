@@ -592,7 +592,7 @@ void stock_begin_count(struct stock *stock, struct count *count) {
     for (uint32_t i = 0; i < stock->broom_count; i++)
         brooms += !stock->has_left[i];
     *count = (struct count){.known = atomic_load(&stock->changes), .is_final = promised == 0 && brooms == 1};
-    count->kept = 2 * (uint64_t) stock->pages * brooms - 1 + promised;
+    count->kept = 2 * (uint64_t) stock->pages * brooms + promised;
     pthread_mutex_unlock(&stock->mutex);
 }
 

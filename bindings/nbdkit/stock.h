@@ -129,7 +129,7 @@ struct host *stock_keep_changed(struct stock *stock, struct host *host);
 int stock_begin_round(struct stock *stock, uint32_t broom, uint64_t *known);
 void stock_end_round(struct stock *stock, uint32_t broom, uint64_t known, int was_fruitless, int was_poor);
 
-// The budget (reserve.h). Whether this broom has to count the pages for it; a write waits for that. The count has what the stock knew as it began.
+// The budget (budget.h). Whether this broom has to count the pages for it; a write waits for that. The count has what the stock knew as it began.
 struct count {
     uint64_t known, kept; // the changes, and the pages that hosts may not program, or may already
     int is_final;         // no write goes on, and one broom is left: if it finds no page, there is none

@@ -14,10 +14,10 @@ static uint32_t draw(uint32_t *random, uint32_t count) {
 static int can_be_erased(uint32_t block) {
     struct mintlintel_state state;
     mintlintel_broom_block(&device.broom_seats[0], block, &state);
-    return state.erases + 1 < device.options.endurance && state.phase == MINTLINTEL_PHASE_CLOSED;
+    return state.erases + 1 < device.options.endurance;
 }
 
-// A sector in a closed block that can be erased, or in another one, from this one on; or as many as there are if none is.
+// A sector in a block that can be erased, or in one that can't, from this one on; or as many as there are if none is.
 static uint32_t find_in_block(int is_erasable, uint32_t from) {
     struct host *host = stock_take(&device.stock);
     uint32_t count = device.options.sectors, found = count, block;
@@ -43,8 +43,7 @@ static void count_live(uint32_t *live) {
     }
 }
 
-// What can still be programmed without a trim: the erased pages, and the dead ones of closed blocks that can be erased again. `is_any` says whether any
-// block can be.
+// What can still be programmed without a trim: the erased pages, and the dead ones of blocks that can be erased again. `is_any` says whether any can be.
 static uint32_t count_pages(int *is_any) {
     uint32_t live[MOST_BLOCKS], pages = 0;
     count_live(live);
@@ -52,23 +51,22 @@ static uint32_t count_pages(int *is_any) {
     for (uint32_t block = 0; block < device.options.blocks; block++) {
         struct mintlintel_state state;
         mintlintel_broom_block(&device.broom_seats[0], block, &state);
-        int has_erases = state.erases + 1 < device.options.endurance;
-        *is_any |= has_erases;
-        if (state.phase == MINTLINTEL_PHASE_FREE || state.phase == MINTLINTEL_PHASE_OPEN)
-            pages += device.options.pages - state.written;
-        else if (has_erases)
+        *is_any |= can_be_erased(block);
+        if (can_be_erased(block))
             pages += device.options.pages - live[block];
+        else if (state.phase == MINTLINTEL_PHASE_FREE || state.phase == MINTLINTEL_PHASE_OPEN)
+            pages += device.options.pages - state.written;
         if (device.brooms.erases[block] != state.erases && state.phase != MINTLINTEL_PHASE_RETIRED)
             fail("block %u was erased %u times, and %u are counted", block, state.erases, device.brooms.erases[block]);
     }
     return pages;
 }
 
-// At a refusal one page is missing to two blocks', so that one trimmed page is enough for a write. If no block can be erased any more, clients have all
-// that is free.
+// At a refusal these pages are as many as two blocks have, so that one trimmed page is enough for a write. If no block can be erased any more, clients
+// have had all that was free.
 static void look_for_more(void) {
     int is_any;
-    uint32_t pages = device.options.brooms > 0 ? count_pages(&is_any) : 0, wanted = 2 * device.options.pages - 1;
+    uint32_t pages = device.options.brooms > 0 ? count_pages(&is_any) : 0, wanted = 2 * device.options.pages;
     if (device.options.brooms == 0)
         return;
     if (is_any && pages != wanted)

@@ -201,7 +201,7 @@ def by_itself(shop, name, kind, parts, *more):
 def over_device(shop, name, kind, within=()):
     """What a test over a device without a server says, under a sanitizer. It may have sources of the plugin within it."""
     library = os.environ.get("LIBRARY", HERE.parent / "out/libmintlintel.a")
-    names = ("device", "requests", "age", "stock", "brooms", "cold", "reserve", "sector_locks", "counts", "luns", "faults")
+    names = ("device", "requests", "age", "stock", "brooms", "cold", "budget", "sector_locks", "counts", "luns", "faults")
     return by_itself(shop, name, kind, [built(shop, kind, it) for it in names if it not in within], library, "-lm")
 
 

@@ -61,20 +61,20 @@ static struct count count_pages(uint64_t pages) {
     return count;
 }
 
-// Once a block has retired, writes and pages of cold data are programmed as long as the last count found pages above two blocks' but one.
+// Once a block has retired, writes and pages of cold data are programmed as long as the last count found pages above two blocks'.
 static void a_budget(void) {
     begin(2, 1, 40, 1);
     struct attempt attempt = {0};
     struct host *host = stock_take_to_write(&stock, &attempt);
     stock_count_retired(&stock);
-    struct count count = count_pages(4);
-    want(count.kept == 4 && !count.is_final, "a write that goes on doesn't count as done");
+    struct count count = count_pages(5);
+    want(count.kept == 5 && !count.is_final, "a write that goes on doesn't count as done");
     stock_give_written(&stock, host, &attempt);
     want(!stock_try_to_write(&stock), "a page is programmed before the pages are counted");
-    want(count_pages(7).kept == 3 && stock.budget == 4, "not all pages but two blocks' but one are for hosts");
+    want(count_pages(8).kept == 4 && stock.budget == 4, "not all pages but two blocks' are for hosts");
     host = stock_try_to_write(&stock);
     want(host && stock.budget == 3, "a page of cold data isn't one of the budget");
-    want(count_pages(7).kept == 3 + 4, "a page that a handle has isn't kept, or the budget");
+    want(count_pages(8).kept == 4 + 4, "a page that a handle has isn't kept, or the budget");
     stock_give(&stock, host);
     want(stock.budget == 4, "a page that isn't programmed doesn't come back");
     for (int i = 0; i < 4; i++)
@@ -87,13 +87,13 @@ static void a_budget(void) {
 static void no_page_for_hosts(void) {
     begin(2, 2, 40, 1);
     stock_count_retired(&stock);
-    want(count_pages(7).kept == 7 && !stock_wants_count(&stock, 0) && stock_spares(&stock, 1) && !stock_spares(&stock, 0),
+    want(count_pages(8).kept == 8 && !stock_wants_count(&stock, 0) && stock_spares(&stock, 1) && !stock_spares(&stock, 0),
          "pages are scarce, and not the first broom alone stays");
     want(stock.counted_at == 0, "a count is final while a broom may give blocks back");
     uint64_t known;
     stock_begin_round(&stock, 1, &known);
     stock_leave(&stock, 1);
-    want(count_pages(3).kept == 3 && stock.counted_at == atomic_load(&stock.changes), "a count isn't final that found no page");
+    want(count_pages(4).kept == 4 && stock.counted_at == atomic_load(&stock.changes), "a count isn't final that found no page");
     struct attempt attempt = {0};
     want(!stock_take_to_write(&stock, &attempt) && attempt.is_last && stock.waits == 0, "a write waits, or is tried, though no page is there for it");
     want(stock.gave_up == 1, "a write that is refused isn't counted");
@@ -101,7 +101,7 @@ static void no_page_for_hosts(void) {
     want(!stock_wants_count(&stock, 0), "a broom counts though nothing has changed");
     stock_give_changed(&stock, stock_take(&stock));
     want(stock_wants_count(&stock, 0) && !stock_wants_count(&stock, 1), "after a trim the first broom doesn't count");
-    want(count_pages(4).kept == 3 && !stock_wants_count(&stock, 0), "a page was trimmed, and hosts may program none");
+    want(count_pages(5).kept == 4 && !stock_wants_count(&stock, 0), "a page was trimmed, and hosts may program none");
     stock.waiting_to_write = 0;
     want(!write_page().is_last && stock.budget == 0, "a write doesn't take the page that was trimmed");
     count_pages(UINT64_MAX);

@@ -1,8 +1,8 @@
 // to_the_end [DEVICES [SEED]]: small devices of random numbers, whose clients write and trim at random until each was refused some times. The last
-// refusal may not be early or late: who reads the blocks and the map afterwards finds one page less than two blocks' that can be programmed, or no block
+// refusal may not be early or late: who reads the blocks and the map afterwards finds as many pages as two blocks have that can be programmed, or no block
 // that can be erased, and none that is free. And the programs and erases that are counted are those of the blocks; with long pages, some copies are of
-// sectors that are written meanwhile. Then each sector that is trimmed in a closed block that can be erased gives a write. No time decides: a write that
-// waits for what can't come ends the test.
+// sectors that are written meanwhile. Then each sector that is trimmed in a block that can be erased gives a write. No time decides: a write that waits
+// for what can't come ends the test.
 #include <unistd.h>
 
 #include "over_worn_device.h"
@@ -137,7 +137,8 @@ static void try_one(uint32_t *random) {
         abort();
     run_clients(1 + draw(random, MOST_CLIENTS));
     look_for_more(); // brooms that found nothing rest
-    look_for_writes_after_trims();
+    if (failures == 0)
+        look_for_writes_after_trims();
     device_stop(&device);
     look_at_counts();
     device_close(&device);
@@ -147,11 +148,11 @@ int main(int count, char **words) {
     unsigned devices = count > 1 ? (unsigned) atoi(words[1]) : DEVICES;
     uint32_t random = count > 2 ? (uint32_t) atoi(words[2]) : 1;
     alarm(PATIENCE_S);
-    for (tried = 0; tried < devices && failures < 10; tried++)
+    for (tried = 0; tried < devices && failures == 0; tried++)
         try_one(&random);
-    if (devices >= DEVICES && taken_again == 0)
+    if (failures == 0 && devices >= DEVICES && taken_again == 0)
         fail("no device was left with a block that can be erased");
-    if (devices >= DEVICES && with_one_that_left == 0)
+    if (failures == 0 && devices >= DEVICES && with_one_that_left == 0)
         fail("no broom has left");
     printf("%u devices, %u took writes again after trims, and of %u a broom has left\n", tried, taken_again, with_one_that_left);
     return failures > 0;

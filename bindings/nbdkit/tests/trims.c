@@ -1,7 +1,7 @@
 // trims [DEVICES [SEED]]: worn devices of some brooms and handles, in one thread: the test deals out the rounds at random. A write is refused only if the
-// pages that can still be programmed are one less than two blocks', or if no block can be erased any more and none is free. From then on each page that is
-// trimmed in a closed block that can be erased gives a write, again and again. A trim in another block changes nothing. On every second device no write
-// waits, so that all brooms but one may leave before. Nothing depends on time or chance.
+// pages that can still be programmed are as many as two blocks have, or if no block can be erased any more and none is free. From then on each page that is
+// trimmed in a block that can be erased gives a write, again and again. A trim in another block changes nothing. On every second device no write waits, so
+// that all brooms but one may leave before. Nothing depends on time or chance.
 #include <brooms.c>
 #define fail fail_test
 #include <stock.c>
@@ -108,7 +108,7 @@ static void trim_one_by_one(uint32_t *random) {
 int main(int count, char **words) {
     unsigned devices = count > 1 ? (unsigned) atoi(words[1]) : DEVICES;
     uint32_t random = count > 2 ? (uint32_t) atoi(words[2]) : 1;
-    for (tried = 0; tried < devices && failures < 10; tried++) {
+    for (tried = 0; tried < devices && failures == 0; tried++) {
         choose_device(&random);
         if (device_open(&device) == -1)
             abort();

@@ -122,7 +122,7 @@ static void no_page_and_no_block(void) {
 // A write has the last page.
 static void one_has_the_last_page(void) {
     no_page();
-    count_pages(4);
+    count_pages(5);
     its_attempt = (struct attempt){0};
     in_use = stock_take_to_write(&stock, &its_attempt);
 }
@@ -249,9 +249,18 @@ static const struct way ways[] = {
     {"the server stops, and a broom rests", many_blocks, begin_a_round, stop},
 };
 
+static const struct way *way;
+
+static void *run_alone(void *unused) {
+    (void) unused;
+    way->event();
+    return NULL;
+}
+
 static void each_way(void) {
     for (size_t i = 0; i < sizeof ways / sizeof *ways; i++) {
-        pthread_t thread;
+        pthread_t thread, event;
+        way = &ways[i];
         ways[i].before();
         start(&thread, ways[i].waits);
         if (ways[i].waits == begin_a_round || ways[i].waits == count_in_a_round)
@@ -259,8 +268,9 @@ static void each_way(void) {
         else
             while (waiting() == 0)
                 usleep(100);
-        ways[i].event();
+        start(&event, run_alone);
         has_to_end(thread, ways[i].text);
+        has_to_end(event, ways[i].text);
         stock_end(&stock);
     }
 }
@@ -272,7 +282,6 @@ enum role { NONE, STOPPED, OTHER };
 
 static _Thread_local enum role role;
 static _Thread_local uint32_t steps;
-static const struct way *way;
 static uint32_t stop_at;      // the step of the stopped one
 static int stops_who_waits;   // whether that is the one that waits
 static _Atomic int may_begin; // the other one

@@ -1,7 +1,6 @@
-#include "reserve.h"
+#include "budget.h"
 
-// What is erased, and the closed blocks that can be erased again, as if each of their pages were dead. Sets `can_be_won` of these, and whether any block
-// can be erased again.
+// The erased pages of blocks that can't be erased again, and all pages of the others, as if none was live. Notes these, and whether there are any.
 static uint64_t count_blocks(struct broom *broom, int *is_any) {
     struct brooms *all = broom->all;
     uint64_t pages = 0;
@@ -9,10 +8,10 @@ static uint64_t count_blocks(struct broom *broom, int *is_any) {
     for (uint32_t block = 0; block < all->blocks; block++) {
         struct mintlintel_state state = {0};
         mintlintel_broom_block(announced(broom->seat), block, &state);
-        int is_open = state.phase <= MINTLINTEL_PHASE_OPEN, can_be_erased = !brooms_retire(all, atomic_load(&all->erases[block]));
+        int can_be_erased = !brooms_retire(all, atomic_load(&all->erases[block])), is_open = state.phase <= MINTLINTEL_PHASE_OPEN;
+        all->can_be_erased[block] = (uint8_t) can_be_erased;
         *is_any |= can_be_erased;
-        all->can_be_won[block] = (uint8_t) (!is_open && can_be_erased);
-        pages += is_open ? all->pages - state.written : all->can_be_won[block] ? all->pages : 0;
+        pages += can_be_erased ? all->pages : is_open ? all->pages - state.written : 0;
     }
     return pages;
 }
@@ -21,13 +20,13 @@ static uint64_t count_live(struct brooms *all, struct host *host) {
     uint64_t live = 0;
     for (uint32_t sector = 0; sector < all->sectors; sector++) {
         uint32_t block = block_of(host->seat, sector, NULL, 0);
-        live += block != NO_BLOCK && all->can_be_won[block];
+        live += block != NO_BLOCK && all->can_be_erased[block];
     }
     return live;
 }
 
-// The blocks come first. Then one that was closed has no more live pages than are counted, though writes go on.
-int reserve_count(struct broom *broom) {
+// A write that goes on meanwhile takes at most the page that is kept for it.
+int budget_count(struct broom *broom) {
     struct brooms *all = broom->all;
     struct count count;
     int is_any;
