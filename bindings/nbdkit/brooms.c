@@ -11,8 +11,8 @@
 #include <string.h>
 #include <sys/resource.h>
 
-#include "cold.h"
 #include "budget.h"
+#include "cold.h"
 
 enum {
     DRAINS_OF_A_SURVEY = 64,
@@ -389,15 +389,11 @@ static int drain(struct broom *broom) {
 }
 
 // Whether the device has a broom too many. Each keeps blocks, so that the others find more live pages in those that are left. What it gives back it never
-// gets again, so it looks only a few times in the life of a device: one that lasts keeps its brooms, up to its end.
+// gets again, so it looks only a few times in the life of a device: one that lasts keeps its brooms.
 static int is_needless(struct broom *broom) {
     struct brooms *all = broom->all;
     uint64_t most = all->blocks * (uint64_t) (all->endurance - 1), part = most > 0 ? atomic_load(&all->all_erases) * LOOKS_OF_A_LIFE / most : 0;
-    if (broom->number == 0 || broom->drained_count > 0)
-        return 0;
-    if (stock_spares(all->stock, broom->number))
-        return 1;
-    if (part == broom->looked_at)
+    if (broom->number == 0 || broom->drained_count > 0 || part == broom->looked_at)
         return 0;
     broom->looked_at = part;
     return stock_is_calm(all->stock, &broom->load);
@@ -410,6 +406,7 @@ static void leave(struct broom *broom) {
     stock_leave(broom->all->stock, broom->number);
 }
 
+// Erases, drains and erases: whether it has gained anything.
 static int collect(struct broom *broom) {
     int was_fruitful = erase_drained(broom, 0);
     was_fruitful |= drain(broom);
@@ -420,11 +417,11 @@ static int collect(struct broom *broom) {
 // What a broom does in a round that it has begun. 0 if it has left.
 static int go_round(struct broom *broom, uint64_t known) {
     struct stock *stock = broom->all->stock;
-    int counts = stock_wants_count(stock, broom->number), leaves = stock_spares(stock, broom->number);
-    int was_fruitful = counts ? budget_count(broom) : leaves ? erase_drained(broom, 1) : collect(broom);
+    int is_spared = stock_spares(stock, broom->number), counts = stock_wants_count(stock, broom->number);
+    int was_fruitful = counts ? budget_count(broom) : is_spared ? erase_drained(broom, 1) : collect(broom);
     if (!was_fruitful)
         tally_add(&broom->fruitless, 1);
-    if (is_needless(broom)) {
+    if (is_spared ? broom->drained_count == 0 : is_needless(broom)) {
         leave(broom);
         return 0;
     }

@@ -160,7 +160,7 @@ static void lock_next(struct device *device, uint32_t sector, struct handles *ha
 // Writes a page to a sector whose lock is held, with the handle that was kept for it, if any. It holds no handle while it waits for a block.
 static int store(struct device *device, uint32_t sector, const uint8_t *page, struct handles *handles, struct times *times) {
     struct attempt attempt = {.own = handles->own};
-    struct host *host = handles->kept;
+    struct host *host = handles->kept ? stock_use_kept(&device->stock, handles->kept) : NULL;
     for (handles->kept = NULL;; host = NULL) {
         if (!host)
             host = stock_take_to_write(&device->stock, &attempt);

@@ -145,7 +145,7 @@ static struct host *take_roomy(struct stock *stock, uint32_t own, int may_open) 
     return host || (may_open && opens_own(stock, own)) ? host : take_idle(stock, &stock->roomy);
 }
 
-// Takes a page for a handle's next program: 0 if the budget has none. It is marked first, so that a count sees it here or there.
+// Takes a page for a handle's next program: 0 if the budget has none. The handle is marked first, so that a count finds the page here or there.
 static int take_page(struct stock *stock, struct host *host) {
     atomic_store(&host->page, ANY_PAGE);
     if (!atomic_load(&stock->is_rationed))
@@ -527,11 +527,19 @@ void stock_give_changed(struct stock *stock, struct host *host) {
 }
 
 struct host *stock_keep_written(struct stock *stock, struct host *host, const struct attempt *attempt) {
-    if (host->room > 1 && attempt->began == 0 && atomic_load(&stock->waiting) == 0 && take_page(stock, host)) {
+    if (host->room > 1 && attempt->began == 0 && atomic_load(&stock->waiting) == 0) {
+        atomic_store(&host->page, NO_PAGE);
         host->room--;
         return host;
     }
     stock_give_written(stock, host, attempt);
+    return NULL;
+}
+
+struct host *stock_use_kept(struct stock *stock, struct host *host) {
+    if (take_page(stock, host))
+        return host;
+    stock_give_changed(stock, host);
     return NULL;
 }
 

@@ -32,7 +32,7 @@ static inline uint64_t tally_of(tally *count) {
     return atomic_load_explicit(count, memory_order_relaxed);
 }
 
-// The page that a write has with its handle: any, or one of the budget.
+// The page that a write has with its handle, until it is programmed: any one, or one of the budget.
 enum page { NO_PAGE, ANY_PAGE, PAGE_OF_BUDGET };
 
 // A host's handle. Only the thread that has taken it uses it.
@@ -124,6 +124,9 @@ void stock_give_changed(struct stock *stock, struct host *host);
 // waits or it has no room for a page more. Who keeps one waits for nothing, and gives it back by stock_give_changed.
 struct host *stock_keep_written(struct stock *stock, struct host *host, const struct attempt *attempt);
 struct host *stock_keep_changed(struct stock *stock, struct host *host);
+
+// The handle that was kept, with another page for it: NULL if hosts may program none, so that it was given back.
+struct host *stock_use_kept(struct stock *stock, struct host *host);
 
 // A broom waits for work: 0 if the brooms have to stop. `known` is what it passes on at the end of its round.
 int stock_begin_round(struct stock *stock, uint32_t broom, uint64_t *known);

@@ -212,13 +212,12 @@ def over_device_twice(shop, name):
 
 
 def refusals_at_the_end(shop):
-    """Small devices of random numbers: a write is refused only if no broom could have won back a block."""
+    """Small devices of random numbers: no write is refused early, and after each trim in a block that can be erased one is done."""
     return over_device_twice(shop, "to_the_end")
 
 
 def trims_at_the_end(shop):
-    """Worn devices of several brooms, whose rounds the test deals out: no write is refused early, and after trims of a block's worth of pages one is done
-    again."""
+    """Worn devices, whose rounds the test deals out: no write is refused early, and after each trim in a block that can be erased one is done."""
     return over_device(shop, "trims", "address", ("stock", "brooms"))
 
 
