@@ -80,7 +80,8 @@ static void a_budget(void) {
     for (int i = 0; i < 4; i++)
         want(!write_page().is_last, "a write is refused while there are pages");
     want(stock.budget == 0 && !stock_try_to_write(&stock), "a write doesn't take a page");
-    count_pages(5);
+    count_pages(6);
+    write_page();
     attempt = (struct attempt){0};
     host = stock_take_to_write(&stock, &attempt);
     want(stock_keep_written(&stock, host, &attempt) == host && !stock_use_kept(&stock, host), "a handle that is kept needs no page of the budget");
