@@ -21,6 +21,7 @@ static inline void want(int is_so, const char *text) {
         return;
     failures++;
     printf("%s\n", text);
+    fflush(stdout); // the test may be ended
 }
 
 void nbdkit_error(const char *form, ...) {

@@ -44,6 +44,15 @@ static void count_pages(uint64_t pages) {
     stock_end_count(&stock, &count, pages);
 }
 
+// The second broom has to leave.
+static void *leave_in_a_round(void *unused) {
+    (void) unused;
+    uint64_t known;
+    if (stock_begin_round(&stock, 1, &known))
+        stock_leave(&stock, 1);
+    return NULL;
+}
+
 static void *count_in_a_round(void *unused) {
     begin_a_round(unused);
     count_pages(100);
@@ -111,6 +120,11 @@ static void no_block_of_four(void) {
 // Hosts may program no page until a broom has counted.
 static void no_page(void) {
     begin(2, 1, 40, 1);
+    stock_count_retired(&stock);
+}
+
+static void no_page_and_two_brooms(void) {
+    begin(2, 2, 40, 1);
     stock_count_retired(&stock);
 }
 
@@ -246,6 +260,7 @@ static const struct way ways[] = {
     {"a trim, behind a broom that found nothing", nothing_was_found, begin_a_round, trim_one},
     {"a write, behind a broom that found nothing", nothing_is_found_beside_a_write, begin_a_round, give_written},
     {"a write waits for pages, and a broom rests", no_page, count_in_a_round, ask_for_pages},
+    {"a count finds no page, and another broom rests", no_page_and_two_brooms, leave_in_a_round, no_page_is_found},
     {"the server stops, and a broom rests", many_blocks, begin_a_round, stop},
 };
 
@@ -263,7 +278,7 @@ static void each_way(void) {
         way = &ways[i];
         ways[i].before();
         start(&thread, ways[i].waits);
-        if (ways[i].waits == begin_a_round || ways[i].waits == count_in_a_round)
+        if (ways[i].waits != write_one && ways[i].waits != read_one)
             usleep(20000); // nothing tells that it waits, beside what is tested
         else
             while (waiting() == 0)
