@@ -52,8 +52,9 @@ struct mintlintel_nand {
     /* 0 done, 1 failed, 3 power gone. The page is erased, and the pages of a block are programmed in order. A block that has failed a program, a copy
      * or an erase gets none of them again, but its pages are read still. */
     int (*program)(void *chip, uint32_t block, uint32_t page, const void *main, const void *stamp);
-    /* The same, of a page with its stamp. Null: the page is read and programmed. */
-    int (*copyback)(void *chip, uint32_t from_block, uint32_t from_page, uint32_t block, uint32_t page);
+    /* The same, of a page with its stamp, which was read before and is given: the copy gets these bytes, also if their check doesn't fit the page.
+     * Null: the page is read and programmed. */
+    int (*copyback)(void *chip, uint32_t from_block, uint32_t from_page, uint32_t block, uint32_t page, const void *stamp);
     /* 0 done, 1 failed, 3 power gone. */
     int (*erase)(void *chip, uint32_t block);
     /* 1 for a block that must not be used: it was bad from the factory, or was marked. Null: there is none. */

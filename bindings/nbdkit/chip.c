@@ -54,15 +54,26 @@ static int fail_program(struct chip *chip, uint32_t block, uint32_t page, const 
     return answer == DONE ? FAILED : answer;
 }
 
+// A copyback reads its page's stamp by itself, so a stamp takes its time once something else comes.
+static void end_look(struct chip *chip) {
+    if (chip->has_looked)
+        chip->end = luns_read(&chip->luns, chip->looked_at, chip->end);
+    chip->has_looked = 0;
+}
+
 static int chip_read(void *at, uint32_t block, uint32_t page, void *main, void *stamp) {
     struct chip *chip = at;
-    if (!chip->is_untimed)
+    end_look(chip);
+    chip->has_looked = !chip->is_untimed && !main;
+    chip->looked_at = block;
+    if (!chip->is_untimed && main)
         chip->end = luns_read(&chip->luns, block, chip->end);
     return chip->nand.read(chip->nand.chip, block, page, main, stamp);
 }
 
 static int chip_program(void *at, uint32_t block, uint32_t page, const void *main, const void *stamp) {
     struct chip *chip = at;
+    end_look(chip);
     chip->is_untimed = 0;
     chip->end = luns_program(&chip->luns, block, chip->end);
     announce_given();
@@ -72,18 +83,19 @@ static int chip_program(void *at, uint32_t block, uint32_t page, const void *mai
     return answer;
 }
 
-static int chip_copyback(void *at, uint32_t from_block, uint32_t from_page, uint32_t block, uint32_t page) {
+static int chip_copyback(void *at, uint32_t from_block, uint32_t from_page, uint32_t block, uint32_t page, const void *stamp) {
     static const uint8_t nothing[MAX_PAGE_BYTES];
     struct chip *chip = at;
-    chip->is_untimed = 0;
+    chip->is_untimed = chip->has_looked = 0;
     chip->has_collected = 1;
     chip->end = luns_copy(&chip->luns, from_block, block, chip->end);
     return fails(chip, block, chip->options->fail_programs) ? fail_program(chip, block, page, nothing)
-                                                            : chip->nand.copyback(chip->nand.chip, from_block, from_page, block, page);
+                                                            : chip->nand.copyback(chip->nand.chip, from_block, from_page, block, page, stamp);
 }
 
 static int chip_erase(void *at, uint32_t block) {
     struct chip *chip = at;
+    end_look(chip);
     chip->is_untimed = 0;
     chip->has_collected = 1;
     chip->end = luns_erase(&chip->luns, block, chip->end);
@@ -313,7 +325,7 @@ void chip_start(struct chip *chip) {
 
 void chip_ask(struct chip *chip, uint64_t from) {
     chip->end = from;
-    chip->is_untimed = 0;
+    chip->is_untimed = chip->has_looked = 0;
     chip->has_collected = 0;
 }
 
@@ -321,7 +333,8 @@ void chip_look(struct chip *chip) {
     chip->is_untimed = 1;
 }
 
-uint64_t chip_done(const struct chip *chip) {
+uint64_t chip_done(struct chip *chip) {
+    end_look(chip);
     return chip->end;
 }
 

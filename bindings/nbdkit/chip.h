@@ -35,6 +35,8 @@ struct chip {
     uint64_t random;
     uint64_t end; // of the last command
     int is_untimed; // reads take no time
+    int has_looked; // the last command was a read of a stamp of this block, whose time isn't taken yet
+    uint32_t looked_at;
     int has_collected; // since the last request, or page of one, has begun
     int is_worn;
     char *file; // with the numbers of the blocks that have become bad
@@ -50,7 +52,7 @@ void chip_start(struct chip *chip);
 
 // A request, or a page of one, begins with a command that can't begin before `from`; chip_done says when its last command ends.
 void chip_ask(struct chip *chip, uint64_t from);
-uint64_t chip_done(const struct chip *chip);
+uint64_t chip_done(struct chip *chip);
 
 // Whether the layer has copied a page or erased a block for it.
 int chip_has_collected(const struct chip *chip);

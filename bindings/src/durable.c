@@ -94,18 +94,17 @@ static uint32_t program(struct mintlintel_flash *flash, const struct mintlintel_
     return code_of(flash->nand.program(flash->nand.chip, flash->chip_block[command->block], command->page, page, bytes));
 }
 
-/* A copy keeps its stamp with its check, so that a page that has rotted stays one. */
+/* A copy keeps its stamp with its check, so that a page that has rotted stays one. A copyback is given the stamp alone, and the page isn't read. */
 static uint32_t copy(struct mintlintel_flash *flash, const struct mintlintel_command *command)
 {
     const struct mintlintel_nand *nand = &flash->nand;
     uint32_t from = flash->chip_block[command->from_block], to = flash->chip_block[command->block];
     uint8_t stamp[MINTLINTEL_STAMP_BYTES];
-    if (nand->copyback)
-        return code_of(nand->copyback(nand->chip, from, command->from_page, to, command->page));
-    int answer = nand->read(nand->chip, from, command->from_page, flash->page, stamp);
+    int answer = nand->read(nand->chip, from, command->from_page, nand->copyback ? NULL : flash->page, stamp);
     if (answer != 0)
         return answer == 1 || answer == 2 ? MINTLINTEL_UNREADABLE : MINTLINTEL_POWER_GONE;
-    return code_of(nand->program(nand->chip, to, command->page, flash->page, stamp));
+    return code_of(nand->copyback ? nand->copyback(nand->chip, from, command->from_page, to, command->page, stamp)
+                                  : nand->program(nand->chip, to, command->page, flash->page, stamp));
 }
 
 static uint32_t erase(struct mintlintel_flash *flash, uint32_t block)

@@ -218,7 +218,7 @@ static int image_read(void *chip, uint32_t block, uint32_t page, void *main, voi
     uint8_t one[SPARE_BYTES], *spare = one;
     if (do_what_waits(file, block) != 0)
         return 3;
-    if (file->is_mounting) {
+    if (file->is_mounting || file->cached == block) {
         if (load_spares(file, block) != 0)
             return 3;
         spare = file->spares + (size_t)page * SPARE_BYTES;
@@ -246,17 +246,14 @@ static int image_program(void *chip, uint32_t block, uint32_t page, const void *
     return may_wait ? 0 : mtl_queue_drain(file);
 }
 
-/* A block is collected page by page, so its spare bytes are read once. A copy waits for the program behind it. */
-static int image_copyback(void *chip, uint32_t from_block, uint32_t from_page, uint32_t block, uint32_t page)
+/* A block is collected page by page, so the stamps of its other pages are read now. A copy waits for the program behind it. */
+static int image_copyback(void *chip, uint32_t from_block, uint32_t from_page, uint32_t block, uint32_t page, const void *stamp)
 {
     struct mintlintel_image_file *file = chip;
-    if (do_what_waits(file, from_block) != 0 || load_spares(file, from_block) != 0)
-        return 3;
-    const uint8_t *from = file->spares + (size_t)from_page * SPARE_BYTES;
     uint8_t spare[SPARE_BYTES];
-    if (mtl_image_reading(from) != IS_VERSION)
-        return mtl_file_failed(file, EIO);
-    spare_into(file, spare, from);
+    if (has_failed(file) || load_spares(file, from_block) != 0)
+        return 3;
+    spare_into(file, spare, stamp);
     return give(file, &(struct command){block, page, NULL, {from_block, from_page}}, spare);
 }
 

@@ -16,6 +16,7 @@ struct cut_chip {
     uint8_t bad[CHIP_BLOCKS], failed[CHIP_BLOCKS]; /* marked; failed since the open */
     uint64_t state;
     uint32_t one_cut_in, one_fail_in; /* 0: none */
+    int has_rotted; /* the check of a page that is programmed may not fit */
     int hides_torn; /* a torn page may have its whole stamp, and the chip doesn't tell */
     long fail_at; /* the command that fails, counted from 1; 0: none */
     int is_off;
@@ -100,17 +101,18 @@ static inline int set_page(struct cut_chip *chip, uint32_t block, uint32_t page,
 
 static inline int chip_program(void *at, uint32_t block, uint32_t page, const void *main, const void *stamp)
 {
-    CHECK(mintlintel_stamp_fits(stamp, main, CHIP_PAGE_BYTES));
+    CHECK(mintlintel_stamp_fits(stamp, main, CHIP_PAGE_BYTES) || ((struct cut_chip *)at)->has_rotted);
     return set_page(at, block, page, main, stamp);
 }
 
-static inline int chip_copyback(void *at, uint32_t from_block, uint32_t from_page, uint32_t block, uint32_t page)
+static inline int chip_copyback(void *at, uint32_t from_block, uint32_t from_page, uint32_t block, uint32_t page, const void *stamp)
 {
     struct cut_chip *chip = at;
     CHECK(from_block < CHIP_BLOCKS && from_page < CHIP_PAGES);
     const struct chip_page from = chip->pages[from_block][from_page];
     CHECK(from.contents == VERSION || chip->is_off);
-    return set_page(chip, block, page, from.main, from.stamp);
+    CHECK(memcmp(stamp, from.stamp, MINTLINTEL_STAMP_BYTES) == 0);
+    return set_page(chip, block, page, from.main, stamp);
 }
 
 /* A cut inside an erase loses any part of the block's pages. */

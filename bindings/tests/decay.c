@@ -315,8 +315,35 @@ static void decay_while_open(void)
     CHECK(stopped > 10 && went_on > 10);
 }
 
+/* A page's bytes change, which only its check tells, and it is copied, with a copyback and without one: before and after it can't be read. */
+static void copy_rotted(void)
+{
+    uint8_t bytes[CHIP_PAGE_BYTES];
+    for (int kind = 0; kind < 2; kind++) {
+        memset(&chip, 0, sizeof chip);
+        memset(values, 0, sizeof values);
+        nand.copyback = kind ? NULL : chip_copyback;
+        CHECK(open_device() == MINTLINTEL_DONE);
+        for (uint32_t sector = 0; sector < SECTORS; sector++)
+            write_value(sector);
+        int b = 0;
+        while (sector_of(&chip.pages[b][0]) != 0 || chip.pages[b][0].contents != VERSION)
+            b++;
+        uint32_t erases = chip.erases[b];
+        chip.pages[b][0].main[CHIP_PAGE_BYTES - 1] ^= 1;
+        chip.has_rotted = 1;
+        CHECK(mintlintel_durable_read(&device, 0, bytes, sizeof bytes) == MINTLINTEL_UNREADABLE);
+        for (int i = 0; i < 1000; i++)
+            write_value(1 + drawn(&state) % (SECTORS - 1));
+        CHECK(chip.erases[b] > erases);
+        CHECK(mintlintel_durable_read(&device, 0, bytes, sizeof bytes) == MINTLINTEL_UNREADABLE);
+    }
+    nand.copyback = chip_copyback;
+}
+
 int main(void)
 {
+    copy_rotted();
     decay_by_hand();
     decay_each();
     decay_often();

@@ -77,7 +77,8 @@ def _of_chip(*arguments: Any) -> Any:
 _BLOCK, _AT = [ctypes.c_uint32], [ctypes.c_uint32, ctypes.c_uint32]
 NAND_TYPES = {
     "read": _of_chip(*_AT, ctypes.c_void_p, ctypes.c_void_p), "program": _of_chip(*_AT, ctypes.c_void_p, ctypes.c_void_p),
-    "copyback": _of_chip(*_AT, *_AT), "erase": _of_chip(*_BLOCK), "is_bad": _of_chip(*_BLOCK), "mark_bad": _of_chip(*_BLOCK), "sync": _of_chip(),
+    "copyback": _of_chip(*_AT, *_AT, ctypes.c_void_p), "erase": _of_chip(*_BLOCK),
+    "is_bad": _of_chip(*_BLOCK), "mark_bad": _of_chip(*_BLOCK), "sync": _of_chip(),
 }
 
 

@@ -165,7 +165,7 @@ pub struct Nand {
     pub chip: *mut c_void,
     pub read: Option<unsafe extern "C" fn(*mut c_void, u32, u32, *mut c_void, *mut c_void) -> c_int>,
     pub program: Option<unsafe extern "C" fn(*mut c_void, u32, u32, *const c_void, *const c_void) -> c_int>,
-    pub copyback: Option<unsafe extern "C" fn(*mut c_void, u32, u32, u32, u32) -> c_int>,
+    pub copyback: Option<unsafe extern "C" fn(*mut c_void, u32, u32, u32, u32, *const c_void) -> c_int>,
     pub erase: OnBlock,
     pub is_bad: OnBlock,
     pub mark_bad: OnBlock,
