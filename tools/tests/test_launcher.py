@@ -26,8 +26,9 @@ check)
   [ ! -e "$STATE/$name.fails" ] || { echo "fn $name::first: not proved"; exit 1; } ;;
 run)
   mkdir -p out
-  printf '#!/bin/sh\\n[ "$*" = --version ] && echo flashplay 1.2.3 || cat "%s/examples/first.out"\\n' "$TOP" >out/flashplay
-  chmod +x out/flashplay ;;
+  [ "$name" = cuts ] && first=first_cuts || first=first
+  printf '#!/bin/sh\\n[ "$*" = --version ] && echo flashplay 1.2.3 || cat "%s/examples/%s.out"\\n' "$TOP" $first >out/$name
+  chmod +x out/$name ;;
 esac
 """
 
@@ -52,10 +53,10 @@ class Launcher(unittest.TestCase):
         self.addCleanup(folder.cleanup)
         self.state = pathlib.Path(folder.name)
         self.top = self.state / "top"
-        for crate in ("low", "flashplay"):
+        for crate in ("low", "flashplay", "cuts"):
             (self.top / "crates" / crate / "src").mkdir(parents=True)
             (self.top / "crates" / crate / "src/lib.rt").write_text(f"// {crate}\n")
-        (self.top / "crates.txt").write_text("low:\nflashplay: low io\n")
+        (self.top / "crates.txt").write_text("low:\nflashplay: low io\ncuts: low\n")
         shutil.copytree(TOP / "examples", self.top / "examples")
         shutil.copy(TOP / "flashplay", self.top / "flashplay")
         path = self.state / "bin"
@@ -64,9 +65,9 @@ class Launcher(unittest.TestCase):
         (path / "rt").chmod(0o755)
         self.environment = {**os.environ, "PATH": f"{path}:{os.environ['PATH']}", "STATE": str(self.state), "TOP": str(self.top)}
 
-    def prove(self):
+    def prove(self, *words):
         launcher = subprocess.Popen(
-            [self.top / "flashplay", "--prove"],
+            [self.top / "flashplay", *words, "--prove"],
             stdin=subprocess.DEVNULL,
             stderr=subprocess.PIPE,
             text=True,
@@ -99,6 +100,14 @@ class Launcher(unittest.TestCase):
         self.assertEqual(launcher.returncode, 0, told)
         order = [told.index(text) for text in ("1 of 2 crates are proved, low", "2 of 2 crates are proved, flashplay", "the program is proved")]
         self.assertEqual(order, sorted(order))
+
+    def test_proves_the_program_of_cuts_beside_the_other(self):
+        (self.state / "go").touch()
+        for words in ((), ("cuts",)):
+            self.assertEqual(self.prove(*words).wait(timeout=30), 0)
+        for words, last in (((), "end,1,0,0"), (("cuts", "--seed=1"), "end,1,0,1,0,0")):
+            done = subprocess.run([self.top / "flashplay", *words], capture_output=True, text=True, env=self.environment, timeout=30)
+            self.assertEqual((done.stdout.splitlines()[-1], done.stderr), (last, ""))
 
     def test_fails_with_what_the_check_said(self):
         (self.state / "low.fails").touch()
