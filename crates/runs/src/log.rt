@@ -14,7 +14,7 @@ use trace::Op;
 
 /// The log of the collections of a run.
 #[derive(Drop)]
-pub(crate) enum Log {
+pub enum Log {
     /// No log is wanted.
     Unwanted,
     /// These lines wait to be written.
