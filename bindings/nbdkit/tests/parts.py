@@ -353,13 +353,13 @@ def worn_choices(shop):
     """What a write gets that finds no block, by worn=; a trim of parts of pages still works; and the warning before."""
     for word, error in (("enospc", "No space left on device"), ("eio", "Input/output error"), ("readonly", "Operation not permitted")):
         server = Server(shop, "sectors=200", "blocks=10", "hosts=2", "brooms=0", f"worn={word}")
-        fill = ["qemu-io", "-f", "raw", *(4 * ["-c", "write -P 1 0 800k"]), server.uri]
+        fill = ["qemu-io", "-f", "raw", *(6 * ["-c", "write -P 1 0 800k"]), server.uri]
         want(error in shop.run(fill, status=1), f"worn={word}: another error")
         trimmed = shop.run(["qemu-io", "-f", "raw", "-c", "discard 5000 9000", server.uri], status=int(word == "readonly"))
         want((error in trimmed) == (word == "readonly"), f"worn={word}: {trimmed}")
         shop.run(["qemu-io", "-f", "raw", "-c", "read -P 1 16k 700k", server.uri])
-        told = server.log.read_text()
-        want(told.count("no block is free, and the brooms can reclaim none") == 1, told)
+        told = server.log.read_text().count("no block is free, and the brooms can reclaim none")
+        want(told == 1, f"a full device is told {told} times, and not 1")
         server.stop()
     warned(shop)
     return told_again(shop)
