@@ -17,9 +17,12 @@ DOC := $(DESTDIR)$(PREFIX)/share/doc/mintlintel
 DRIVERS := flash.h mtd.c zone.c
 PROGRAM := crates/flashplay/out/flashplay
 IMAGE_PROGRAM := bindings/out/flashplay-image
+CUTS_PROGRAM := crates/cuts/out/cuts
+PROGRAMS := $(PROGRAM) $(IMAGE_PROGRAM) $(CUTS_PROGRAM)
 
 all:
 	./flashplay --prove
+	./flashplay cuts --prove
 
 check:
 	@.ci/run
@@ -29,15 +32,16 @@ install: all
 	install -d $(LIB)/tools/simulation $(BIN) $(MAN) $(BASH) $(ZSH) $(DOC)/docs $(DOC)/bench $(DOC)/examples
 	install -m 755 -s $(PROGRAM) $(LIB)/flashplay
 	install -m 755 -s $(IMAGE_PROGRAM) $(LIB)/flashplay-image
+	install -m 755 -s $(CUTS_PROGRAM) $(LIB)/flashplay-cuts
 	install -m 755 $(TOOLS:%=tools/%) $(LIB)/tools
 	install -m 644 tools/simulation/*.py tools/simulation/*.css $(LIB)/tools/simulation
 	install -m 755 tools/flashplay $(BIN)/flashplay
 	for tool in $(TOOLS); do ln -sf ../lib/mintlintel/tools/$$tool $(BIN)/flashplay-$$tool; done
-	packaging/manual $(PROGRAM) $(IMAGE_PROGRAM) $(VERSION) > $(MAN)/flashplay.1
+	packaging/manual $(PROGRAMS) $(VERSION) > $(MAN)/flashplay.1
 	for tool in $(TOOLS); do packaging/tool-manual $$tool $(VERSION) > $(MAN)/flashplay-$$tool.1; done
-	packaging/completion bash $(PROGRAM) $(IMAGE_PROGRAM) > $(BASH)/flashplay
+	packaging/completion bash $(PROGRAMS) > $(BASH)/flashplay
 	for tool in $(TOOLS); do ln -sf flashplay $(BASH)/flashplay-$$tool; done
-	packaging/completion zsh $(PROGRAM) $(IMAGE_PROGRAM) > $(ZSH)/_flashplay
+	packaging/completion zsh $(PROGRAMS) > $(ZSH)/_flashplay
 	install -m 644 README.md CHANGELOG.md CONTRIBUTING.md $(DOC)
 	install -m 644 docs/*.md docs/*.svg $(DOC)/docs
 	install -m 644 bench/*.md $(DOC)/bench

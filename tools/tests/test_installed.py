@@ -23,8 +23,8 @@ class Installed(unittest.TestCase):
         library, path = self.folder / "lib/mintlintel", self.folder / "bin"
         library.mkdir(parents=True)
         path.mkdir()
-        programs = {library / "flashplay": STAND_IN, library / "flashplay-image": STAND_IN.replace("exit 3", "exit 4")}
-        for file, text in {**programs, path / "flashplay": (TOOLS / "flashplay").read_text()}.items():
+        programs = {"flashplay": STAND_IN, "flashplay-image": STAND_IN.replace("exit 3", "exit 4"), "flashplay-cuts": STAND_IN.replace("exit 3", "exit 5")}
+        for file, text in {**{library / name: text for name, text in programs.items()}, path / "flashplay": (TOOLS / "flashplay").read_text()}.items():
             file.write_text(text)
             file.chmod(0o755)
         (library / "BUILT_FROM").write_text("commit 1a2b\nproved with kit-1 logic 11\n")
@@ -47,3 +47,7 @@ class Installed(unittest.TestCase):
             self.assertEqual(self.run_it(*words, given="a trace"), (4, f"{len(words)}: {' '.join(words)}\na trace", ""))
         status, told, _ = self.run_it("--help")
         self.assertEqual((status, told.splitlines()[0]), (3, "1: --help"))
+
+    def test_calls_of_cuts_go_to_its_program_without_that_word(self):
+        self.assertEqual(self.run_it("cuts", "--seed", "1", given="a trace"), (5, "2: --seed 1\na trace", ""))
+        self.assertEqual(self.run_it("cuts"), (5, "0: \n", ""))

@@ -31,6 +31,13 @@ echo 'Options:
       --image FILE  The file
       --sync {always,never}  When'
 """
+CUTS_PROGRAM = """#!/bin/sh
+echo 'Options:
+      --cut-every <N>  Cuts the power'
+"""
+
+
+PROGRAMS = {"flashplay": PROGRAM, "flashplay-image": IMAGE_PROGRAM, "flashplay-cuts": CUTS_PROGRAM}
 
 
 @contextlib.contextmanager
@@ -40,7 +47,7 @@ def installed():
         folder = pathlib.Path(folder)
         for name in NAMES:
             (folder / f"flashplay-{name}").symlink_to(TOOLS / name)
-        for name, text in (("flashplay", PROGRAM), ("flashplay-image", IMAGE_PROGRAM)):
+        for name, text in PROGRAMS.items():
             (folder / name).write_text(text)
             (folder / name).chmod(0o755)
         yield folder
@@ -83,24 +90,26 @@ class Names(unittest.TestCase):
 
     def test_manual_of_the_program_takes_options_statuses_and_faults_from_its_help(self):
         with installed() as folder:
-            page = told(TOP / "packaging/manual", folder / "flashplay", folder / "flashplay-image", "1.2.3").stdout
-        texts = ["Mintlintel 1.2.3", "\\-\\-blocks <N>\\fR\nBlocks", "\\-\\-image FILE\\fR\nThe file\n", "\\fB1\\fR\ninput failed\n"]
-        for text in (*texts, "wear: failed, collections: failed\\fR\nthe file is not"):
+            page = told(TOP / "packaging/manual", *(folder / name for name in PROGRAMS), "1.2.3").stdout
+        options = ["\\-\\-blocks <N>\\fR\nBlocks", "\\-\\-image FILE\\fR\nThe file\n", "\\-\\-cut\\-every <N>\\fR\nCuts the power\n"]
+        for text in ("Mintlintel 1.2.3", *options, "\\fB1\\fR\ninput failed\n", "wear: failed, collections: failed\\fR\nthe file is not"):
             self.assertIn(text, page)
         titles = re.findall(r"^\.SH (.*)$", page, re.M)
-        wanted = ["NAME", "SYNOPSIS", "DESCRIPTION", "EXAMPLES", "OPTIONS", "DEVICES IN A FILE", "FILES", "EXIT STATUS", "DIAGNOSTICS", "SEE ALSO"]
-        self.assertEqual(titles, wanted)
+        wanted = "NAME,SYNOPSIS,DESCRIPTION,EXAMPLES,OPTIONS,DEVICES IN A FILE,POWER CUTS,FILES,EXIT STATUS,DIAGNOSTICS,SEE ALSO"
+        self.assertEqual(",".join(titles), wanted)
         self.assertNotRegex(page, r"@[A-Z]+@")
 
     def test_completion_offers_options_commands_and_choices(self):
         ask = 'source "$1"; shift; COMP_WORDS=("$@"); COMP_CWORD=$(($# - 1)); _flashplay; echo "${COMPREPLY[*]}"'
         with installed() as folder:
             script = folder / "completion"
-            script.write_text(told(TOP / "packaging/completion", "bash", folder / "flashplay", folder / "flashplay-image").stdout)
+            script.write_text(told(TOP / "packaging/completion", "bash", *(folder / name for name in PROGRAMS)).stdout)
             for words, wanted in (
                 (("flashplay", "--b"), "--blocks"),
                 (("flashplay", "--i"), "--image"),
                 (("flashplay", "im"), "image"),
+                (("flashplay", "cu"), "cuts"),
+                (("flashplay", "--cu"), "--cut-every"),
                 (("flashplay", "--sync", "n"), "never"),
                 (("/usr/bin/flashplay-trace", ""), "make convert join --help --version"),
                 (("flashplay-trace", "make", "z"), "zipf"),

@@ -76,6 +76,11 @@ pub fn steps_of_passes()
         → get_told st me n after → me.0.pin ≡ pin.Accepted m x
         → 1 < me.0.numbers.words → st.word ≡ page_index me.0.numbers m.block m.page + 1
         → (after ≡ me) × (n ≡ data_word x 1) }
+    ensures get_stays { (st : Step (Unit {0})) (me after : Sitter) (n : ℕ)
+        → get_told st me n after → after ≡ me }
+    ensures get_spared { (st : Step (Unit {0})) (me after : Sitter) (n : ℕ) (m : MapWord)
+        (x : List ℕ) (c : Carried) → get_told st me n after → me.0.pin ≡ pin.Accepted m x
+        → me.0.copy ≡ Some c → ¬ (me.0.role ≡ seat.Player c.of) }
     ensures count { (st : Step (Unit {0})) (me after : Sitter) (n : ℕ) (o : Owned) (k : Work)
         → count_told st me n after → CanCount me.0 o k
         → st.word ≡ pin_index me.0.numbers o.block → (after.1 ≡ me.1)
@@ -93,6 +98,8 @@ pub fn steps_of_passes()
         → unpin_told st me n after → me.0.pin ≡ pin.Stray 3
         → st.word ≡ pin_index me.0.numbers 3 → (after.1 ≡ me.1) × (after.0.pin ≡ pin.Clear) }
     ensures limits { (s : State (Unit {0}) View) → ¬ Ruled (numbers 0 3 1 1 1 1 0 0) s }
+    ensures words { (s : State (Unit {0}) View)
+        → Ruled (numbers 1 3 2 1 3 1 0 0) s → length s.words ≡ 18 }
 {}
 
 /// What a broom's steps on a page of its victim record: the stamp, the source, and the move to a copy.

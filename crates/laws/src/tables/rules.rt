@@ -27,6 +27,8 @@ pub fn sights_of_a_queue()
     ensures new { (q : EraseQueue) (p : QueuePass) → IsNewPass q p
         → (sight_of p ≡ sees (limit_of q) [] 0) × (fulls_of p ≡ 0) × (empties_of p ≡ 0) }
     ensures new_here { (q : EraseQueue) (p : QueuePass) → IsNewPass q p → IsPassOf q p }
+    ensures one_queue { (q : EraseQueue) (p : QueuePass) → IsPassOf q p
+        → (p.port.table_id ≡ q.numbers.table.shared.table_id) × (p.port.me.1 ≡ []) }
     ensures used { (q : EraseQueue) (p : QueuePass) → empties_of p ≡ 1 → ¬ IsNewPass q p }
     ensures nothing { queue.Ruled [] [] }
     ensures nobody_put { ¬ queue.Ruled (5 ∷ []) [] }
