@@ -45,9 +45,8 @@ chip_bad chip = chip.bad.items
 abbrev pub chip_erases : Chip → List ℕ
 chip_erases chip = chip.erases.items
 
--- nothing that a reader sees has changed
-pub record HasSame (old new : Chip) : Type 0 where
-  pub flash : chip_flash new ≡ chip_flash old
+-- nothing that a reader sees has changed beside the pages
+pub record HasSameBesidePages (old new : Chip) : Type 0 where
   pub shape : chip_shape new ≡ chip_shape old
   pub bad : chip_bad new ≡ chip_bad old
   pub erases : chip_erases new ≡ chip_erases old
@@ -55,6 +54,11 @@ pub record HasSame (old new : Chip) : Type 0 where
   pub cuts : new.cuts ≡ old.cuts
   pub tally : chip_tally new ≡ chip_tally old
   pub syncs : chip_syncs new ≡ chip_syncs old
+
+-- nothing that a reader sees has changed
+pub record HasSame (old new : Chip) : Type 0 where
+  pub flash : chip_flash new ≡ chip_flash old
+  pub beside : HasSameBesidePages old new
 
 -- a page is filled, or the command left nothing of it, a torn page, or all of it
 abbrev pub Sets : {T : Type 0} → Result T Fault → Flash → Flash → PageAddr → PageContents → Type 0

@@ -1,5 +1,5 @@
 ghost use Rattle.std.specs.Prelude.{◌≡◌, true, false, IfSome};
-ghost use Rattle.durable.specs.Flash.{SetsPage, LosesPages};
+ghost use Rattle.durable.specs.Flash.{SetsPage, LosesPages, Erased};
 ghost use Rattle.nand.specs.Nand.{ReadsStamp, ReadsMain};
 ghost use Rattle.nand.specs.Cells.{contents_of, flash_in, IsWiped};
 
@@ -22,6 +22,7 @@ pub fn put(blocks: &mut Vec<Vec<Page>>, at: PageAddr, page: Page) -> bool
         → SetsPage (flash_in blocks.old.items)
         (flash_in blocks.new.items) at.block at.page (contents_of page) }
     ensures same { result ≡ false → blocks.new.items ≡ blocks.old.items }
+    ensures missing { result ≡ false → flash_in blocks.old.items at.block at.page ≡ Erased }
 {
     let (block, index) = (at.block as usize, at.page as usize);
     if block >= blocks.len() || index >= blocks[block].len() {

@@ -60,12 +60,12 @@ fn has_bit(mask: u64, bit: u64) -> bool
 }
 
 impl Chip {
-    ghost use Rattle.std.specs.Prelude.{◌⊎◌, ◌-◌, ◌^◌, ℕ, true, false, None, Some, slice_index_or, IfOk, Err};
+    ghost use Rattle.std.specs.Prelude.{◌≢◌, ◌⊎◌, ◌-◌, ◌^◌, ℕ, true, false, None, Some, slice_index_or, IfOk, Err};
     ghost use Rattle.durable.specs.Commands.{IsSameFlash};
-    ghost use Rattle.durable.specs.Flash.{IsErased, SetsPage, Torn};
+    ghost use Rattle.durable.specs.Flash.{IsErased, SetsPage, Erased, Torn};
     ghost use Rattle.nand.specs.Cells.{contents_of};
     ghost use Rattle.nand.specs.Chip.{after_command, chip_bad, chip_erases, chip_faults, chip_flash, chip_shape, chip_syncs, chip_tally};
-    ghost use Rattle.nand.specs.Chip.{coming, fails_in, schedule_of, Ends, HasSame, Sets};
+    ghost use Rattle.nand.specs.Chip.{coming, fails_in, schedule_of, Ends, HasSame, HasSameBesidePages, Sets};
     ghost use Rattle.nand.specs.Nand.{CountsFault, CountsCut};
     ghost use Rattle.nand.specs.declared.flash.Fault.TheVariants as fault;
 
@@ -149,12 +149,11 @@ impl Chip {
 
     /// Makes a page unreadable, as a charge that has leaked away does.
     pub fn lose_page(&mut self, at: PageAddr)
-        ensures loses { IsSameFlash (chip_flash self.old) (chip_flash self.new)
+        ensures loses { chip_flash self.old at.block at.page ≢ Erased
+            → SetsPage (chip_flash self.old) (chip_flash self.new) at.block at.page Torn }
+        ensures only { IsSameFlash (chip_flash self.old) (chip_flash self.new)
             ⊎ SetsPage (chip_flash self.old) (chip_flash self.new) at.block at.page Torn }
-        ensures shape { chip_shape self.new ≡ chip_shape self.old }
-        ensures bad { chip_bad self.new ≡ chip_bad self.old }
-        ensures tally { chip_tally self.new ≡ chip_tally self.old }
-        ensures syncs { chip_syncs self.new ≡ chip_syncs self.old }
+        ensures same { HasSameBesidePages self.old self.new }
         ensures schedule { schedule_of self.new ≡ schedule_of self.old }
     {
         put(&mut self.blocks, at, Page::Torn);
