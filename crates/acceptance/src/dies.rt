@@ -1,6 +1,5 @@
 ghost use Rattle.std.specs.{Prelude.◌≡◌, Bool.OnTrue};
-ghost use Rattle.geometry.specs.Geometry.{blocks_of, pages_of, page_bytes_of};
-ghost use Rattle.die.specs.Die.{geometry_of, IsUsable, IsNext};
+ghost use Rattle.die.specs.Die.{blocks, pages, page_bytes, IsUsable, IsNext};
 
 use die::Die;
 use geometry::{Geometry, PageAddr};
@@ -15,9 +14,9 @@ const EMPTY: ([u8; 8], u64) = ([255; 8], 0xffff_ffff_ffff_ffff);
 #[derive(Drop)]
 struct SmallDie {
     die: Die,
-    ghost blocks: { blocks_of (geometry_of die) ≡ 3 },
-    ghost pages: { pages_of (geometry_of die) ≡ 2 },
-    ghost bytes: { page_bytes_of (geometry_of die) ≡ 8 },
+    ghost blocks: { blocks die ≡ 3 },
+    ghost pages: { pages die ≡ 2 },
+    ghost bytes: { page_bytes die ≡ 8 },
 }
 
 impl SmallDie {

@@ -1,6 +1,5 @@
 ghost use Rattle.std.specs.Prelude.{◌≡◌};
-ghost use Rattle.geometry.specs.Geometry.{page_bytes_of};
-ghost use Rattle.ftl_one.specs.OneFtl.{geometry_of};
+ghost use Rattle.ftl_one.specs.OneFtl.{page_bytes};
 
 use crate::assertions::expect;
 use ftl_one::{NewOneFault, OneFtl};
@@ -13,7 +12,7 @@ use std::test::Fail;
 #[derive(Drop)]
 struct SmallLayer {
     ftl: OneFtl,
-    ghost bytes: { page_bytes_of (geometry_of ftl) ≡ 8 },
+    ghost bytes: { page_bytes ftl ≡ 8 },
 }
 
 impl SmallLayer {

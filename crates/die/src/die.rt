@@ -30,7 +30,8 @@ pub struct Die {
 }
 
 impl Die {
-    ghost use Rattle.die.specs.Die.{geometry_of, block_of, copybacks_of, one_more, ChangesBlock, IsUsable, IsNext, IsProgrammed, IsNew};
+    ghost use Rattle.die.specs.Die.{geometry_of, blocks, pages, page_bytes, endurance, block_of, copybacks_of, one_more};
+    ghost use Rattle.die.specs.Die.{ChangesBlock, IsUsable, IsNext, IsProgrammed, IsNew};
     ghost use Rattle.die.specs.Pages.{page_at, programmed, erased};
 
     /// A die whose blocks are all erased.
@@ -63,11 +64,10 @@ impl Die {
 
     // The place of a page in the storage.
     fn place_of(&self, at: PageAddr) -> usize
-        requires block { at.block < blocks_of (geometry_of self.now) }
-        requires page { at.page < pages_of (geometry_of self.now) }
-        ensures value { result ≡ at.block * pages_of (geometry_of self.now) + at.page }
-        ensures within { result
-            < blocks_of (geometry_of self.now) * pages_of (geometry_of self.now) }
+        requires block { at.block < blocks self.now }
+        requires page { at.page < pages self.now }
+        ensures value { result ≡ at.block * pages self.now + at.page }
+        ensures within { result < blocks self.now * pages self.now }
     {
         at.block as usize * self.geometry.pages() as usize + at.page as usize
     }
@@ -75,13 +75,11 @@ impl Die {
     /// ONFI 4.0, Read: copies the main bytes into `out`, and returns the stamp. In a page that isn't programmed every bit is one.
     pub fn read(&self, at: PageAddr, out: &mut [u8]) -> u64
         requires usable { IsUsable self.now at.block }
-        requires room { length out.old ≡ page_bytes_of (geometry_of self.now) }
+        requires room { length out.old ≡ page_bytes self.now }
         ensures value { out.new
-            ≡ (page_at (page_bytes_of (geometry_of self.now))
-            (block_of self.now at.block) at.page).value }
+            ≡ (page_at (page_bytes self.now) (block_of self.now at.block) at.page).value }
         ensures stamp { result
-            ≡ (page_at (page_bytes_of (geometry_of self.now))
-            (block_of self.now at.block) at.page).stamp }
+            ≡ (page_at (page_bytes self.now) (block_of self.now at.block) at.page).stamp }
     {
         if at.page >= self.states[at.block as usize].next {
             out.fill(ERASED_BYTE);
@@ -96,9 +94,8 @@ impl Die {
     pub fn page(&self, at: PageAddr) -> &[u8]
         requires { IsProgrammed self.now at }
         ensures value { result.now
-            ≡ (page_at (page_bytes_of (geometry_of self.now))
-            (block_of self.now at.block) at.page).value }
-        ensures size { length result.now ≡ page_bytes_of (geometry_of self.now) }
+            ≡ (page_at (page_bytes self.now) (block_of self.now at.block) at.page).value }
+        ensures size { length result.now ≡ page_bytes self.now }
     {
         lend_page(&self.bytes, self.geometry.page_bytes(), self.place_of(at))
     }
@@ -107,8 +104,7 @@ impl Die {
     pub fn stamp(&self, at: PageAddr) -> u64
         requires { IsProgrammed self.now at }
         ensures { result
-            ≡ (page_at (page_bytes_of (geometry_of self.now))
-            (block_of self.now at.block) at.page).stamp }
+            ≡ (page_at (page_bytes self.now) (block_of self.now at.block) at.page).stamp }
     {
         u64::from(self.stamps[self.place_of(at)])
     }
@@ -117,7 +113,7 @@ impl Die {
     /// programmed in order, each once between two erases.
     pub fn program(&mut self, at: PageAddr, bytes: &[u8], stamp: u32) -> u8
         requires next { IsNext self.old at }
-        requires size { length bytes.now ≡ page_bytes_of (geometry_of self.old) }
+        requires size { length bytes.now ≡ page_bytes self.old }
         ensures status { result ≡ 0 }
         ensures changes { ChangesBlock self.old self.new at.block
             (programmed (block_of self.old at.block) (record { value = bytes.now; stamp = stamp })) }
@@ -139,8 +135,7 @@ impl Die {
         ensures status { result ≡ 0 }
         ensures changes { ChangesBlock self.old self.new to.block
             (programmed (block_of self.old to.block)
-            (page_at (page_bytes_of (geometry_of self.old))
-            (block_of self.old from.block) from.page)) }
+            (page_at (page_bytes self.old) (block_of self.old from.block) from.page)) }
         ensures copybacks { copybacks_of self.new ≡ one_more (copybacks_of self.old) }
     {
         let source = self.place_of(from);
@@ -158,10 +153,9 @@ impl Die {
     pub fn erase(&mut self, block: u32) -> u8
         requires { IsUsable self.old block }
         ensures status { result
-            ≡ (if (block_of self.old block).erases + 1 == endurance_of
-            (geometry_of self.old) then 1 else 0) }
+            ≡ (if (block_of self.old block).erases + 1 == endurance self.old then 1 else 0) }
         ensures changes { ChangesBlock self.old self.new block
-            (erased (endurance_of (geometry_of self.old)) (block_of self.old block)) }
+            (erased (endurance self.old) (block_of self.old block)) }
         ensures copybacks { copybacks_of self.new ≡ copybacks_of self.old }
     {
         let endurance = self.geometry.endurance();
@@ -174,16 +168,16 @@ impl Die {
 
     /// How many pages of the block are programmed, which is the page to be programmed next.
     pub fn next(&self, block: u32) -> u32
-        requires { block < blocks_of (geometry_of self.now) }
+        requires { block < blocks self.now }
         ensures value { result ≡ length (block_of self.now block).pages }
-        ensures within { result ≤ pages_of (geometry_of self.now) }
+        ensures within { result ≤ pages self.now }
     {
         self.states[block as usize].next
     }
 
     /// Whether the block is retired, and may never be used again.
     pub fn retired(&self, block: u32) -> bool
-        requires { block < blocks_of (geometry_of self.now) }
+        requires { block < blocks self.now }
         ensures { result ≡ (block_of self.now block).retired }
     {
         self.states[block as usize].retired
@@ -191,9 +185,9 @@ impl Die {
 
     /// How many erase commands the block has had.
     pub fn erases(&self, block: u32) -> u32
-        requires { block < blocks_of (geometry_of self.now) }
+        requires { block < blocks self.now }
         ensures value { result ≡ (block_of self.now block).erases }
-        ensures usable { IsUsable self.now block → result < endurance_of (geometry_of self.now) }
+        ensures usable { IsUsable self.now block → result < endurance self.now }
     {
         self.states[block as usize].erases
     }

@@ -1,5 +1,5 @@
 ghost use Rattle.std.specs.Prelude.{◌≡◌, ℕ, ◌+◌, ◌<◌, ◌≤◌, ◌==◌, if◌then◌else◌, false, length, sum_by, None, Some};
-ghost use Rattle.geometry.specs.Geometry.{blocks_of, pages_of, page_bytes_of, endurance_of, lun_of, sectors_of, hosts_of};
+ghost use Rattle.geometry.specs.Geometry.{blocks_of, pages_of, lun_of, sectors_of, hosts_of};
 ghost use Rattle.ftl_one.specs.{Store.geometry_of as store_geometry_of, Store.entries_of, Store.retired_of, Stock.is_free, Lawful.blocks_in, Lawful.weight};
 ghost use Rattle.ftl_one.specs.Lawful.{IsLawful, KnowsSpare, role_in};
 
@@ -62,7 +62,7 @@ impl OneFtl {
     ghost use Rattle.std.specs.Prelude.{◌≢◌, [], IfOk, IfSome, IfNone, OnOk, OnErr, ◌^◌, Err};
     ghost use Rattle.geometry.specs.Sectors.{sector_at, was_of, Answers};
     ghost use Rattle.geometry.specs.History.{Write, WriteNew, Trim, step, after};
-    ghost use Rattle.ftl_one.specs.OneFtl.{geometry_of, array_of, stock_of, was_found};
+    ghost use Rattle.ftl_one.specs.OneFtl.{geometry_of, sectors, blocks, pages, page_bytes, endurance, array_of, stock_of, was_found};
     ghost use Rattle.ftl_one.specs.declared.one_ftl.NewOneFault.TheVariants as fault;
     ghost use Rattle.ftl_one.specs.Stock.{Stock, next, opening, opened, open_of, free_of, spare_of, victim_of, ready, collect, write_of, live_of, is_retired};
 
@@ -96,7 +96,7 @@ impl OneFtl {
     #[tactic(auto, unfolding(crate::specs::OneFtl::geometry_of))]
     pub fn geometry(&self) -> Geometry
         ensures value { result ≡ geometry_of self.now }
-        ensures sectors { length (array_of self.now) ≡ sectors_of (geometry_of self.now) }
+        ensures sectors { length (array_of self.now) ≡ sectors self.now }
     {
         self.store.geometry()
     }
@@ -104,8 +104,8 @@ impl OneFtl {
     /// Reads a sector into `out`, a buffer of one page.
     #[tactic(auto, unfolding(crate::specs::OneFtl::geometry_of, crate::specs::OneFtl::array_of))]
     pub fn read(&self, sector: u32, out: &mut [u8]) -> Got
-        requires sector { sector < sectors_of (geometry_of self.now) }
-        requires page { length out.old ≡ page_bytes_of (geometry_of self.now) }
+        requires sector { sector < sectors self.now }
+        requires page { length out.old ≡ page_bytes self.now }
         ensures { Answers (sector_at (array_of self.now) sector) result out.old out.new }
     {
         self.store.read(sector, out)
@@ -114,20 +114,19 @@ impl OneFtl {
     /// The page of a sector, without a copy, or none for an empty sector.
     #[tactic(auto, unfolding(crate::specs::OneFtl::geometry_of, crate::specs::OneFtl::array_of))]
     pub fn page(&self, sector: u32) -> Option<&[u8]>
-        requires { sector < sectors_of (geometry_of self.now) }
+        requires { sector < sectors self.now }
         ensures some { IfSome result
             (λ page. sector_at (array_of self.now) sector ≡ Some page.now) }
         ensures none { IfNone result (sector_at (array_of self.now) sector ≡ None) }
-        ensures size { IfSome result
-            (λ page. length page.now ≡ page_bytes_of (geometry_of self.now)) }
+        ensures size { IfSome result (λ page. length page.now ≡ page_bytes self.now) }
     {
         self.store.page(sector)
     }
 
     /// Writes a sector, and returns what it was.
     pub fn write(&mut self, sector: u32, bytes: &[u8]) -> Result<Was, WornOut>
-        requires sector { sector < sectors_of (geometry_of self.old) }
-        requires page { length bytes.now ≡ page_bytes_of (geometry_of self.old) }
+        requires sector { sector < sectors self.old }
+        requires page { length bytes.now ≡ page_bytes self.old }
         ensures geometry { geometry_of self.new ≡ geometry_of self.old }
         ensures answer { IfOk result (λ was. was ≡ was_of (sector_at (array_of self.old) sector)) }
         ensures array { OnOk result
@@ -168,8 +167,8 @@ impl OneFtl {
     /// Writes a sector if it is empty; otherwise nothing is programmed.
     #[tactic(auto, unfolding(crate::specs::OneFtl::geometry_of, crate::specs::OneFtl::array_of))]
     pub fn write_new(&mut self, sector: u32, bytes: &[u8]) -> Result<(), NewOneFault>
-        requires sector { sector < sectors_of (geometry_of self.old) }
-        requires page { length bytes.now ≡ page_bytes_of (geometry_of self.old) }
+        requires sector { sector < sectors self.old }
+        requires page { length bytes.now ≡ page_bytes self.old }
         ensures geometry { geometry_of self.new ≡ geometry_of self.old }
         ensures answer { was_found result ≡ was_of (sector_at (array_of self.old) sector) }
         ensures array { OnOk result
@@ -207,7 +206,7 @@ impl OneFtl {
     /// Empties a sector, and returns what it was.
     #[tactic(auto, unfolding(crate::specs::OneFtl::geometry_of, crate::specs::OneFtl::array_of))]
     pub fn trim(&mut self, sector: u32) -> Was
-        requires sector { sector < sectors_of (geometry_of self.old) }
+        requires sector { sector < sectors self.old }
         ensures geometry { geometry_of self.new ≡ geometry_of self.old }
         ensures answer { result ≡ was_of (sector_at (array_of self.old) sector) }
         ensures array { array_of self.new ≡ step (array_of self.old) (Trim 0 sector) }
@@ -230,7 +229,7 @@ impl OneFtl {
     /// How many erase commands a block has had, including the one that failed.
     #[tactic(auto, unfolding(crate::specs::OneFtl::geometry_of))]
     pub fn erases(&self, block: u32) -> u32
-        requires { block < blocks_of (geometry_of self.now) }
+        requires { block < blocks self.now }
         ensures { result ≡ (block_at (stock_of self.now) block).erases }
     {
         self.store.erases(block)
@@ -239,7 +238,7 @@ impl OneFtl {
     /// How many pages of a block are the current page of a sector.
     #[tactic(auto, unfolding(crate::specs::OneFtl::geometry_of))]
     pub fn live(&self, block: u32) -> u32
-        requires { block < blocks_of (geometry_of self.now) }
+        requires { block < blocks self.now }
         ensures { result ≡ live_of (block_at (stock_of self.now) block) }
     {
         u32::from(self.store.live()[block as usize])
@@ -262,7 +261,7 @@ impl OneFtl {
     /// Whether a block's last erase has failed, so that it is never used again.
     #[tactic(auto, unfolding(crate::specs::OneFtl::geometry_of))]
     pub fn retired(&self, block: u32) -> bool
-        requires { block < blocks_of (geometry_of self.now) }
+        requires { block < blocks self.now }
         ensures { result ≡ is_retired (block_at (stock_of self.now) block).role }
     {
         matches!(self.roles[block as usize], Role::Retired)
@@ -309,11 +308,9 @@ impl OneFtl {
         ensures geometry { geometry_of self.new ≡ geometry_of self.old }
         ensures sectors { array_of self.new ≡ array_of self.old }
         ensures ready { IfSome result
-            (λ block. ready (endurance_of (geometry_of self.old)) (stock_of self.old)
-            ≡ Some (stock_of self.new)) }
+            (λ block. ready (endurance self.old) (stock_of self.old) ≡ Some (stock_of self.new)) }
         ensures opened { IfSome result (λ block. open_of (stock_of self.new).blocks ≡ Some block) }
-        ensures none { IfNone result
-            (ready (endurance_of (geometry_of self.old)) (stock_of self.old) ≡ None) }
+        ensures none { IfNone result (ready (endurance self.old) (stock_of self.old) ≡ None) }
         ensures no_page { IfNone result (HasNoPage (stock_of self.old)) }
         ensures same { IfNone result (stock_of self.new ≡ stock_of self.old) }
     {
@@ -353,9 +350,8 @@ impl OneFtl {
         requires spare { spare_of (stock_of self.old).blocks ≡ Some spare }
         ensures geometry { geometry_of self.new ≡ geometry_of self.old }
         ensures sectors { array_of self.new ≡ array_of self.old }
-        ensures stock { collect (endurance_of (geometry_of self.old))
-            (stock_of self.old) spare (victim_of (stock_of self.old).blocks)
-            ≡ Some (stock_of self.new) }
+        ensures stock { collect (endurance self.old) (stock_of self.old) spare
+            (victim_of (stock_of self.old).blocks) ≡ Some (stock_of self.new) }
         ensures opened { open_of (stock_of self.new).blocks ≡ Some spare }
     {
         let victim = fewest_beside(self.store.live(), spare as usize) as u32;
@@ -372,12 +368,12 @@ impl OneFtl {
     #[tactic(auto, unfolding(crate::specs::OneFtl::geometry_of, crate::specs::OneFtl::array_of))]
     fn write_into(&mut self, block: u32, sector: u32, bytes: &[u8]) -> Was
         requires opened { open_of (stock_of self.old).blocks ≡ Some block }
-        requires sector { sector < sectors_of (geometry_of self.old) }
-        requires page { length bytes.now ≡ page_bytes_of (geometry_of self.old) }
+        requires sector { sector < sectors self.old }
+        requires page { length bytes.now ≡ page_bytes self.old }
         ensures geometry { geometry_of self.new ≡ geometry_of self.old }
         ensures answer { result ≡ was_of (sector_at (array_of self.old) sector) }
         ensures array { array_of self.new ≡ step (array_of self.old) (Write 0 sector bytes.now) }
-        ensures stock { write_of (pages_of (geometry_of self.old)) sector (stock_of self.old)
+        ensures stock { write_of (pages self.old) sector (stock_of self.old)
             ≡ Some (stock_of self.new) }
     {
         let was = self.store.put(block, sector, bytes);

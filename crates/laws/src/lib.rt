@@ -28,7 +28,9 @@ pub use devices::stocks::{
     calls_of_a_stock, collections_of_a_stock, counts_of_a_stock, pages_left_in_a_stock,
     roles_of_blocks,
 };
-pub use devices::stores::{commands_on_a_store, maps_of_a_store, rooms_of_a_store};
+pub use devices::stores::{
+    commands_on_a_store, counts_of_a_layer, maps_of_a_store, rooms_of_a_store,
+};
 pub use hosts::host_results::records_of_hosts;
 pub use hosts::{meetings_of_players, writes_of_hosts};
 pub use plays::played_rounds::runs_of_workers;

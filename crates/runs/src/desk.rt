@@ -1,7 +1,7 @@
 ghost use Rattle.std.specs.Prelude.{◌≡◌, ◌+◌, ◌*◌, ◌<◌, ◌≤◌, [], ◌++◌, length, vec_len, if◌then◌else◌, IfOk, OnOk, OnErr};
 ghost use Rattle.std.specs.List.{fold};
-ghost use Rattle.geometry.specs.{Geometry.blocks_of, Geometry.page_bytes_of, Geometry.sectors_of, History.step, Sectors.sector_at};
-ghost use Rattle.ftl_one.specs.OneFtl.{geometry_of, array_of, stock_of};
+ghost use Rattle.geometry.specs.{Geometry.page_bytes_of, History.step, Sectors.sector_at};
+ghost use Rattle.ftl_one.specs.OneFtl.{geometry_of, sectors, blocks, page_bytes, array_of, stock_of};
 ghost use Rattle.trace.specs.declared.commands.Op.TheVariants as ops;
 ghost use Rattle.answers.specs.{Answers.calls_of, Answers.found_text, Answers.line_text, Answers.wear_names, Delivery.page_digits_of, Delivery.waiting_of};
 ghost use Rattle.answers.specs.{Answers.IsPlayable, declared.line.TheConstants.PIECE_BYTES};
@@ -49,7 +49,7 @@ impl Desk {
         wanted: bool,
     )
         requires playable { IsPlayable (geometry_of ftl.old) command.now }
-        requires page { vec_len self.old.page ≡ page_bytes_of (geometry_of ftl.old) }
+        requires page { vec_len self.old.page ≡ page_bytes ftl.old }
         requires room { length (waiting_of self.old.lines) ≤ PIECE_BYTES }
         requires count { self.old.refused < line }
         ensures page { vec_len self.new.page ≡ vec_len self.old.page }
@@ -83,8 +83,8 @@ impl Desk {
 
     // Adds the answer line of a read. A page is encoded where it is.
     fn answer_read(&mut self, ftl: &OneFtl, sector: u32, line: u64)
-        requires sector { sector < sectors_of (geometry_of ftl.now) }
-        requires page { vec_len self.old.page ≡ page_bytes_of (geometry_of ftl.now) }
+        requires sector { sector < sectors ftl.now }
+        requires page { vec_len self.old.page ≡ page_bytes ftl.now }
         requires room { length (waiting_of self.old.lines) ≤ PIECE_BYTES }
         ensures page { vec_len self.new.page ≡ vec_len self.old.page }
         ensures refused { self.new.refused ≡ self.old.refused }
@@ -119,7 +119,7 @@ impl Desk {
 
     /// Adds a block's line of the wear.
     pub(crate) fn wear(&mut self, ftl: &OneFtl, block: u32)
-        requires block { block < blocks_of (geometry_of ftl.now) }
+        requires block { block < blocks ftl.now }
         requires room { length (waiting_of self.old.lines) ≤ PIECE_BYTES }
         ensures lines { waiting_of self.new.lines
             ≡ waiting_of self.old.lines ++ block_line (stock_of ftl.now) block }

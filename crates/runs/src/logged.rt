@@ -1,7 +1,7 @@
 ghost use Rattle.std.specs.Prelude.{◌≡◌, ◌+◌, ◌<◌, ◌≤◌, [], ◌++◌, ℕ, List, if◌then◌else◌, length, nat_lt, vec_len, None};
 ghost use Rattle.std.specs.List.{fold};
-ghost use Rattle.geometry.specs.{Geometry.page_bytes_of, History.step};
-ghost use Rattle.ftl_one.specs.{Collections.collection_between, OneFtl.geometry_of, OneFtl.array_of, OneFtl.stock_of};
+ghost use Rattle.geometry.specs.History.{step};
+ghost use Rattle.ftl_one.specs.{Collections.collection_between, OneFtl.geometry_of, OneFtl.page_bytes, OneFtl.array_of, OneFtl.stock_of};
 ghost use Rattle.answers.specs.{Answers.calls_of, Delivery.waiting_of, Answers.IsPlayable, Streams.Stream, Streams.stream_of};
 ghost use Rattle.answers.specs.declared.line.TheConstants.{PIECE_BYTES};
 ghost use Rattle.runs.specs.{Logs.log_part, Logs.IsLogged, Logs.is_wanted, Playing.is_refused, Playing.line_by, Playing.stock_after};
@@ -25,7 +25,7 @@ pub(crate) fn answer_logged<V: Write>(
     file: &mut Watched<V>,
 )
     requires playable { IsPlayable (geometry_of ftl.old) command.now }
-    requires page { vec_len desk.old.page ≡ page_bytes_of (geometry_of ftl.old) }
+    requires page { vec_len desk.old.page ≡ page_bytes ftl.old }
     requires room { length (waiting_of desk.old.lines) ≤ PIECE_BYTES }
     requires count { desk.old.refused < line }
     ensures page { vec_len desk.new.page ≡ vec_len desk.old.page }

@@ -1,7 +1,7 @@
 ghost use Rattle.std.specs.Prelude.{◌≡◌, ◌+◌, [], length, vec_len, All, IfErr, IfOk, IfSome, OnOk, OnErr, Err};
 ghost use Rattle.std.specs.Io.KnownBytes.{IsAtEnd};
-ghost use Rattle.geometry.specs.{Geometry.hosts_of, Geometry.page_bytes_of, Geometry.sectors_of, History.after};
-ghost use Rattle.ftl_one.specs.{OneFtl.geometry_of, OneFtl.array_of, OneFtl.stock_of, Stock.opening};
+ghost use Rattle.geometry.specs.{Geometry.hosts_of, History.after};
+ghost use Rattle.ftl_one.specs.{OneFtl.geometry_of, OneFtl.sectors, OneFtl.page_bytes, OneFtl.array_of, OneFtl.stock_of, Stock.opening};
 ghost use Rattle.streams.specs.Watched.{failures_of, inner_of};
 ghost use Rattle.answers.specs.{Answers.collection_names, Delivery.waiting_of, Outcome.ExplainsRun, Answers.IsPlayable};
 ghost use Rattle.answers.specs.Streams.{Tells, WritesOut, over, stream_of, Whole, Writes, TellsIf};
@@ -184,10 +184,10 @@ fn play<W: Write, V: Write>(
     log: &mut Log,
     file: &mut Watched<V>,
 ) -> Result<(), OutputFailed>
-    requires array { array_of ftl.old ≡ after (sectors_of (geometry_of ftl.old)) [] }
+    requires array { array_of ftl.old ≡ after (sectors ftl.old) [] }
     requires stock { stock_of ftl.old ≡ opening (geometry_of ftl.old) }
     requires playable { All (IsPlayable (geometry_of ftl.old)) commands.now }
-    requires page { vec_len desk.old.page ≡ page_bytes_of (geometry_of ftl.old) }
+    requires page { vec_len desk.old.page ≡ page_bytes ftl.old }
     requires lines { waiting_of desk.old.lines ≡ [] }
     requires names { IsLogged log.old (over V.contents file.old file.old) collection_names }
     requires none_refused { desk.old.refused ≡ 0 }

@@ -1,6 +1,6 @@
 ghost use Rattle.std.specs.{Prelude.◌≡◌, Prelude.◌≢◌, Prelude.length, List.fold};
-ghost use Rattle.geometry.specs.{Geometry.page_bytes_of, History.step};
-ghost use Rattle.ftl_one.specs.OneFtl.{geometry_of, array_of, stock_of};
+ghost use Rattle.geometry.specs.History.{step};
+ghost use Rattle.ftl_one.specs.OneFtl.{geometry_of, page_bytes, array_of, stock_of};
 ghost use Rattle.hex.specs.Hex.{encode_lower};
 ghost use Rattle.trace.specs.declared.commands.Op.TheVariants as ops;
 ghost use Rattle.answers.specs.Answers.{calls_of, IsPlayable, is_worn_reply, reply_text};
@@ -14,7 +14,7 @@ use trace::{Command, Op};
 pub(crate) fn perform(ftl: &mut OneFtl, command: &Command<'_>, page: &mut [u8]) -> Reply
     requires playable { IsPlayable (geometry_of ftl.old) command.now }
     requires no_read { command.now.op ≢ ops.Read }
-    requires buffer { length page.old ≡ page_bytes_of (geometry_of ftl.old) }
+    requires buffer { length page.old ≡ page_bytes ftl.old }
     ensures geometry { geometry_of ftl.new ≡ geometry_of ftl.old }
     ensures refused { is_worn_reply result
         ≡ is_refused (geometry_of ftl.old) (stock_of ftl.old) command.now }

@@ -2,9 +2,11 @@
 ghost use Rattle.std.specs.Prelude.{◌≡◌, ◌+◌, ◌-◌, ◌^◌, [], ◌∷◌, length, true, false};
 ghost use Rattle.die.specs.Die as die;
 ghost use Rattle.die.specs.Die.{ChangesBlock, IsNext, IsProgrammed, IsUsable, block_of, copybacks_of, geometry_of, one_more};
+ghost use Rattle.die.specs.Die.{blocks, endurance, page_bytes, pages};
 ghost use Rattle.die.specs.{Pages.Block, Pages.Page, Pages.erased, Pages.new_block, Pages.page_at, Pages.programmed, Storage.PutsSlot, Storage.slot};
 ghost use Rattle.die.specs.{Storage.IsSound, Storage.unused, declared.die.Die.Die};
-ghost use Rattle.geometry.specs.{Geometry.blocks_of, Geometry.pages_of, declared.geometry.Geometry.Geometry};
+ghost use Rattle.geometry.specs.Geometry.{blocks_of, endurance_of, page_bytes_of, pages_of};
+ghost use Rattle.geometry.specs.declared.geometry.Geometry.{Geometry};
 ghost use Rattle.laws.specs.Blocks.{at, in_state};
 
 /// What a program and an erase make of a block, and what a read of it returns.
@@ -26,20 +28,20 @@ pub fn pages_of_a_block()
 pub fn a_die_after_a_command()
     ensures stays { (x : Die) → ChangesBlock x x 1 (block_of x 1) }
     ensures changed { (x y : Die) (k : Block) → ChangesBlock x y 1 k → block_of y 1 ≡ k }
-    ensures first { (x y : Die) (k : Block) → blocks_of (geometry_of x) ≡ 3
+    ensures first { (x y : Die) (k : Block) → blocks x ≡ 3
         → ChangesBlock x y 1 k → block_of y 0 ≡ block_of x 0 }
-    ensures last { (x y : Die) (k : Block) → blocks_of (geometry_of x) ≡ 3
+    ensures last { (x y : Die) (k : Block) → blocks x ≡ 3
         → ChangesBlock x y 1 k → block_of y 2 ≡ block_of x 2 }
     ensures numbers { (x y : Die) (k : Block)
         → ChangesBlock x y 1 k → geometry_of y ≡ geometry_of x }
-    ensures usable { (x : Die) → blocks_of (geometry_of x) ≡ 3
+    ensures usable { (x : Die) → blocks x ≡ 3
         → (block_of x 2).retired ≡ false → IsUsable x 2 }
-    ensures no_block { (x : Die) → blocks_of (geometry_of x) ≡ 3 → ¬ IsUsable x 3 }
+    ensures no_block { (x : Die) → blocks x ≡ 3 → ¬ IsUsable x 3 }
     ensures retired { (x : Die) → (block_of x 2).retired ≡ true → ¬ IsUsable x 2 }
-    ensures next { (x : Die) → IsUsable x 2 → pages_of (geometry_of x) ≡ 2
+    ensures next { (x : Die) → IsUsable x 2 → pages x ≡ 2
         → length (block_of x 2).pages ≡ 1 → IsNext x (at 2 1) }
     ensures not_next { (x : Die) → length (block_of x 2).pages ≡ 1 → ¬ IsNext x (at 2 0) }
-    ensures full { (x : Die) → pages_of (geometry_of x) ≡ 1 → ¬ IsNext x (at 2 1) }
+    ensures full { (x : Die) → pages x ≡ 1 → ¬ IsNext x (at 2 1) }
     ensures next_usable { (x : Die) → (block_of x 2).retired ≡ true
         → (¬ IsNext x (at 2 0)) × (¬ IsProgrammed x (at 2 0)) }
     ensures is_programmed { (x : Die) → IsUsable x 2
@@ -49,6 +51,9 @@ pub fn a_die_after_a_command()
         → (block_of x 2 ≡ new_block) × (copybacks_of x ≡ 0) × (geometry_of x ≡ g) }
     ensures used { (x : Die) (g : Geometry) → blocks_of g ≡ 3
         → (block_of x 2).erases ≡ 1 → ¬ die.IsNew x g }
+    ensures counts { (x : Die) (g : Geometry) → geometry_of x ≡ g
+        → (blocks x ≡ blocks_of g) × (pages x ≡ pages_of g)
+        × (page_bytes x ≡ page_bytes_of g) × (endurance x ≡ endurance_of g) }
 {}
 
 /// Where a page's bytes are among those of all pages, and what a die keeps true of a block.

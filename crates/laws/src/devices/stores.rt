@@ -1,11 +1,13 @@
-//! Laws of what the commands on a store leave of its blocks.
+//! Laws of what the commands on a store leave of its blocks, and of the counts of the layer above it.
 ghost use Rattle.std.specs.Prelude.{◌≡◌, ◌+◌, [], ◌∷◌, None, true, false, length, replicate, Some};
 ghost use Rattle.die.specs.Die as die;
 ghost use Rattle.die.specs.{declared.die.Die.Die, Pages.new_block};
 ghost use Rattle.ftl_one.specs.{Collections.copybacks_after, Entries.IsMapped, Stock.Entry, declared.store.Store.Store};
 ghost use Rattle.ftl_one.specs.Store.{Clears, ErasesBlock, Forgets, HasRoom, HasRoomFor, KeepsBlocks, Puts, array_of, entries_of, erases_of, retired_of};
 ghost use Rattle.ftl_one.specs.Store as store;
-ghost use Rattle.geometry.specs.Geometry.{blocks_of, endurance_of, luns_of, pages_of, sectors_of};
+ghost use Rattle.ftl_one.specs.OneFtl as layer;
+ghost use Rattle.ftl_one.specs.declared.one_ftl.OneFtl.{OneFtl};
+ghost use Rattle.geometry.specs.Geometry.{blocks_of, endurance_of, luns_of, page_bytes_of, pages_of, sectors_of};
 ghost use Rattle.geometry.specs.declared.geometry.Geometry.{Geometry};
 ghost use Rattle.laws.specs.Blocks.{at, dead, live};
 
@@ -61,9 +63,17 @@ pub fn commands_on_a_store()
         → ErasesBlock s t 0 → (entries_of t 2 ≡ entries_of s 2)
         × (erases_of t 2 ≡ erases_of s 2)
         × (retired_of t 2 ≡ retired_of s 2) × (array_of t ≡ array_of s) }
-    ensures copybacks { (d : Die) → blocks_of (die.geometry_of d) ≡ 8
+    ensures copybacks { (d : Die) → die.blocks d ≡ 8
         → luns_of (die.geometry_of d) ≡ 2 → die.copybacks_of d ≡ 6
         → (copybacks_after d (at 2 0) (at 3 0) ≡ 7) × (copybacks_after d (at 3 0) (at 4 0) ≡ 6) }
+{}
+
+/// The counts of a layer are those of its geometry.
+pub fn counts_of_a_layer()
+    ensures { (l : OneFtl) (g : Geometry) → layer.geometry_of l ≡ g
+        → (layer.sectors l ≡ sectors_of g) × (layer.blocks l ≡ blocks_of g)
+        × (layer.pages l ≡ pages_of g) × (layer.page_bytes l ≡ page_bytes_of g)
+        × (layer.endurance l ≡ endurance_of g) }
 {}
 
 /// What a store keeps true of its map.
