@@ -211,6 +211,11 @@ def over_device_twice(shop, name):
     return f"{told[0]} under AddressSanitizer, {told[1]} under ThreadSanitizer" if told[0] else "under both sanitizers"
 
 
+def requests_by_themselves(shop):
+    """Whether a request has a handle while it waits for a sector."""
+    return over_device(shop, "requests", "address", ("requests",))
+
+
 def refusals_at_the_end(shop):
     """Small devices of random numbers: no write is refused early, and after each trim in a block that can be erased one is done."""
     return over_device_twice(shop, "to_the_end")
@@ -481,10 +486,10 @@ def sanitized(shop, kind):
 
 # The parts that have to refuse wrong plugins.
 REFUSING = {part.__name__: part for part in (
-    overlaps, handles, resting_brooms, worn_out, by_qemu_io, a_map_of_holes, mixed_sizes, there_and_back, stock_by_itself, refusals_at_the_end,
-    trims_at_the_end, cold_data, lives, trims_inwards, told_by_the_protocol, worn_choices, marks_out_of_reach, faults.refused_resources, reports.statistics,
-    reports.aged_at_start, images.image_file, images.killed, images.reads_beside_writes, images.power_cuts, layers.in_layers,
-    guests.files_and_a_database, failures.failing_image, times.of_commands, times.under_collection)}
+    overlaps, handles, resting_brooms, worn_out, by_qemu_io, a_map_of_holes, mixed_sizes, there_and_back, stock_by_itself, requests_by_themselves,
+    refusals_at_the_end, trims_at_the_end, cold_data, lives, trims_inwards, told_by_the_protocol, worn_choices, marks_out_of_reach,
+    faults.refused_resources, reports.statistics, reports.aged_at_start, images.image_file, images.killed, images.reads_beside_writes,
+    images.power_cuts, layers.in_layers, guests.files_and_a_database, failures.failing_image, times.of_commands, times.under_collection)}
 REFUSING |= {f"{kind}_sanitizer": functools.partial(sanitized, kind=kind) for kind in ("address", "thread")}
 REFUSING["image_thread_sanitizer"] = functools.partial(images.image_sanitized, kind="thread")
 
@@ -533,6 +538,7 @@ def chosen(options):
         "help and page": faults.help_and_page,
         "the page's lines": files.the_page,
         "stock by itself": stock_by_itself,
+        "requests by themselves": requests_by_themselves,
         "refusals at the end": refusals_at_the_end,
         "trims at the end": trims_at_the_end,
         "cold data by itself": cold_data,

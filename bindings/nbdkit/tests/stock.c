@@ -11,6 +11,15 @@ static void blocks_of_brooms(void) {
     stock_end(&stock);
 }
 
+static void two_requests(void) {
+    begin(2, 1, 6, 1);
+    struct host *first = stock_take(&stock), *second = stock_take(&stock);
+    want(first != second, "a handle that is in use is given to another request too");
+    stock_give(&stock, first);
+    stock_give(&stock, second);
+    stock_end(&stock);
+}
+
 // A last try takes a block that the library has freed, and that is counted only later: it may not be counted twice.
 static void a_block_that_is_counted_late(void) {
     begin(2, 1, 4, 1);
@@ -278,9 +287,9 @@ static void many_requests(void) {
 
 int main(void) {
     static void (*const tests[])(void) = {
-        blocks_of_brooms, a_block_that_is_counted_late, a_search_that_comes_too_late, a_block_that_comes_late, marks_of_a_device_that_wears_out,
-        a_broom_that_gains_little, a_long_request, a_handle_that_is_kept, a_budget, no_page_for_hosts, brooms_that_are_not_needed, a_broom_that_leaves,
-        many_requests,
+        blocks_of_brooms, two_requests, a_block_that_is_counted_late, a_search_that_comes_too_late, a_block_that_comes_late,
+        marks_of_a_device_that_wears_out, a_broom_that_gains_little, a_long_request, a_handle_that_is_kept, a_budget, no_page_for_hosts,
+        brooms_that_are_not_needed, a_broom_that_leaves, many_requests,
     };
     alarm(10 * PATIENCE_S);
     for (size_t i = 0; i < sizeof tests / sizeof *tests && failures == 0; i++)
