@@ -63,10 +63,9 @@ def law_of(edit):
 
 
 def misfits(all_edits, texts):
-    """What is wrong with these edits."""
-    for it in all_edits:
-        yield from [] if place_of(it, texts) else [f"{it.place} changes a text that isn't in {it.definition} of {it.crate} exactly once"]
-        yield from [] if law_of(it) else [f"{it.place} names {it.law} {it.clause}, which is no clause of a law"]
+    """What is wrong with edits: an old text that isn't in the definition exactly once, or a law that has no such clause."""
+    yield from (f"{it.place} changes a text that isn't in {it.definition} of {it.crate} exactly once" for it in all_edits if not place_of(it, texts))
+    yield from (f"{it.place} names {it.law} {it.clause}, which is no clause of a law" for it in all_edits if not law_of(it))
 
 
 def part_of(text, wanted):
