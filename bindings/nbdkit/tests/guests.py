@@ -34,7 +34,7 @@ while true; do
   /e2fsck -fn /dev/vda > /checked 2>&1; echo "e2fsck $?"; grep -v '^Pass' /checked
   mount -t ext4 /dev/vda /disk; echo "plays $turn"
   (i=0; while echo $i > /disk/new && mv /disk/new /disk/f$((i % 7)) && sync -f /disk; do i=$((i + 1)); done 2> /dev/null) &
-  mode=delete; [ $((turn % 2)) = 0 ] || mode=wal
+  mode=delete; [ $((turn / 2 % 2)) = 0 ] || mode=wal
   (echo "pragma journal_mode=$mode; pragma synchronous=extra;"; cat /transactions) | /sqlite3 -bail /disk/t.db > /dev/console 2>&1
   wait; umount /disk; echo "ended $turn"
   turn=$((turn + 1))
@@ -86,9 +86,9 @@ def new_disk(shop, image):
 
 
 def served(shop, turn, image, door):
-    """The server of a turn: one that is killed, in each mode, or in each fourth turn one whose power is cut."""
-    is_cut = turn % 4 == 3
-    words = ["sync=flush", "cut=0", f"seed={turn}"] if is_cut else [f"sync={MODES[turn % 4]}"]
+    """The server of a turn: one that is killed, in each mode, or in each second turn one whose power is cut."""
+    is_cut = turn % 2 == 1
+    words = ["sync=flush", "cut=0", f"seed={turn}"] if is_cut else [f"sync={MODES[turn // 2 % 3]}"]
     server = Server(shop, *words, image=image)
     server.is_cut = is_cut
     new = shop.folder / "new-door"
@@ -135,4 +135,4 @@ def files_and_a_database(shop, seed=1):
     kill(machine.process)
     shop.started.remove(machine.process)
     server.stop()
-    return f"{turns} ends of its server, of which {turns // 4} were power cuts, and {total} transactions"
+    return f"{turns} ends of its server, of which {turns // 2} were power cuts, and {total} transactions"

@@ -259,15 +259,15 @@ class Server:
         if kind == "thread":
             call = ["setarch", "-R", *call]  # ThreadSanitizer wants the usual places of memory
         self.process = shop.start(call, self.log, env=environment)
-        self.wait_until(lambda: self.process.poll() is not None or (pid.exists() and pid.stat().st_size), 60, "start")
-        want(self.process.poll() is None, f"the server ended:\n{self.log.read_text()}")
+        self.wait_until(lambda: pid.exists() and pid.stat().st_size, 60, "start")
         shop.run(["nbdinfo", "--size", self.uri], 20)
 
     def wait_until(self, is_so, seconds, what):
         began = time.monotonic()
         while not is_so():
+            status = self.process.poll()  # before the log, so that this is whole if the server has ended
             told = self.log.read_text(errors="replace")[-3000:]
-            want(self.process.poll() is None, f"the server ended with status {self.process.returncode} and didn't {what}:\n{told}")
+            want(status is None, f"the server ended with status {status} and didn't {what}:\n{told}")
             want(time.monotonic() < began + self.shop.patience(seconds), f"the server didn't {what} within {seconds} s:\n{told}")
             time.sleep(0.005)
 
