@@ -1,4 +1,3 @@
-use crate::assertions::expect;
 use geometry::{Geometry, GeometryFault, put_word, word_at};
 use std::test::Fail;
 
@@ -75,10 +74,10 @@ const BEYOND: [([u32; 8], GeometryFault); 25] = [
 #[test]
 fn each_number_has_its_limits(rt: HostRuntime) -> Result<(), Fail> {
     for numbers in ENDS {
-        expect(&rt, geometry_of(numbers).is_ok(), &numbers);
+        assert!(rt; geometry_of(numbers).is_ok(), "{numbers:?}");
     }
     for (numbers, fault) in BEYOND {
-        expect(&rt, geometry_of(numbers) == Err(fault), &numbers);
+        assert!(rt; geometry_of(numbers) == Err(fault), "{numbers:?}");
     }
     Ok(())
 }

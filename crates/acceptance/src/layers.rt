@@ -1,7 +1,6 @@
 ghost use Rattle.std.specs.Prelude.{◌≡◌};
 ghost use Rattle.ftl_one.specs.OneFtl.{page_bytes};
 
-use crate::assertions::expect;
 use ftl_one::{NewOneFault, OneFtl};
 use geometry::{Geometry, Got, Was};
 use std::alloc::Global;
@@ -124,10 +123,10 @@ fn check_row(rt: &(impl Abort + AllocGlobal), row: Row) -> Result<(), Fail> {
             layer.read(rt, 2).unwrap_or(0),
         ],
     );
-    expect(
-        rt,
+    assert!(rt;
         found == (row.refused, row.totals, row.sectors),
-        &row.name,
+        "{:?}",
+        row.name
     );
     Ok(())
 }

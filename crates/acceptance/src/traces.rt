@@ -1,4 +1,3 @@
-use crate::assertions::expect;
 use geometry::Geometry;
 use std::alloc::Global;
 use std::io;
@@ -64,7 +63,7 @@ fn each_faulty_record_has_its_fault(rt: HostRuntime) -> Result<(), Fail> {
         (UNUSED, kind::Unused),
     ] {
         let all = all_have(rt.alloc(), &geometry, records, at(1, fault));
-        expect(&rt, all, &fault);
+        assert!(rt; all, "{fault:?}");
     }
     Ok(())
 }
@@ -119,7 +118,7 @@ fn is_one(commands: &Commands, op: Op, sector: u32, page: Option<[u8; 8]>) -> bo
 fn accepted_records_are_commands(rt: HostRuntime) -> Result<(), Fail> {
     for (name, text, op, sector, page) in ACCEPTED {
         let commands = commands(rt.alloc(), text.as_bytes())?;
-        expect(&rt, is_one(&commands, op, sector, page), &name);
+        assert!(rt; is_one(&commands, op, sector, page), "{name:?}");
     }
     Ok(())
 }
@@ -138,7 +137,7 @@ fn records_end_as_csv_says(rt: HostRuntime) -> Result<(), Fail> {
     for (texts, count) in [(NONE, 0), (ONE, 1), (TWO, 2)] {
         for text in texts.split('|') {
             let commands = commands(rt.alloc(), text.as_bytes())?;
-            expect(&rt, commands.len() == count, &text);
+            assert!(rt; commands.len() == count, "{text:?}");
         }
     }
     Ok(())
@@ -165,7 +164,7 @@ fn the_first_faulty_record_is_named_by_its_line(rt: HostRuntime) -> Result<(), F
         (FIRST_OP, 1, kind::Op),
     ] {
         let all = all_have(rt.alloc(), &geometry, texts, at(line, fault));
-        expect(&rt, all, &fault);
+        assert!(rt; all, "{fault:?}");
     }
     Ok(())
 }
@@ -180,7 +179,7 @@ fn each_beginning_of_a_line_has_its_answer(rt: HostRuntime) -> Result<(), Fail> 
             11 => at(1, kind::Hex),
             _ => at(1, kind::Fields),
         };
-        expect(&rt, first_fault(rt.alloc(), &line[..k])? == answer, &k);
+        assert!(rt; first_fault(rt.alloc(), &line[..k])? == answer, "{k:?}");
     }
     Ok(())
 }
@@ -195,7 +194,7 @@ fn bytes_that_are_not_text_have_their_faults(rt: HostRuntime) -> Result<(), Fail
         (b"0,write,0,\xff\xff".as_slice(), kind::Hex),
         (b"0,read,0,\xff\xff".as_slice(), kind::Unused),
     ] {
-        expect(&rt, first_fault(rt.alloc(), text)? == at(1, fault), &fault);
+        assert!(rt; first_fault(rt.alloc(), text)? == at(1, fault), "{fault:?}");
     }
     Ok(())
 }
@@ -220,7 +219,7 @@ fn long_texts_have_their_faults(rt: HostRuntime) -> Result<(), Fail> {
     for (front, byte, count, fault) in wanted {
         let text = padded(rt.alloc(), front, byte, count)?;
         let found = first_fault(rt.alloc(), text.as_slice())?;
-        expect(&rt, found == fault, &front);
+        assert!(rt; found == fault, "{front:?}");
     }
     Ok(())
 }
@@ -244,7 +243,7 @@ fn numbers_end_at_their_limits(rt: HostRuntime) -> Result<(), Fail> {
         (&two_hosts, "1,read,0,", None),
         (&two_hosts, "2,read,0,", at(1, kind::Worker)),
     ] {
-        expect(&rt, all_have(rt.alloc(), geometry, texts, fault), &texts);
+        assert!(rt; all_have(rt.alloc(), geometry, texts, fault), "{texts:?}");
     }
     Ok(())
 }
@@ -307,10 +306,9 @@ fn loads(alloc: Global, text: &[u8], size: usize) -> Result<bool, Fail> {
 #[test]
 fn a_trace_is_read_to_its_end(rt: HostRuntime) -> Result<(), Fail> {
     for size in [1, 5, 100] {
-        expect(
-            &rt,
+        assert!(rt;
             loads(rt.alloc(), b"0,write,0,41\n0,read,0,\n", size)?,
-            &size,
+            "{size:?}"
         );
     }
     Ok(())
@@ -439,7 +437,7 @@ fn a_stream_that_never_fails_has_no_failure(rt: HostRuntime) -> Result<(), Fail>
     let mut bytes = Vec::new(rt.alloc());
     for size in [1, 2, 511, 4_096, 65_536, 80_000] {
         bytes.resize(size, 0)?;
-        expect(&rt, takes_all(&mut watched, &mut bytes), &size);
+        assert!(rt; takes_all(&mut watched, &mut bytes), "{size:?}");
     }
     let counts = (watched.failures(), watched.inner().flushes);
     assert!(rt; (counts, watched.into_inner().flushes) == ((0, 6), 6));

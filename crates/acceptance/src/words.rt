@@ -1,4 +1,3 @@
-use crate::assertions::{expect, prints_as};
 use geometry::{MapWord, NEXT_PHASE, PAGE_WRITTEN, Phase, PinWord, TAKEN, freed, kept};
 use std::test::Fail;
 
@@ -49,10 +48,10 @@ fn pin_words_have_readers_phase_pages_and_generation(rt: HostRuntime) -> Result<
             generation,
         };
         let is_same = PinWord::unpack(word) == Some(pin) && pin.pack() == word;
-        expect(&rt, is_same, &pin);
+        assert!(rt; is_same, "{pin:?}");
     }
     for word in NO_PIN_WORDS {
-        expect(&rt, PinWord::unpack(word) == None, &word);
+        assert!(rt; PinWord::unpack(word) == None, "{word:?}");
     }
     Ok(())
 }
@@ -71,19 +70,15 @@ fn packed_words_print_their_parts(rt: HostRuntime) -> Result<(), Fail> {
         block: 2,
         page: 3,
     };
-    assert!(rt; prints_as(rt.alloc(), &page, "block 2 page 3 generation 1")?);
+    let shown = format!(in rt.alloc(); "{page}")?;
+    assert!(rt; shown.as_str() == "block 2 page 3 generation 1");
     let pin = PinWord {
         readers: 2,
         phase: Phase::Closed,
         written: 2,
         generation: 5,
     };
-    assert!(rt;
-        prints_as(
-            rt.alloc(),
-            &pin,
-            "closed, 2 written, generation 5, 2 readers"
-        )?
-    );
+    let shown = format!(in rt.alloc(); "{pin}")?;
+    assert!(rt; shown.as_str() == "closed, 2 written, generation 5, 2 readers");
     Ok(())
 }

@@ -1,16 +1,10 @@
 use nand::{Chip, Cut, Durable, Extent, Failure, Got, MountFault, Nand, OpenFailure, Shape, Was};
 use std::alloc::Global;
-use std::fmt::Debug;
 use std::process::Abort;
 use std::test::Fail;
 
 /// How many sectors the devices of these tests have at most.
 pub(crate) const SECTORS: usize = 16;
-
-/// Ends the test with the row if it doesn't hold.
-pub(crate) fn expect(rt: &impl Abort, holds: bool, row: &impl Debug) {
-    assert!(rt; holds, "{row:?}");
-}
 
 /// A chip whose pages have one byte.
 pub(crate) fn chip(alloc: Global, blocks: u32, pages: u32) -> Result<Chip, Fail> {
@@ -34,7 +28,7 @@ pub(crate) fn open(
     match Durable::open(rt.alloc(), chip, sectors) {
         Ok(layer) => Some(layer),
         Err(refused) => {
-            expect(rt, false, &refused.why);
+            assert!(rt; false, "{:?}", refused.why);
             None
         }
     }
@@ -112,11 +106,11 @@ pub(crate) fn make(
             assert!(rt; sector < layer.sectors());
             match layer.write_new(sector, &[byte]) {
                 Ok(()) => {
-                    expect(rt, held.is_none(), &call);
+                    assert!(rt; held.is_none(), "{call:?}");
                     Ok(())
                 }
                 Err(Failure::Written) => {
-                    expect(rt, held.is_some(), &call);
+                    assert!(rt; held.is_some(), "{call:?}");
                     Ok(())
                 }
                 Err(failure) => Err(failure),
@@ -127,7 +121,7 @@ pub(crate) fn make(
             assert!(rt; within);
             match layer.trim(extent) {
                 Ok(was) => {
-                    expect(rt, (was == Was::Written) == held.is_some(), &call);
+                    assert!(rt; (was == Was::Written) == held.is_some(), "{call:?}");
                     Ok(())
                 }
                 Err(failure) => Err(failure),
@@ -141,7 +135,7 @@ pub(crate) fn marked(rt: &impl Abort, chip: &mut Chip) -> u32 {
     let mut count = 0u32;
     for block in 0..chip.shape().blocks {
         let is_bad = chip.is_bad(block);
-        expect(rt, is_bad.is_ok(), &block);
+        assert!(rt; is_bad.is_ok(), "{block:?}");
         if is_bad == Ok(true) {
             count = count.wrapping_add(1);
         }
@@ -152,7 +146,7 @@ pub(crate) fn marked(rt: &impl Abort, chip: &mut Chip) -> u32 {
 /// Checks that a chip without power is not opened, and gives it power.
 pub(crate) fn power_on(rt: &(impl Abort + AllocGlobal), chip: Chip, sectors: u32) -> Chip {
     let (why, mut chip) = refused(rt, chip, sectors);
-    expect(rt, why == Some(OpenFailure::PowerGone), &why);
+    assert!(rt; why == Some(OpenFailure::PowerGone), "{why:?}");
     chip.power_on();
     chip
 }

@@ -1,4 +1,4 @@
-use crate::bench::{Call, chip, expect, make, marked, open, power_on, read};
+use crate::bench::{Call, chip, make, marked, open, power_on, read};
 use crate::random::{Run, start};
 use nand::{Chip, Durable, Failure, Nand};
 use std::process::Abort;
@@ -10,10 +10,9 @@ const WRITES: [(u32, u8); 5] = [(0, 1), (1, 2), (2, 3), (0, 4), (1, 5)];
 
 fn holds(rt: &impl Abort, layer: &mut Durable<Chip>, row: u64) {
     let found = (read(rt, layer, 0), read(rt, layer, 1), read(rt, layer, 2));
-    expect(
-        rt,
+    assert!(rt;
         found == (Ok(Some(4)), Ok(Some(5)), Ok(Some(3))),
-        &(row, found),
+        "{row:?} {found:?}"
     );
 }
 
@@ -26,21 +25,21 @@ fn each_command_fails_in_turn(rt: HostRuntime) -> Result<(), Fail> {
         let Some(mut layer) = open(&rt, nand, 3) else {
             return Ok(());
         };
-        expect(&rt, layer.reserve() == 1, &layer.reserve());
+        assert!(rt; layer.reserve() == 1, "{:?}", layer.reserve());
         for (sector, byte) in WRITES {
             let done = make(&rt, &mut layer, Call::Write(sector, byte), None);
-            expect(&rt, done.is_ok(), &(command, sector, done));
+            assert!(rt; done.is_ok(), "{:?}", (command, sector, done));
         }
         holds(&rt, &mut layer, command);
-        expect(&rt, layer.reserve() == 0, &(command, layer.reserve()));
+        assert!(rt; layer.reserve() == 0, "{:?}", (command, layer.reserve()));
         let mut nand = layer.into_nand();
-        expect(&rt, marked(&rt, &mut nand) == 1, &command);
+        assert!(rt; marked(&rt, &mut nand) == 1, "{command:?}");
         assert!(rt; nand.violations() == 0);
         let Some(mut layer) = open(&rt, nand, 3) else {
             return Ok(());
         };
         holds(&rt, &mut layer, command);
-        expect(&rt, layer.reserve() == 0, &(command, layer.reserve()));
+        assert!(rt; layer.reserve() == 0, "{:?}", (command, layer.reserve()));
     }
     Ok(())
 }
@@ -54,31 +53,32 @@ fn one_failure_more_than_the_reserve_has(rt: HostRuntime) -> Result<(), Fail> {
         let Some(mut layer) = open(&rt, nand, 3) else {
             return Ok(());
         };
-        expect(
-            &rt,
-            layer.reserve() == 3u32.saturating_sub(failure),
-            &(failure, layer.reserve()),
+        let reserve = layer.reserve();
+        assert!(rt;
+            reserve == 3u32.saturating_sub(failure),
+            "{:?}",
+            (failure, reserve)
         );
         let done = make(&rt, &mut layer, Call::Write(failure % 3, 7), None);
         if failure < 3 {
-            expect(&rt, done.is_ok(), &(failure, done));
+            assert!(rt; done.is_ok(), "{:?}", (failure, done));
         } else {
-            expect(&rt, done == Err(Failure::Failed), &(failure, done));
+            assert!(rt; done == Err(Failure::Failed), "{:?}", (failure, done));
             let next = make(&rt, &mut layer, Call::Write(1, 8), None);
-            expect(&rt, next == Err(Failure::Closed), &next);
+            assert!(rt; next == Err(Failure::Closed), "{next:?}");
         }
         nand = layer.into_nand();
     }
-    expect(&rt, marked(&rt, &mut nand) == 3, &3);
+    assert!(rt; marked(&rt, &mut nand) == 3);
     let Some(mut layer) = open(&rt, nand, 3) else {
         return Ok(());
     };
     for sector in 0..3 {
         let found = read(&rt, &mut layer, sector);
-        expect(&rt, found == Ok(Some(7)), &(sector, found));
+        assert!(rt; found == Ok(Some(7)), "{:?}", (sector, found));
     }
     let done = make(&rt, &mut layer, Call::Write(1, 8), None);
-    expect(&rt, done.is_ok(), &done);
+    assert!(rt; done.is_ok(), "{done:?}");
     Ok(())
 }
 
@@ -102,7 +102,7 @@ fn a_cut_after_a_failure(rt: HostRuntime) -> Result<(), Fail> {
                 layer = again;
                 done = make(&rt, &mut layer, Call::Write(sector, byte), None);
             }
-            expect(&rt, done.is_ok(), &(command, sector, done));
+            assert!(rt; done.is_ok(), "{:?}", (command, sector, done));
         }
         holds(&rt, &mut layer, command);
     }
@@ -134,14 +134,14 @@ fn play(rt: &(impl Abort + AllocGlobal), mut run: Run, mut chip: Chip, rounds: u
         let before = layer.reserve();
         let stopped = run.until_failure(&mut layer, rt, 100);
         let reserve = layer.reserve();
-        expect(rt, reserve <= before, &(run.calls, before, reserve));
+        assert!(rt; reserve <= before, "{:?}", (run.calls, before, reserve));
         chip = layer.into_nand();
         if let Some((_, failure)) = stopped {
             if failure == Failure::PowerGone {
                 chip = power_on(rt, chip, run.sectors);
             } else {
                 let told = failure == Failure::Failed && reserve == 0;
-                expect(rt, told, &(run.calls, failure, reserve));
+                assert!(rt; told, "{:?}", (run.calls, failure, reserve));
             }
         }
         let Some(mut layer) = open(rt, chip, run.sectors) else {
@@ -151,10 +151,10 @@ fn play(rt: &(impl Abort + AllocGlobal), mut run: Run, mut chip: Chip, rounds: u
         let left = layer.reserve();
         chip = layer.into_nand();
         let all = marked(rt, &mut chip).wrapping_add(left);
-        expect(rt, all == most, &(all, left));
+        assert!(rt; all == most, "{:?}", (all, left));
     }
-    expect(rt, chip.violations() == 0, &chip.violations());
-    expect(rt, marked(rt, &mut chip) == most, &most);
+    assert!(rt; chip.violations() == 0, "{:?}", chip.violations());
+    assert!(rt; marked(rt, &mut chip) == most, "{most:?}");
 }
 
 #[test]

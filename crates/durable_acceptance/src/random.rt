@@ -1,6 +1,6 @@
 ghost use Rattle.std.specs.Prelude.{◌≤◌};
 
-use crate::bench::{Call, SECTORS, chip, expect, make, open, power_on, read};
+use crate::bench::{Call, SECTORS, chip, make, open, power_on, read};
 use nand::{Chip, Cut, Durable, Extent, Failure, Shape};
 use std::process::Abort;
 use std::test::Fail;
@@ -106,7 +106,7 @@ impl Run {
             before &= found == Ok(self.held(sector));
             after &= cut_short.is_some_and(|call| found == Ok(self.after(call, sector)));
         }
-        expect(rt, before || after, &(self.calls, cut_short));
+        assert!(rt; before || after, "{:?}", (self.calls, cut_short));
         if let (true, Some(call)) = (after, cut_short) {
             self.note(call);
         }
@@ -116,7 +116,11 @@ impl Run {
     fn until_cut(&mut self, rt: &impl Abort, layer: &mut Durable<Chip>, most: u64) -> Option<Call> {
         match self.until_failure(layer, rt, most) {
             Some((call, failure)) => {
-                expect(rt, failure == Failure::PowerGone, &(self.calls, failure));
+                assert!(rt;
+                    failure == Failure::PowerGone,
+                    "{:?}",
+                    (self.calls, failure)
+                );
                 Some(call)
             }
             None => None,
@@ -178,8 +182,8 @@ fn play(rt: &(impl Abort + AllocGlobal), mut run: Run, mut chip: Chip, calls: u6
         run.check(rt, &mut layer, cut_short);
         chip = layer.into_nand();
     }
-    expect(rt, chip.violations() == 0, &chip.violations());
-    expect(rt, run.cuts > calls / 200, &(run.calls, run.cuts));
+    assert!(rt; chip.violations() == 0, "{:?}", chip.violations());
+    assert!(rt; run.cuts > calls / 200, "{:?}", (run.calls, run.cuts));
 }
 
 #[test]
@@ -194,14 +198,14 @@ fn a_cut_at_each_command_in_turn(rt: HostRuntime) -> Result<(), Fail> {
                 return Ok(());
             };
             let cut_short = run.until_cut(&rt, &mut layer, 1000);
-            expect(&rt, cut_short.is_some(), &command);
+            assert!(rt; cut_short.is_some(), "{command:?}");
             let chip = power_on(&rt, layer.into_nand(), 3);
             let Some(mut layer) = open(&rt, chip, 3) else {
                 return Ok(());
             };
             run.check(&rt, &mut layer, cut_short);
             let more = run.until_cut(&rt, &mut layer, 40);
-            expect(&rt, more.is_none(), &command);
+            assert!(rt; more.is_none(), "{command:?}");
             run.check(&rt, &mut layer, None);
         }
     }

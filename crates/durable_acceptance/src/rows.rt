@@ -1,4 +1,4 @@
-use crate::bench::{Call, chip, expect, make, open, power_on, read};
+use crate::bench::{Call, chip, make, open, power_on, read};
 use nand::{Change, Chip, Cut, Durable, Extent, Failure, Nand, PageAddr, Reading, Shape};
 use std::process::Abort;
 use std::test::Fail;
@@ -33,15 +33,12 @@ fn check_row(
     };
     for (i, (sector, byte)) in WRITES.iter().enumerate() {
         let done = make(rt, &mut layer, Call::Write(*sector, *byte), None);
-        expect(rt, done.is_ok() == (i < 4), &(command, cut, i));
-        expect(rt, done.is_ok() || done == Err(Failure::PowerGone), &done);
+        assert!(rt; done.is_ok() == (i < 4), "{:?}", (command, cut, i));
+        assert!(rt; done.is_ok() || done == Err(Failure::PowerGone), "{done:?}");
     }
     let chip = power_on(rt, layer.into_nand(), 3);
-    expect(
-        rt,
-        chip.commands() == command.wrapping_add(1),
-        &chip.commands(),
-    );
+    let commands = chip.commands();
+    assert!(rt; commands == command.wrapping_add(1), "{commands}");
     let Some(mut layer) = open(rt, chip, 3) else {
         return Ok(());
     };
@@ -50,10 +47,9 @@ fn check_row(
         read(rt, &mut layer, 1),
         read(rt, &mut layer, 2),
     );
-    expect(
-        rt,
+    assert!(rt;
         found == (Ok(Some(4)), Ok(Some(holds)), Ok(Some(3))),
-        &(command, cut, found),
+        "{command:?} {cut:?} {found:?}"
     );
     Ok(())
 }
@@ -83,12 +79,11 @@ fn each_write_counts_its_commands(rt: HostRuntime) -> Result<(), Fail> {
         return Ok(());
     };
     for (call, held, counted) in TALLIES {
-        expect(&rt, make(&rt, &mut layer, call, held).is_ok(), &call);
+        assert!(rt; make(&rt, &mut layer, call, held).is_ok(), "{call:?}");
         let tally = layer.tally();
-        expect(
-            &rt,
+        assert!(rt;
             (tally.programs, tally.copies, tally.erases) == counted,
-            &(call, tally),
+            "{call:?} {tally:?}"
         );
     }
     Ok(())
@@ -114,19 +109,18 @@ fn a_command_that_fails_loses_nothing(rt: HostRuntime) -> Result<(), Fail> {
                 layer = again;
                 done = make(&rt, &mut layer, Call::Write(sector, byte), None);
             }
-            expect(&rt, done.is_ok(), &(command, sector, done));
+            assert!(rt; done.is_ok(), "{:?}", (command, sector, done));
         }
         let found = (
             read(&rt, &mut layer, 0),
             read(&rt, &mut layer, 1),
             read(&rt, &mut layer, 2),
         );
-        expect(
-            &rt,
+        assert!(rt;
             found == (Ok(Some(4)), Ok(Some(5)), Ok(Some(3))),
-            &(command, found),
+            "{command:?} {found:?}"
         );
-        expect(&rt, failures == 1, &(command, failures));
+        assert!(rt; failures == 1, "{:?}", (command, failures));
         assert!(rt; layer.into_nand().violations() == 0);
     }
     Ok(())
@@ -159,7 +153,7 @@ fn a_list_of_calls_goes_on_after_a_failure(rt: HostRuntime) -> Result<(), Fail> 
             assert!(rt; read(&rt, &mut layer, 1) == Ok(None));
             assert!(rt; read(&rt, &mut layer, 2) == Ok(Some(9)));
         }
-        Err(refused) => expect(&rt, false, &refused.why),
+        Err(refused) => assert!(rt; false, "{:?}", refused.why),
     }
     Ok(())
 }
@@ -182,16 +176,8 @@ fn a_page_that_is_lost_cannot_be_read(rt: HostRuntime) -> Result<(), Fail> {
     let Some(mut layer) = open(&rt, chip(rt.alloc(), 3, 2)?, 3) else {
         return Ok(());
     };
-    expect(
-        &rt,
-        make(&rt, &mut layer, Call::Write(0, 1), None).is_ok(),
-        &1,
-    );
-    expect(
-        &rt,
-        make(&rt, &mut layer, Call::Write(0, 2), None).is_ok(),
-        &2,
-    );
+    assert!(rt; make(&rt, &mut layer, Call::Write(0, 1), None).is_ok());
+    assert!(rt; make(&rt, &mut layer, Call::Write(0, 2), None).is_ok());
     let mut nand = layer.into_nand();
     let at = PageAddr { block: 0, page: 1 };
     nand.lose_page(at);
@@ -206,7 +192,7 @@ fn a_trim_of_many_sectors_programs_one_page(rt: HostRuntime) -> Result<(), Fail>
     };
     for sector in 0..64 {
         let written = make(&rt, &mut layer, Call::Write(sector, 7), None);
-        expect(&rt, written.is_ok(), &sector);
+        assert!(rt; written.is_ok(), "{sector:?}");
     }
     let most = Extent {
         first: 1,
@@ -227,7 +213,7 @@ fn a_trim_of_many_sectors_programs_one_page(rt: HostRuntime) -> Result<(), Fail>
     };
     for sector in 0..64 {
         let held = (sector == 0 || sector == 63).then_some(7);
-        expect(&rt, read(&rt, &mut layer, sector) == Ok(held), &sector);
+        assert!(rt; read(&rt, &mut layer, sector) == Ok(held), "{sector:?}");
     }
     Ok(())
 }
@@ -237,7 +223,7 @@ fn fill(rt: &impl Abort, layer: &mut Durable<Chip>) {
     for round in 0..90u8 {
         for sector in 0..4 {
             let written = make(rt, layer, Call::Write(sector, round), None);
-            expect(rt, written.is_ok(), &(round, sector));
+            assert!(rt; written.is_ok(), "{:?}", (round, sector));
         }
     }
 }
@@ -253,7 +239,7 @@ fn free_blocks_are_erased_in_turn(rt: HostRuntime) -> Result<(), Fail> {
     assert!(rt; chip.erases(9) == 0);
     for block in 0..9 {
         let erases = chip.erases(block);
-        expect(&rt, erases >= 7 && erases <= 13, &(block, erases));
+        assert!(rt; erases >= 7 && erases <= 13, "{:?}", (block, erases));
     }
     Ok(())
 }
@@ -272,7 +258,7 @@ fn a_block_that_was_erased_often_rests(rt: HostRuntime) -> Result<(), Fail> {
     for block in 1..10 {
         let erases = chip.erases(block);
         let rests = erases == 0 && block == 3;
-        expect(&rt, rests || erases >= 7 && block != 3, &(block, erases));
+        assert!(rt; rests || erases >= 7 && block != 3, "{:?}", (block, erases));
     }
     Ok(())
 }
@@ -298,7 +284,7 @@ fn each_block_tells_its_live_sectors(rt: HostRuntime) -> Result<(), Fail> {
     }
     assert!(rt; layer.live(0).is_none() && layer.live(6).is_none());
     let spared = layer.reserve().saturating_add(1);
-    expect(&rt, live == 3 && unused == spared, &(live, unused));
+    assert!(rt; live == 3 && unused == spared, "{:?}", (live, unused));
     Ok(())
 }
 

@@ -1,5 +1,5 @@
 // Several commands of one call fail, and the power goes in one of them or in none.
-use crate::bench::{Call, chip, expect, make, marked, open, power_on, read};
+use crate::bench::{Call, chip, make, marked, open, power_on, read};
 use nand::{Chip, Cut, Durable, Extent, Failure};
 use std::process::Abort;
 use std::test::Fail;
@@ -22,7 +22,7 @@ fn full(rt: &(impl Abort + AllocGlobal)) -> Result<Option<Durable<Chip>>, Fail> 
     };
     for sector in 0..SECTORS {
         let done = make(rt, &mut layer, Call::Write(sector, byte_of(sector)), None);
-        expect(rt, done.is_ok(), &(sector, done));
+        assert!(rt; done.is_ok(), "{:?}", (sector, done));
     }
     Ok(Some(layer))
 }
@@ -100,32 +100,29 @@ fn play(
     let done = make(rt, &mut layer, call, Some(0));
     let mut nand = layer.into_nand();
     let (wanted, failed) = harm.outcome(nand.commands().wrapping_sub(first));
-    expect(rt, done == wanted, &(call, harm, done, wanted));
+    assert!(rt; done == wanted, "{:?}", (call, harm, done, wanted));
     if done == Err(Failure::PowerGone) {
         nand = power_on(rt, nand, SECTORS);
     }
     let marks = failed.min(RESERVE);
-    expect(rt, marked(rt, &mut nand) == marks, &(call, harm, marks));
+    assert!(rt; marked(rt, &mut nand) == marks, "{:?}", (call, harm, marks));
     // No more harm: the commands of these numbers are past.
     nand.fail_from(first, 0);
     nand.cut_at(first, Cut::Nothing);
     let Some(mut layer) = open(rt, nand, SECTORS) else {
         return Ok(None);
     };
-    expect(
-        rt,
-        layer.reserve() == RESERVE - marks,
-        &(call, harm, layer.reserve()),
-    );
+    let reserve = layer.reserve();
+    assert!(rt; reserve == RESERVE - marks, "{:?}", (call, harm, reserve));
     let (before, after) = holds(rt, &mut layer, call);
-    expect(
-        rt,
+    assert!(rt;
         after || (before && done.is_err()),
-        &(call, harm, before, after),
+        "{call:?} {harm:?} {before:?} {after:?}"
     );
     let more = make(rt, &mut layer, Call::Write(7, 252), Some(7));
-    expect(rt, more.is_ok(), &(call, harm, more));
-    expect(rt, read(rt, &mut layer, 7) == Ok(Some(252)), &(call, harm));
+    assert!(rt; more.is_ok(), "{:?}", (call, harm, more));
+    let written = read(rt, &mut layer, 7);
+    assert!(rt; written == Ok(Some(252)), "{:?}", (call, harm, written));
     assert!(rt; layer.into_nand().violations() == 0);
     Ok(Some((done, failed)))
 }
@@ -147,11 +144,11 @@ fn each_choice_of_failures_in_one_call(rt: HostRuntime) -> Result<(), Fail> {
             let Some((done, failed)) = play(&rt, call, Harm { mask, cut: None })? else {
                 return Ok(());
             };
-            expect(&rt, done.is_ok() == (failed < 4), &(call, mask, failed));
+            assert!(rt; done.is_ok() == (failed < 4), "{:?}", (call, mask, failed));
             assert!(rt; failed < 5);
             most[failed as usize] = most[failed as usize].wrapping_add(1);
         }
-        expect(&rt, most.iter().all(|count| *count > 0), &(call, most));
+        assert!(rt; most.iter().all(|count| *count > 0), "{:?}", (call, most));
     }
     Ok(())
 }

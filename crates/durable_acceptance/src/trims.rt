@@ -1,4 +1,3 @@
-use crate::bench::expect;
 use durable::{Command, Core, Extent, Mount, PageAddr, Stamp};
 use std::process::Abort;
 use std::test::Fail;
@@ -104,17 +103,17 @@ fn mounted(rt: &(impl Abort + AllocGlobal), pages: [Page; 6]) -> Option<Core> {
 fn check_row(rt: &(impl Abort + AllocGlobal), row: Row) {
     let (pages, kept, free) = row;
     let Some(core) = mounted(rt, pages) else {
-        expect(rt, false, &"it is not mounted");
+        assert!(rt; false, "it is not mounted");
         return;
     };
     assert!(rt; core.sectors() == 3);
     for (sector, place) in kept.into_iter().enumerate() {
         let page = core.page(sector as u32);
         let expected = place.map(|(block, page)| PageAddr { block, page });
-        expect(rt, page == expected, &(sector, page));
+        assert!(rt; page == expected, "{:?}", (sector, page));
     }
     let next = core.next(Extent { first: 0, count: 1 });
-    expect(rt, next == Command::Erase(free), &next);
+    assert!(rt; next == Command::Erase(free), "{next:?}");
 }
 
 #[test]

@@ -1,4 +1,3 @@
-mod assertions;
 mod at_once;
 mod call_gates;
 mod gates;

@@ -1,6 +1,5 @@
 mod all_written;
 mod arguments;
-mod assertions;
 mod by_workers;
 mod fault_texts;
 mod files;

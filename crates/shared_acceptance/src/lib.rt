@@ -6,8 +6,6 @@
 #[cfg(test)]
 mod actors;
 #[cfg(test)]
-mod assertions;
-#[cfg(test)]
 mod caller;
 #[cfg(test)]
 mod closing;

@@ -1,5 +1,4 @@
 //! Workers run at the same time.
-use super::assertions::expect;
 use super::shared_text::text_of;
 use flash_table::{Gate, Point};
 use std::sync::atomic::{AtomicBool, Ordering};
@@ -60,11 +59,10 @@ fn two_workers_wait_for_each_other(rt: HostRuntime) -> Result<(), Fail> {
         let (used, _) = gates.split_at_mut(2 + brooms as usize);
         let text = text_of(&rt, blocks, 2, brooms, TRACE.as_bytes(), 9, used)?;
         let seen = [gates[0].seen, gates[1].seen, gates[2].seen];
-        expect(&rt, seen == [true, true, false], &(blocks, brooms, seen));
-        expect(
-            &rt,
+        assert!(rt; seen == [true, true, false], "{:?}", (blocks, brooms, seen));
+        assert!(rt;
             text.as_slice() == ANSWERS.as_bytes(),
-            &(blocks, brooms),
+            "{blocks:?} {brooms:?}"
         );
     }
     Ok(())

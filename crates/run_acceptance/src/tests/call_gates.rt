@@ -5,7 +5,6 @@ ghost use Rattle.flash_table.specs.Flash.{geometry_of};
 ghost use Rattle.host.specs.Ready.{IsReady};
 ghost use Rattle.volume.specs.Volume.{IsBroomReady, IsBroomReady-prop, flash_of};
 
-use super::assertions::expect;
 use super::opening::{only_broom, only_pass};
 use super::recorder::Recorder;
 use answers::read_commands;
@@ -157,7 +156,7 @@ fn check_lines(rt: &(impl Abort + AllocGlobal), player: &mut Player<'_>) -> Resu
         let (kind, points) = LINES[index];
         let (found, gate) = player.play(rt, index)?;
         let is_right = found == kind && gate.is(points);
-        expect(rt, is_right, &(index, found, gate));
+        assert!(rt; is_right, "{:?}", (index, found, gate));
     }
     Ok(())
 }
@@ -168,7 +167,7 @@ fn check_calls(rt: &(impl Abort + Wait), collector: &mut Collector<'_>) {
         let mut gate = Recorder::new();
         let found = collector.call(rt, call, &mut gate);
         let is_right = found == done && gate.is(points);
-        expect(rt, is_right, &(call, found, gate));
+        assert!(rt; is_right, "{:?}", (call, found, gate));
     }
 }
 

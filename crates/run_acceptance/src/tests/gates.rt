@@ -1,5 +1,4 @@
 //! Each thread of a run asks the gate that has its number: first the workers, then the brooms.
-use super::assertions::expect;
 use super::run::{small, tally_of};
 use super::shared_text::text_of;
 use super::visits::{NO_VISITS, Visits};
@@ -61,14 +60,14 @@ fn each_worker_asks_its_own_gate(rt: HostRuntime) -> Result<(), Fail> {
     for (trace, answers, visits) in ROWS {
         let mut gates = unasked();
         let text = text_of(&rt, 6, 3, 0, trace.as_bytes(), 9, &mut gates)?;
-        expect(&rt, text.as_slice() == answers.as_bytes(), &trace);
+        assert!(rt; text.as_slice() == answers.as_bytes(), "{trace:?}");
         let [first, second, third] = visits;
         let wanted = [
             by_worker(0, first),
             by_worker(1, second),
             by_worker(2, third),
         ];
-        expect(&rt, gates == wanted, &(trace, gates));
+        assert!(rt; gates == wanted, "{:?}", (trace, gates));
     }
     Ok(())
 }
@@ -107,18 +106,16 @@ fn the_broom_asks_the_gate_behind_the_workers(rt: HostRuntime) -> Result<(), Fai
         .as_slice()
         .windows(4)
         .any(|word| word == b"full".as_slice());
-    expect(&rt, !full, &gates);
-    expect(
-        &rt,
+    assert!(rt; !full, "{gates:?}");
+    assert!(rt;
         is_by_worker(&gates[0], 0, 13) && gates[0].places >= 13,
-        &gates,
+        "{gates:?}"
     );
-    expect(
-        &rt,
+    assert!(rt;
         is_by_worker(&gates[1], 1, 1) && gates[1].looks >= 1 && gates[1].places == 0,
-        &gates,
+        "{gates:?}"
     );
-    expect(&rt, is_by_broom(&gates[2]), &gates);
+    assert!(rt; is_by_broom(&gates[2]), "{gates:?}");
     Ok(())
 }
 
@@ -148,6 +145,6 @@ fn each_drain_of_a_run_asks_the_gate_of_its_broom(rt: HostRuntime) -> Result<(),
     let geometry = small(24, 1, 1)?;
     let done = tally_of(&rt, &geometry, trace.as_bytes(), PATIENCE, &mut gates)?;
     let done = done.ok_or("no broom")?;
-    expect(&rt, is_asked_each_time(&gates[1], &done), &(gates, done));
+    assert!(rt; is_asked_each_time(&gates[1], &done), "{:?}", (gates, done));
     Ok(())
 }

@@ -1,5 +1,4 @@
 //! Rows whose answers are the same in every schedule, and a trace whose answers are not.
-use super::assertions::expect;
 use super::run::{answers_of, play_freely, small};
 use super::shared_text::text_of;
 use flash_table::NoGate;
@@ -80,7 +79,7 @@ fn workers_answer_as_one_thread_would(rt: HostRuntime) -> Result<(), Fail> {
     for (hosts, brooms, blocks, patience, trace, answers) in ROWS {
         let geometry = small(blocks, hosts, brooms)?;
         let text = answers_of(&rt, &geometry, trace.as_bytes(), patience)?;
-        expect(&rt, text.as_str() == answers, &trace);
+        assert!(rt; text.as_str() == answers, "{trace:?}");
     }
     Ok(())
 }
@@ -125,7 +124,7 @@ fn a_later_round_reads_what_an_earlier_one_left(rt: HostRuntime) -> Result<(), F
         let answer_words = answers_of(&rt, &small(8, 3, 1)?, trace, 1000000)?;
         let first = answer_words.as_str() == "empty written C | written C | C | ";
         let second = answer_words.as_str() == "empty written B | written B | B | ";
-        expect(&rt, first || second, &answer_words);
+        assert!(rt; first || second, "{answer_words:?}");
     }
     Ok(())
 }
@@ -140,6 +139,6 @@ fn a_broom_frees_blocks_for_a_worker(rt: HostRuntime) -> Result<(), Fail> {
     let done = lines
         .filter(|line| line.ends_with(b",empty") || line.ends_with(b",written"))
         .count();
-    expect(&rt, done >= 11, &done);
+    assert!(rt; done >= 11, "{done:?}");
     Ok(())
 }

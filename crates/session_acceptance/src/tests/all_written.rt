@@ -1,5 +1,4 @@
 //! Sessions in which writes may be refused: with `--all-written` they end with a status of their own, and say how many.
-use super::assertions::expect;
 use super::session::play;
 use std::test::Fail;
 
@@ -54,7 +53,7 @@ const ROWS: [(&str, &str, u8, &str, &str); 5] = [
 fn refused_writes_are_counted_if_all_have_to_be_done(rt: HostRuntime) -> Result<(), Fail> {
     for (arguments, trace, status, output, errors) in ROWS {
         let ended = play(&rt, arguments, trace.as_bytes(), 0)?;
-        expect(&rt, ended.is(status, output, errors), &arguments);
+        assert!(rt; ended.is(status, output, errors), "{arguments:?}");
     }
     Ok(())
 }

@@ -1,5 +1,4 @@
 //! The arguments of a session: each option by two words or by one, all options, and what `clap` answers.
-use super::assertions::expect;
 use super::session::play;
 use std::test::Fail;
 
@@ -63,11 +62,11 @@ fn options_are_read_by_two_words_or_by_one(rt: HostRuntime) -> Result<(), Fail> 
     for arguments in [APART, TOGETHER, REVERSED] {
         let ended = play(&rt, arguments, b"0,write,1,\n0,read,1,\n".as_slice(), 0)?;
         let output = "1,write,1,empty\n2,read,1,0000000000000000\nend\n";
-        expect(&rt, ended.is(0, output, ""), &arguments);
+        assert!(rt; ended.is(0, output, ""), "{arguments:?}");
     }
     for (arguments, errors) in REFUSED {
         let ended = play(&rt, arguments, b"no trace".as_slice(), 0)?;
-        expect(&rt, ended.is(2, "", errors), &arguments);
+        assert!(rt; ended.is(2, "", errors), "{arguments:?}");
     }
     Ok(())
 }
@@ -78,13 +77,13 @@ fn clap_answers_what_it_refuses_or_is_asked(rt: HostRuntime) -> Result<(), Fail>
         let ended = play(&rt, arguments, b"no trace".as_slice(), 0)?;
         let is_refused = ended.status == 2 && ended.output.is_empty();
         let is_told = ended.errors.as_slice().starts_with(line.as_bytes());
-        expect(&rt, is_refused && is_told, &arguments);
+        assert!(rt; is_refused && is_told, "{arguments:?}");
     }
     for (arguments, line) in TOLD {
         let ended = play(&rt, arguments, b"no trace".as_slice(), 0)?;
         let is_done = ended.status == 0 && ended.errors.is_empty();
         let is_told = ended.output.as_slice().starts_with(line.as_bytes());
-        expect(&rt, is_done && is_told, &arguments);
+        assert!(rt; is_done && is_told, "{arguments:?}");
     }
     Ok(())
 }

@@ -1,5 +1,4 @@
 //! Sessions by workers, with the same answers in every schedule.
-use super::assertions::expect;
 use super::session::play;
 use std::process::Abort;
 use std::sync::Wait;
@@ -59,7 +58,7 @@ fn workers_answer_as_the_rows_say(rt: HostRuntime) -> Result<(), Fail> {
     for (arguments, trace, output, log) in ROWS {
         let ended = play(&rt, arguments, trace.as_bytes(), 1000)?;
         let is_logged = ended.collections.holds(log);
-        expect(&rt, ended.is(0, output, "") && is_logged, &arguments);
+        assert!(rt; ended.is(0, output, "") && is_logged, "{arguments:?}");
     }
     Ok(())
 }
@@ -85,9 +84,9 @@ fn check_number<R: Threads + Wait + Clock + Sync + Abort + AllocGlobal>(
         "--workers={workers} --brooms={brooms} --blocks={blocks} --pages=2 --words=1 --sectors=2"
     )?;
     let played = play(rt, arguments.as_str(), trace.as_bytes(), 0)?;
-    expect(rt, played.is(0, output.as_str(), ""), &arguments);
+    assert!(rt; played.is(0, output.as_str(), ""), "{arguments:?}");
     let empty = play(rt, arguments.as_str(), b"".as_slice(), 0)?;
-    expect(rt, empty.is(0, "end\n", ""), &arguments);
+    assert!(rt; empty.is(0, "end\n", ""), "{arguments:?}");
     Ok(())
 }
 

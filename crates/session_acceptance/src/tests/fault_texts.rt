@@ -1,5 +1,4 @@
 //! The text of each fault, as it is printed.
-use super::assertions::expect;
 use ftl_one::{NewOneFault, WornOut};
 use host::{NewFault, NoBlock};
 use player::{GeometryFault, RunFault, TraceFault, TraceFaultKind};
@@ -71,27 +70,24 @@ fn print<F: Display>(alloc: Global, faults: &[(F, &str)]) -> Result<bool, Fail> 
 #[test]
 fn each_fault_prints_its_text(rt: HostRuntime) -> Result<(), Fail> {
     let alloc = rt.alloc();
-    expect(&rt, print(alloc, &OF_GEOMETRY)?, &"geometry");
-    expect(&rt, print(alloc, &OF_TRACES)?, &"traces");
-    expect(
-        &rt,
+    assert!(rt; print(alloc, &OF_GEOMETRY)?, "geometry");
+    assert!(rt; print(alloc, &OF_TRACES)?, "traces");
+    assert!(rt;
         print(alloc, &[(OF_LINE_TWO, "line 2: Sector")])?,
-        &"a trace",
+        "a trace"
     );
-    expect(&rt, print(alloc, &OF_RUNS)?, &"runs");
-    expect(&rt, print(alloc, &OF_ROUNDS)?, &"rounds");
-    expect(&rt, print(alloc, &OF_NEW)?, &"writes of an empty sector");
-    expect(&rt, print(alloc, &OF_NEW_ONE)?, &"the same by one thread");
-    expect(&rt, print(alloc, &OF_STORING)?, &"storing");
-    expect(
-        &rt,
+    assert!(rt; print(alloc, &OF_RUNS)?, "runs");
+    assert!(rt; print(alloc, &OF_ROUNDS)?, "rounds");
+    assert!(rt; print(alloc, &OF_NEW)?, "writes of an empty sector");
+    assert!(rt; print(alloc, &OF_NEW_ONE)?, "the same by one thread");
+    assert!(rt; print(alloc, &OF_STORING)?, "storing");
+    assert!(rt;
         print(alloc, &[(WornOut, "no page is left to write")])?,
-        &"writes by one thread",
+        "writes by one thread"
     );
-    expect(
-        &rt,
+    assert!(rt;
         print(alloc, &[(NoBlock, "every block is taken")])?,
-        &"writes",
+        "writes"
     );
     Ok(())
 }

@@ -1,5 +1,4 @@
 //! The files of a session: the wear and the log of collections, written whole, in pieces, or not at all.
-use super::assertions::expect;
 use super::session::{Ended, play};
 use std::test::Fail;
 
@@ -26,8 +25,8 @@ fn hold(ended: &Ended, wear: &str, collections: &str) -> bool {
 fn files_are_written_whole_in_pieces_of_any_size(rt: HostRuntime) -> Result<(), Fail> {
     for most in [1, 2, 3, 7, 30, 1000] {
         let ended = play(&rt, BOTH, TRACE, most)?;
-        expect(&rt, ended.is(0, ANSWERS, ""), &most);
-        expect(&rt, hold(&ended, WEAR, LOG), &most);
+        assert!(rt; ended.is(0, ANSWERS, ""), "{most:?}");
+        assert!(rt; hold(&ended, WEAR, LOG), "{most:?}");
     }
     Ok(())
 }
@@ -105,8 +104,8 @@ const REFUSED: [(&str, u8, &str, &str, &str, &str); 9] = [
 fn a_file_that_is_not_written_is_reported(rt: HostRuntime) -> Result<(), Fail> {
     for (arguments, status, output, errors, wear, collections) in REFUSED {
         let ended = play(&rt, arguments, b"", 0)?;
-        expect(&rt, ended.is(status, output, errors), &arguments);
-        expect(&rt, hold(&ended, wear, collections), &arguments);
+        assert!(rt; ended.is(status, output, errors), "{arguments:?}");
+        assert!(rt; hold(&ended, wear, collections), "{arguments:?}");
     }
     Ok(())
 }

@@ -1,6 +1,5 @@
 //! Sessions by one thread: an argument and a trace, with the status, the output and the line on standard error. The device is a small one
 //! with three sectors: one LUN and three blocks of two pages of one word, unless the row's arguments say otherwise.
-use super::assertions::expect;
 use super::session::play;
 use std::test::Fail;
 
@@ -117,11 +116,11 @@ const STOPPED: [(&str, &str, u8, &str); 17] = [
 fn a_trace_is_answered_as_the_rows_say(rt: HostRuntime) -> Result<(), Fail> {
     for (arguments, trace, output) in PLAYED {
         let ended = play(&rt, arguments, trace.as_bytes(), 0)?;
-        expect(&rt, ended.is(0, output, ""), &trace);
+        assert!(rt; ended.is(0, output, ""), "{trace:?}");
     }
     for (arguments, trace, status, errors) in STOPPED {
         let ended = play(&rt, arguments, trace.as_bytes(), 0)?;
-        expect(&rt, ended.is(status, "", errors), &errors);
+        assert!(rt; ended.is(status, "", errors), "{errors:?}");
     }
     Ok(())
 }

@@ -8,7 +8,6 @@ use crate::actors::Home;
 use crate::actors::actor_setup::{end_all, next_broom, next_host};
 use crate::actors::calls::{WORDS, hold};
 use crate::actors::idle_actors::{IdleActors, Who};
-use crate::assertions::expect;
 use crate::closing::close;
 use crate::schedules::schedule::{ExpectedCall, Schedule, Step};
 use broom::Broom;
@@ -107,10 +106,10 @@ fn check_row<R: Wait + Abort + AllocGlobal>(rt: &R, row: Row<'_>) -> Result<(), 
     let geometry = Geometry::new(1, blocks, 2, WORDS, 2, endurance, 2, brooms)?;
     let (volume, passes, brooms) = Volume::open(rt.alloc(), &geometry)?;
     let (passes, done) = play::<R, Brand>(rt, &volume, passes, brooms, steps, meanwhile);
-    expect(rt, done == steps.len(), &(name, done));
+    assert!(rt; done == steps.len(), "{:?}", (name, done));
     assert!(rt; !passes.is_empty());
     let closed = close(rt, volume, passes);
-    expect(rt, hold(closed.as_slice(), &sectors), &name);
+    assert!(rt; hold(closed.as_slice(), &sectors), "{name:?}");
     Ok(())
 }
 

@@ -8,7 +8,6 @@ use crate::actors::actor_setup::{end_all, next_host};
 use crate::actors::calls::{Call, Done, EMPTY, TRIMMED, WORDS, WRITTEN, hold};
 use crate::actors::idle_actors::{IdleActors, Who};
 use crate::actors::{Actor, Home, call_at};
-use crate::assertions::expect;
 use crate::closing::close;
 use flash_table::Pass;
 use geometry::Geometry;
@@ -212,10 +211,10 @@ fn racing_hosts_get_the_expected_answers(rt: HostRuntime) -> Result<(), Fail> {
         let (volume, passes, brooms) = Volume::open(rt.alloc(), &geometry)?;
         brooms.destroy_empty();
         let (passes, right) = run_race::<HostRuntime, Brand>(&rt, &volume, passes, race);
-        expect(&rt, right, &name);
+        assert!(rt; right, "{name:?}");
         assert!(rt; !passes.is_empty());
         let sectors = close(&rt, volume, passes);
-        expect(&rt, hold(sectors.as_slice(), &race.sectors), &name);
+        assert!(rt; hold(sectors.as_slice(), &race.sectors), "{name:?}");
     }
     Ok(())
 }

@@ -9,7 +9,6 @@ use crate::actors::actor_setup::{end_all, next_broom, next_host};
 use crate::actors::calls::{WORDS, hold};
 use crate::actors::idle_actors::IdleActors;
 use crate::actors::nested_calls::{InnerGate, OuterGate};
-use crate::assertions::expect;
 use crate::closing::close;
 use crate::models::array_model::{BLOCKS, SECTORS};
 use crate::models::oracle::{Looks, Oracle};
@@ -91,7 +90,7 @@ fn play_seed<R: Wait + Abort + AllocGlobal>(
     assert!(rt; passes.len() == 3);
     let closed = close(rt, volume, passes);
     let is_right = oracle.is_right() && hold(closed.as_slice(), &oracle.array.numbers);
-    expect(rt, is_right, &seed);
+    assert!(rt; is_right, "{seed:?}");
     Ok(oracle.tally)
 }
 

@@ -2,7 +2,6 @@
 ghost use Rattle.std.specs.Prelude.{◌≡◌, ◌+◌, ◌<◌, All, length};
 ghost use Rattle.erase_queue.specs.Queue.{IsNewPass};
 
-use crate::assertions::expect;
 use crate::threads::queue_users::{QueueCall, QueueUser, next_user};
 use erase_queue::{EraseQueue, QueuePass};
 use std::sync::Wait;
@@ -159,7 +158,7 @@ fn four_threads_share_a_queue(rt: HostRuntime) -> Result<(), Fail> {
     for (name, group) in GROUPS {
         assert!(rt; group.places > 0);
         let (queue, passes) = EraseQueue::new(rt.alloc(), group.places, 4)?;
-        expect(&rt, is_right(&rt, &queue, passes, group), &name);
+        assert!(rt; is_right(&rt, &queue, passes, group), "{name:?}");
     }
     Ok(())
 }
