@@ -10,7 +10,7 @@ use Rattle.die.specs.Storage.{slot, PutsSlot, unused, stored, block_in}
 use Rattle.std.proofs.lemmas.Nat.{same_from_place, mul-add-lt}
 use Rattle.std.specs.List.{range_with_len}
 use Rattle.std.proofs.lemmas.List.FromFn.{length-map-range_with_len, get_or-map-range_with_len, map-range_with_len_more}
-use Rattle.die.specs.declared.block_state.BlockState.{BlockState}
+use Rattle.die.specs.declared.die.BlockState.{BlockState}
 use Rattle.die.specs.Pages.{Page, Block, programmed, page_at, erased_page}
 
 -- a list whose part from `at` on, n long, is replaced by the front of s

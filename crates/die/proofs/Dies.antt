@@ -4,7 +4,7 @@ use Rattle.std.proofs.{Common.get_or-set_same, Common.get_or-set_other, lemmas.L
 use Rattle.std.specs.List.{range_with_len}
 use Rattle.geometry.specs.declared.{geometry.Geometry.Geometry, page_addr.PageAddr.PageAddr}
 use Rattle.geometry.specs.Geometry.{blocks_of, pages_of, page_bytes_of, endurance_of}
-use Rattle.die.specs.{declared.block_state.BlockState.BlockState, declared.die.Die.Die, Die.block_of, Die.ChangesBlock, Die.IsUsable, Die.IsNext}
+use Rattle.die.specs.{declared.die.BlockState.BlockState, declared.die.Die.Die, Die.block_of, Die.ChangesBlock, Die.IsUsable, Die.IsNext}
 use Rattle.die.specs.Storage.{IsSound}
 use Rattle.die.specs.{Pages.Page, Pages.Block, Pages.programmed, Pages.erased, Pages.page_at, Storage.stored, Storage.block_in, Storage.PutsSlot}
 use Rattle.die.specs.Storage.{unused}

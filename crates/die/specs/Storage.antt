@@ -1,6 +1,6 @@
 -- How the die's blocks are stored: the pages of all blocks one behind the other, of n bytes each, and what a die keeps true of each block.
 use Rattle.std.specs.Prelude.{◌≡◌, ℕ, ◌≢◌, ◌+◌, ◌*◌, ◌≤◌, List, length, take, drop, ◌<◌, false, map, slice_index, slice_index_or}
-use Rattle.die.specs.declared.block_state.BlockState.{BlockState}
+use Rattle.die.specs.declared.die.BlockState.{BlockState}
 use Rattle.std.specs.List.{range_with_len}
 use Rattle.die.specs.Pages.{Page, Block}
 

@@ -2,7 +2,6 @@ ghost use Rattle.std.specs.Prelude.{◌≡◌, ℕ, ◌+◌, ◌*◌, ◌<◌, �
 ghost use Rattle.geometry.specs.Geometry.{blocks_of, pages_of, page_bytes_of, endurance_of, lun_of};
 ghost use Rattle.die.specs.Storage.{IsSound, unused};
 
-use crate::block_state::BlockState;
 use crate::slots::{get_page, lend_page, move_page, put_page};
 use geometry::{Geometry, PageAddr};
 use std::alloc::{AllocError, Global};
@@ -11,6 +10,15 @@ use std::alloc::{AllocError, Global};
 pub const ERASED_BYTE: u8 = 0xff;
 /// The stamp of an erased page.
 pub const ERASED_STAMP: u64 = u64::MAX;
+
+/// What a die stores for a block in addition to its pages.
+#[derive(Clone, Copy)]
+pub struct BlockState {
+    /// How many pages are programmed, which is also the page to be programmed next.
+    pub next: u32,
+    pub erases: u32,
+    pub retired: bool,
+}
 
 /// The dies of a device, as one list of blocks.
 #[derive(Drop)]

@@ -3,7 +3,6 @@
 //! of a block's endurance fails and retires it.
 #![tactic(auto)]
 
-mod block_state;
 mod die;
 mod slots;
 

@@ -7,7 +7,6 @@ mod copy;
 mod fewest;
 mod map_entry;
 mod one_ftl;
-mod recount;
 mod role;
 mod roles;
 mod store;

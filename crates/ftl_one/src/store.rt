@@ -1,12 +1,11 @@
-ghost use Rattle.std.specs.Prelude.{◌≡◌, ℕ, ◌≢◌, ◌+◌, ◌<◌, ◌==◌, true, false, IfOk, length, slice_set, None, Some, IfNone, IfSome};
+ghost use Rattle.std.specs.Prelude.{◌≡◌, ℕ, ◌≢◌, ◌+◌, ◌^◌, ◌<◌, ◌==◌, true, false, IfOk, length, slice_index, slice_set, None, Some, IfNone, IfSome};
 ghost use Rattle.geometry.specs.Geometry.{blocks_of, pages_of, page_bytes_of, endurance_of, sectors_of, lun_of};
 ghost use Rattle.geometry.specs.Sectors.{sector_at, was_of, Answers};
 ghost use Rattle.die.specs.Die.{geometry_of as die_geometry_of, block_of};
-ghost use Rattle.ftl_one.specs.Entries.{IsMapped, was_by};
+ghost use Rattle.ftl_one.specs.Entries.{IsMapped, Recounts, was_by};
 
 use crate::copy::copy_page;
 use crate::map_entry::MapEntry;
-use crate::recount::recount;
 use die::Die;
 use geometry::{Geometry, Got, PageAddr, Was};
 use std::alloc::{AllocError, Global};
@@ -240,5 +239,21 @@ fn answer_of(page: Option<PageAddr>) -> Was
     match page {
         None => Was::Empty,
         Some(_) => Was::Written,
+    }
+}
+
+// Counts one page as dead and one as live, if there are such.
+fn recount(counts: &mut [u16], dead: Option<PageAddr>, live: Option<PageAddr>)
+    requires dead_within { IfSome dead (λ at. at.block < length counts.old) }
+    requires counted { IfSome dead (λ at. 0 < slice_index counts.old at.block) }
+    requires live_within { IfSome live (λ at. at.block < length counts.old) }
+    requires room { IfSome live (λ at. slice_index counts.old at.block + 1 < 2 ^ 16) }
+    ensures { Recounts counts.old counts.new dead live }
+{
+    if let Some(at) = dead {
+        counts[at.block as usize] -= 1;
+    }
+    if let Some(at) = live {
+        counts[at.block as usize] += 1;
     }
 }

@@ -5,7 +5,7 @@ use Rattle.geometry.specs.declared.words.PinWord.{PinWord}
 use Rattle.geometry.specs.declared.geometry.Geometry.{Geometry}
 use Rattle.geometry.specs.declared.page_addr.PageAddr.{PageAddr}
 use Rattle.geometry.specs.Geometry.{blocks_of, luns_of, endurance_of}
-use Rattle.die.specs.declared.block_state.BlockState.{BlockState}
+use Rattle.die.specs.declared.die.BlockState.{BlockState}
 use Rattle.ftl_one.specs.declared.role.Role.TheVariants as role
 use Rattle.ftl_one.specs.declared.role.Role.{Role}
 use Rattle.ftl_one.specs.Stock.{Entry, Stock}

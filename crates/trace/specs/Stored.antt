@@ -22,7 +22,7 @@ widened n = record { start = n.start; brief = n.brief }
 abbrev pub lent_as : Lent → Stored
 lent_as l = record { start = l.start; brief = l.brief.now }
 
--- all that are kept, in order
+-- all that are kept, in order: first those whose place has four bytes
 abbrev pub stored_in : AllStored → List Stored
 stored_in all = map widened all.near.items ++ all.far.items
 

@@ -1,7 +1,7 @@
 use Rattle.std.proofs.Common.{◌≡◌, ◌∙◌, ℕ, ◌+◌, eqb, cond, Bool, true, false, List, set, sym, ap, refl, length-set}
 use mir.Val.{bool_byte}
 use Rattle.geometry.specs.Geometry.{endurance_of, page_bytes_of, pages_of}
-use Rattle.die.specs.{declared.block_state.BlockState.BlockState, Die.block_of, Pages.Block, Storage.block_in}
+use Rattle.die.specs.{declared.die.BlockState.BlockState, Die.block_of, Pages.Block, Storage.block_in}
 use Rattle.die.proofs.Dies.{state_of, state_read, erases-block, wiped, sound-set, sound-wiped, changes_by_wiping}
 use Rattle.die.proofs.die.Die.erase.Goals as goal
 use Rattle.die.proofs.die.Die.erase.Goals.{After-index_mut-state}

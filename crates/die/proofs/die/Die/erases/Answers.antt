@@ -1,5 +1,5 @@
 use Rattle.std.proofs.Common.{◌∙◌, sym, ap, arith}
-use Rattle.die.{specs.declared.block_state.BlockState.BlockState, proofs.Dies.state_read, proofs.Dies.erases-block, proofs.Dies.erases_below}
+use Rattle.die.{specs.declared.die.BlockState.BlockState, proofs.Dies.state_read, proofs.Dies.erases-block, proofs.Dies.erases_below}
 use Rattle.die.proofs.die.Die.erases.Goals as goal
 
 pub returns-clause-value : goal.returns-clause-value

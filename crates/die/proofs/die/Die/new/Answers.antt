@@ -1,7 +1,7 @@
 use Rattle.std.{specs.List.range_with_len, proofs.lemmas.List.get_or-replicate}
 use Rattle.std.proofs.Common.{◌≡◌, ◌∙◌, ◌+◌, ◌*◌, List, get_or, map, replicate, refl, ap, arith, rules}
 use Rattle.geometry.specs.Geometry.{pages_of, page_bytes_of}
-use Rattle.die.specs.{declared.block_state.BlockState.BlockState, Die.block_of, Pages.Block, Storage.unused, Storage.stored, Storage.block_in}
+use Rattle.die.specs.{declared.die.BlockState.BlockState, Die.block_of, Pages.Block, Storage.unused, Storage.stored, Storage.block_in}
 use Rattle.die.proofs.die.Die.new.Goals as goal
 
 pub returns : goal.returns

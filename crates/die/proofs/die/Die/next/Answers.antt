@@ -1,5 +1,5 @@
 use Rattle.std.proofs.Common.{◌∙◌, sym, ap, arith}
-use Rattle.die.{specs.declared.block_state.BlockState.BlockState, proofs.Dies.state_read, proofs.Dies.length-block}
+use Rattle.die.{specs.declared.die.BlockState.BlockState, proofs.Dies.state_read, proofs.Dies.length-block}
 use Rattle.die.proofs.die.Die.next.Goals as goal
 
 pub returns-clause-value : goal.returns-clause-value

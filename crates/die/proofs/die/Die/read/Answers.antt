@@ -1,7 +1,7 @@
 use Rattle.std.proofs.Common.{◌≡◌, ◌∙◌, ℕ, ◌<◌, ◌≤◌, List, length, replicate, get_or, ap, sym, arith, rules}
 use Rattle.std.proofs.{lemmas.List.get_or_past, lemmas.List.get_or_read}
 use Rattle.geometry.specs.Geometry.{blocks_of, page_bytes_of}
-use Rattle.die.specs.{declared.block_state.BlockState.BlockState, declared.die.Die.Die, Die.block_of, Pages.Page, Pages.page_at, Pages.erased_page}
+use Rattle.die.specs.{declared.die.BlockState.BlockState, declared.die.Die.Die, Die.block_of, Pages.Page, Pages.page_at, Pages.erased_page}
 use Rattle.die.specs.Storage.{slot}
 use Rattle.die.{specs.Storage.stored, proofs.Dies.state_read, proofs.Dies.length-block, proofs.Dies.pages_within, proofs.Dies.page-stored}
 use Rattle.die.proofs.die.Die.read.Goals as goal

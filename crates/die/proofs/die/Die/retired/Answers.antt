@@ -1,5 +1,5 @@
 use Rattle.std.proofs.{Common.◌≡◌, Common.◌∙◌, Common.sym, Common.ap, Common.arith, lemmas.Grind.common_steps}
-use Rattle.die.{specs.Die.block_of, specs.declared.block_state.BlockState.BlockState, proofs.Dies.state_read, proofs.Dies.retired-block}
+use Rattle.die.{specs.Die.block_of, specs.declared.die.BlockState.BlockState, proofs.Dies.state_read, proofs.Dies.retired-block}
 use Rattle.die.proofs.die.Die.retired.Goals as goal
 
 pub returns : goal.returns
