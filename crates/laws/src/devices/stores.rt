@@ -70,9 +70,10 @@ pub fn commands_on_a_store()
 
 /// The counts of a layer are those of its geometry.
 pub fn counts_of_a_layer()
-    ensures counts { (l : OneFtl) (g : Geometry) → layer.geometry_of l ≡ g
-        → (layer.sectors l ≡ sectors_of g) × (layer.blocks l ≡ blocks_of g)
-        × (layer.pages l ≡ pages_of g) × (layer.page_bytes l ≡ page_bytes_of g)
+    ensures sectors { (l : OneFtl) (g : Geometry) → layer.geometry_of l ≡ g
+        → (layer.sectors l ≡ sectors_of g) × (layer.page_bytes l ≡ page_bytes_of g) }
+    ensures blocks { (l : OneFtl) (g : Geometry) → layer.geometry_of l ≡ g
+        → (layer.blocks l ≡ blocks_of g) × (layer.pages l ≡ pages_of g)
         × (layer.endurance l ≡ endurance_of g) }
 {}
 
