@@ -1,9 +1,9 @@
 -- A modelled chip.
-use Rattle.std.specs.Prelude.{◌≡◌, ◌≢◌, ◌⊎◌, ◌==◌, ◌&&◌, ◌+◌, ◌-◌, ◌%◌, ◌^◌, nat_le, if◌then◌else◌}
+use Rattle.std.specs.Prelude.{◌≡◌, ◌≢◌, ◌⊎◌, ◌==◌, ◌&&◌, ◌||◌, ◌+◌, ◌-◌, ◌%◌, ◌^◌, nat_le, not, if◌then◌else◌}
 use Rattle.std.specs.Prelude.{ℕ, Bool, true, false, List, Option, None, Some, Result, Ok, Err, OnOk, OnErr}
 use Rattle.std.specs.Int.{bit_at}
 use Rattle.geometry.specs.declared.page_addr.PageAddr.{PageAddr}
-use Rattle.durable.specs.Flash.{PageContents, Torn, Flash, SetsPage}
+use Rattle.durable.specs.Flash.{PageContents, Erased, Torn, Version, Flash, SetsPage}
 use Rattle.durable.specs.Commands.{IsSameFlash}
 use Rattle.nand.specs.declared.chip.Chip.{Chip}
 use Rattle.nand.specs.declared.chip.Cut.{Cut}
@@ -45,6 +45,10 @@ chip_bad chip = chip.bad.items
 abbrev pub chip_erases : Chip → List ℕ
 chip_erases chip = chip.erases.items
 
+-- how many programs broke the order of a block's pages, or named a programmed page, modulo 2^64
+abbrev pub chip_violations : Chip → ℕ
+chip_violations chip = chip.violations
+
 -- nothing that a reader sees has changed beside the pages
 pub record HasSameBesidePages (old new : Chip) : Type 0 where
   pub shape : chip_shape new ≡ chip_shape old
@@ -54,6 +58,7 @@ pub record HasSameBesidePages (old new : Chip) : Type 0 where
   pub cuts : new.cuts ≡ old.cuts
   pub tally : chip_tally new ≡ chip_tally old
   pub syncs : chip_syncs new ≡ chip_syncs old
+  pub violations : chip_violations new ≡ chip_violations old
 
 -- nothing that a reader sees has changed
 pub record HasSame (old new : Chip) : Type 0 where
@@ -76,6 +81,15 @@ pub record Schedule : Type 0 where
 -- the schedule of a chip
 abbrev pub schedule_of : Chip → Schedule
 schedule_of chip = record { powered = chip.powered; commands = chip.commands; cut = chip.cut; failing = chip.failing }
+
+-- a call that is no command leaves the pages and the schedule, and what is counted of commands
+pub record IsNoCommand (old new : Chip) : Type 0 where
+  pub flash : chip_flash new ≡ chip_flash old
+  pub schedule : schedule_of new ≡ schedule_of old
+  pub shape : chip_shape new ≡ chip_shape old
+  pub erases : chip_erases new ≡ chip_erases old
+  pub tally : chip_tally new ≡ chip_tally old
+  pub violations : chip_violations new ≡ chip_violations old
 
 -- the cut that falls in this command
 abbrev pub cut_in : Option (ℕ × Cut) → ℕ → Option Cut
@@ -110,3 +124,19 @@ abbrev pub Ends : Fate → Result (Unit {0}) Fault → Type 0
 Ends fate.Done result = result ≢ Err fault.PowerGone
 Ends fate.Fails result = result ≡ Err fault.Failed
 Ends (fate.Cut cut) result = result ≢ Ok tt
+
+-- whether a page is erased
+abbrev pub is_erased : PageContents → Bool
+is_erased Erased = true
+is_erased Torn = false
+is_erased (Version extent number value) = false
+
+-- ONFI 4.0, Page Program: whether a program may name this page. It is erased, and the page before it in the block is not
+abbrev pub is_next_page : Flash → PageAddr → Bool
+is_next_page f at = is_erased (f at.block at.page) && (at.page == 0 || not (is_erased (f at.block (at.page - 1))))
+
+-- how many programs have broken that rule after one of which this comes: one more if it names another page, and neither fails nor is cut
+abbrev pub violations_after : Fate → Bool → ℕ → ℕ
+violations_after fate.Done is_next n = if is_next then n else (n + 1) % 2 ^ 64
+violations_after fate.Fails is_next n = n
+violations_after (fate.Cut cut) is_next n = n

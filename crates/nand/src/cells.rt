@@ -1,7 +1,7 @@
 ghost use Rattle.std.specs.Prelude.{◌≡◌, true, false, IfSome};
-ghost use Rattle.durable.specs.Flash.{SetsPage, LosesPages, Erased};
-ghost use Rattle.nand.specs.Nand.{ReadsStamp, ReadsMain};
-ghost use Rattle.nand.specs.Cells.{contents_of, flash_in, IsWiped};
+ghost use Rattle.durable.specs.Flash.{SetsPage, LosesPages, Erased, Version};
+ghost use Rattle.nand.specs.Nand.{ReadsMain, value_with};
+ghost use Rattle.nand.specs.Cells.{contents_of, flash_in, reading_of, IsWiped};
 
 use crate::flash::{Reading, Stamp};
 use geometry::PageAddr;
@@ -71,7 +71,7 @@ pub fn lose(blocks: &mut Vec<Vec<Page>>, block: u32, mask: u64)
 
 /// What a read of a page's stamp says.
 pub fn peek(blocks: &[Vec<Page>], at: PageAddr) -> Reading
-    ensures { ReadsStamp (flash_in blocks.now at.block at.page) result }
+    ensures { result ≡ reading_of (flash_in blocks.now at.block at.page) }
 {
     let (block, index) = (at.block as usize, at.page as usize);
     if block >= blocks.len() || index >= blocks[block].len() {
@@ -107,6 +107,18 @@ pub fn copy_main(blocks: &[Vec<Page>], at: PageAddr, out: &mut [u8]) -> bool
     }
 }
 
+/// A page with a version, if there is memory for it.
+pub fn version(alloc: Global, stamp: Stamp, main: &[u8]) -> Option<Page>
+    ensures { IfSome result
+        (λ page. contents_of page
+        ≡ Version stamp.extent stamp.number (value_with stamp.trimmed main.now)) }
+{
+    match main.to_vec(alloc) {
+        Ok(main) => Some(Page::Version(stamp, main)),
+        Err(_) => None,
+    }
+}
+
 /// What a page holds, if there is such a page, and memory for it.
 pub fn copied(alloc: Global, blocks: &[Vec<Page>], at: PageAddr) -> Option<Page>
     ensures { IfSome result (λ page. contents_of page ≡ flash_in blocks.now at.block at.page) }
@@ -118,9 +130,6 @@ pub fn copied(alloc: Global, blocks: &[Vec<Page>], at: PageAddr) -> Option<Page>
     match &blocks[block][index] {
         Page::Erased => Some(Page::Erased),
         Page::Torn => Some(Page::Torn),
-        Page::Version(stamp, main) => match main.to_vec(alloc) {
-            Ok(main) => Some(Page::Version(*stamp, main)),
-            Err(_) => None,
-        },
+        Page::Version(stamp, main) => version(alloc, *stamp, main),
     }
 }

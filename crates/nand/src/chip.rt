@@ -1,7 +1,7 @@
 ghost use Rattle.std.specs.Prelude.{◌≡◌, ◌==◌, length};
 ghost use Rattle.std.specs.Int.{bit_at};
 
-use crate::cells::{Page, copied, copy_main, erase, lose, peek, put};
+use crate::cells::{Page, copied, copy_main, erase, lose, peek, put, version};
 use crate::flash::{Fault, Nand, PowerGone, Reading, Shape, Stamp, Tally};
 use geometry::PageAddr;
 use std::alloc::{AllocError, Global};
@@ -60,13 +60,15 @@ fn has_bit(mask: u64, bit: u64) -> bool
 }
 
 impl Chip {
-    ghost use Rattle.std.specs.Prelude.{◌≢◌, ◌⊎◌, ◌-◌, ◌^◌, ℕ, true, false, None, Some, slice_index_or, IfOk, Err};
+    ghost use Rattle.std.specs.Prelude.{◌≢◌, ◌⊎◌, ◌-◌, ◌^◌, ℕ, true, false, None, Some, slice_index_or, IfOk, IfSome, OnOk, is_ok, Err};
     ghost use Rattle.durable.specs.Commands.{IsSameFlash};
-    ghost use Rattle.durable.specs.Flash.{IsErased, SetsPage, Erased, Torn};
+    ghost use Rattle.durable.specs.Flash.{IsErased, PageContents, SetsPage, Erased, Torn};
     ghost use Rattle.nand.specs.Cells.{contents_of};
     ghost use Rattle.nand.specs.Chip.{after_command, chip_bad, chip_erases, chip_faults, chip_flash, chip_shape, chip_syncs, chip_tally};
-    ghost use Rattle.nand.specs.Chip.{coming, fails_in, schedule_of, Ends, HasSame, HasSameBesidePages, Sets};
+    ghost use Rattle.nand.specs.Chip.{chip_violations, coming, fails_in, is_next_page, schedule_of, violations_after};
+    ghost use Rattle.nand.specs.Chip.{Ends, HasSame, HasSameBesidePages, IsNoCommand, Sets};
     ghost use Rattle.nand.specs.Nand.{CountsFault, CountsCut};
+    ghost use Rattle.nand.specs.declared.flash.Fault.{Fault as Cause};
     ghost use Rattle.nand.specs.declared.flash.Fault.TheVariants as fault;
 
     /// A chip whose pages are all erased, with power.
@@ -78,6 +80,9 @@ impl Chip {
         ensures erases { IfOk result (λ chip. (b : ℕ) → slice_index_or (chip_erases chip) b 0 ≡ 0) }
         ensures tally { IfOk result
             (λ chip. chip_tally chip ≡ record { programs = 0; copies = 0; erases = 0 }) }
+        ensures faults { IfOk result (λ chip. (cause : Cause) → chip_faults chip cause ≡ 0) }
+        ensures syncs { IfOk result (λ chip. chip_syncs chip ≡ 0) }
+        ensures violations { IfOk result (λ chip. chip_violations chip ≡ 0) }
         ensures schedule { IfOk result
             (λ chip. schedule_of chip
             ≡ record { powered = true; commands = 0; cut = None; failing = None }) }
@@ -180,8 +185,10 @@ impl Chip {
         self.syncs
     }
 
-    /// How many programs broke ONFI's rules. They fail.
-    pub fn violations(&self) -> u64 {
+    /// How many programs broke ONFI's rules, modulo 2^64. They fail.
+    pub fn violations(&self) -> u64
+        ensures { result ≡ chip_violations self.now }
+    {
         self.violations
     }
 
@@ -219,8 +226,10 @@ impl Chip {
         Fate::Done
     }
 
-    // Whether the page is erased and the one before it is not: ONFI 4.0, Page Program.
-    fn is_next(&self, at: PageAddr) -> bool {
+    // Whether a program may name the page: ONFI 4.0, Page Program.
+    fn is_next(&self, at: PageAddr) -> bool
+        ensures { result ≡ is_next_page (chip_flash self.now) at }
+    {
         let erased = matches!(peek(&self.blocks, at), Reading::Erased);
         if at.page == 0 {
             return erased;
@@ -232,14 +241,20 @@ impl Chip {
         erased && !matches!(peek(&self.blocks, before), Reading::Erased)
     }
 
-    // Fills a page by a command.
-    fn fill(&mut self, at: PageAddr, page: Page) -> Result<(), Fault>
-        ensures sets { Sets result (chip_flash self.old)
-            (chip_flash self.new) at (contents_of page) }
+    // Fills a page by a command, which fails without memory for what the page is to hold.
+    fn fill(&mut self, at: PageAddr, page: Option<Page>) -> Result<(), Fault>
+        ensures sets { (contents : PageContents)
+            → IfSome page (λ its. contents_of its ≡ contents)
+            → Sets result (chip_flash self.old) (chip_flash self.new) at contents }
+        ensures order { OnOk result (is_next_page (chip_flash self.old) at ≡ true) }
+        ensures violations { chip_violations self.new
+            ≡ violations_after (coming (schedule_of self.old))
+            (is_next_page (chip_flash self.old) at) (chip_violations self.old) }
         ensures ends { Ends (coming (schedule_of self.old)) result }
         ensures schedule { schedule_of self.new ≡ after_command (schedule_of self.old) }
         ensures bad { chip_bad self.new ≡ chip_bad self.old }
         ensures shape { chip_shape self.new ≡ chip_shape self.old }
+        ensures erases { chip_erases self.new ≡ chip_erases self.old }
         ensures cause { CountsFault (chip_faults self.old) (chip_faults self.new) result }
         ensures tally { chip_tally self.new ≡ chip_tally self.old }
         ensures syncs { chip_syncs self.new ≡ chip_syncs self.old }
@@ -251,6 +266,9 @@ impl Chip {
                     self.violations = self.violations.wrapping_add(1);
                     return self.failed();
                 }
+                let Some(page) = page else {
+                    return self.failed();
+                };
                 if put(&mut self.blocks, at, page) {
                     return Ok(());
                 }
@@ -266,6 +284,9 @@ impl Chip {
                 self.cut_off()
             }
             Fate::Cut(Cut::Whole) => {
+                let Some(page) = page else {
+                    return self.cut_off();
+                };
                 put(&mut self.blocks, at, page);
                 self.cut_off()
             }
@@ -275,12 +296,9 @@ impl Chip {
     // Ends a command that fails.
     fn failed(&mut self) -> Result<(), Fault>
         ensures failed { result ≡ Err fault.Failed }
-        ensures schedule { schedule_of self.new ≡ schedule_of self.old }
         ensures cause { CountsFault (chip_faults self.old) (chip_faults self.new) result }
-        ensures flash { chip_flash self.new ≡ chip_flash self.old }
-        ensures shape { chip_shape self.new ≡ chip_shape self.old }
+        ensures no_command { IsNoCommand self.old self.new }
         ensures bad { chip_bad self.new ≡ chip_bad self.old }
-        ensures tally { chip_tally self.new ≡ chip_tally self.old }
         ensures syncs { chip_syncs self.new ≡ chip_syncs self.old }
     {
         self.failures = self.failures.wrapping_add(1);
@@ -290,12 +308,9 @@ impl Chip {
     // Ends a command in which the power goes.
     fn cut_off(&mut self) -> Result<(), Fault>
         ensures gone { result ≡ Err fault.PowerGone }
-        ensures schedule { schedule_of self.new ≡ schedule_of self.old }
         ensures cause { CountsFault (chip_faults self.old) (chip_faults self.new) result }
-        ensures flash { chip_flash self.new ≡ chip_flash self.old }
-        ensures shape { chip_shape self.new ≡ chip_shape self.old }
+        ensures no_command { IsNoCommand self.old self.new }
         ensures bad { chip_bad self.new ≡ chip_bad self.old }
-        ensures tally { chip_tally self.new ≡ chip_tally self.old }
         ensures syncs { chip_syncs self.new ≡ chip_syncs self.old }
     {
         self.cuts = self.cuts.wrapping_add(1);
@@ -304,12 +319,10 @@ impl Chip {
 
     // A read or a sync, which fails only without power.
     fn look(&mut self) -> Result<(), PowerGone>
+        ensures powered { is_ok result ≡ (schedule_of self.old).powered }
         ensures cause { CountsCut (chip_faults self.old) (chip_faults self.new) result }
-        ensures schedule { schedule_of self.new ≡ schedule_of self.old }
-        ensures flash { chip_flash self.new ≡ chip_flash self.old }
-        ensures shape { chip_shape self.new ≡ chip_shape self.old }
+        ensures no_command { IsNoCommand self.old self.new }
         ensures bad { chip_bad self.new ≡ chip_bad self.old }
-        ensures tally { chip_tally self.new ≡ chip_tally self.old }
         ensures syncs { chip_syncs self.new ≡ chip_syncs self.old }
     {
         if self.powered {
@@ -321,12 +334,14 @@ impl Chip {
 }
 
 impl Nand for Chip {
-    ghost use Rattle.std.specs.Prelude.{◌+◌, ◌%◌, ◌^◌, None, OnOk, slice_index_or, slice_set};
+    ghost use Rattle.std.specs.Prelude.{◌⊎◌, ◌+◌, ◌<◌, ◌%◌, ◌^◌, None, true, false, is_ok, IfOk, OnErr, OnOk, slice_index_or, slice_set};
     ghost use Rattle.durable.specs.Updates.{sole};
     ghost use Rattle.durable.specs.declared.command.Command.TheVariants as command;
     ghost use Rattle.nand.specs.Chip.{after_command, chip_bad, chip_erases, chip_faults, chip_flash, chip_shape, chip_syncs};
-    ghost use Rattle.nand.specs.Chip.{chip_tally, coming, schedule_of, Ends};
-    ghost use Rattle.nand.specs.Nand.{CountsCommand, CountsFault, Performs, value_with};
+    ghost use Rattle.nand.specs.Chip.{chip_tally, chip_violations, coming, is_next_page, schedule_of, violations_after, Ends, IsNoCommand};
+    ghost use Rattle.nand.specs.Cells.{reading_of};
+    ghost use Rattle.nand.specs.Nand.{CountsCommand, CountsCut, CountsFault, Performs, ReadsMain, value_with};
+    ghost use Rattle.nand.specs.Numbers.{Marks};
 
     ghost flash = { chip_flash };
 
@@ -348,14 +363,31 @@ impl Nand for Chip {
         self.tally
     }
 
-    fn is_bad(&mut self, block: u32) -> Result<bool, PowerGone> {
+    fn is_bad(&mut self, block: u32) -> Result<bool, PowerGone>
+        ensures answer { IfOk result
+            (λ is. is ≡ slice_index_or (chip_bad self.old) block false) }
+        ensures powered { is_ok result ≡ (schedule_of self.old).powered }
+        ensures no_command { IsNoCommand self.old self.new }
+        ensures bad { chip_bad self.new ≡ chip_bad self.old }
+        ensures syncs { chip_syncs self.new ≡ chip_syncs self.old }
+        ensures cause { CountsCut (chip_faults self.old) (chip_faults self.new) result }
+    {
         match self.look() {
             Ok(()) => Ok(self.bad.get(block as usize).copied().unwrap_or(false)),
             Err(PowerGone) => Err(PowerGone),
         }
     }
 
-    fn mark_bad(&mut self, block: u32) -> Result<(), PowerGone> {
+    fn mark_bad(&mut self, block: u32) -> Result<(), PowerGone>
+        ensures marks { block < (chip_shape self.old).blocks
+            → OnOk result (Marks (chip_bad self.old) (chip_bad self.new) block) }
+        ensures only { (chip_bad self.new ≡ chip_bad self.old)
+            ⊎ Marks (chip_bad self.old) (chip_bad self.new) block }
+        ensures powered { is_ok result ≡ (schedule_of self.old).powered }
+        ensures no_command { IsNoCommand self.old self.new }
+        ensures syncs { chip_syncs self.new ≡ chip_syncs self.old }
+        ensures cause { CountsCut (chip_faults self.old) (chip_faults self.new) result }
+    {
         match self.look() {
             Ok(()) => {
                 if (block as usize) < self.bad.len() {
@@ -367,14 +399,32 @@ impl Nand for Chip {
         }
     }
 
-    fn stamp(&mut self, at: PageAddr) -> Result<Reading, PowerGone> {
+    fn stamp(&mut self, at: PageAddr) -> Result<Reading, PowerGone>
+        ensures stamp { IfOk result
+            (λ reading. reading ≡ reading_of (chip_flash self.old at.block at.page)) }
+        ensures powered { is_ok result ≡ (schedule_of self.old).powered }
+        ensures no_command { IsNoCommand self.old self.new }
+        ensures bad { chip_bad self.new ≡ chip_bad self.old }
+        ensures syncs { chip_syncs self.new ≡ chip_syncs self.old }
+        ensures cause { CountsCut (chip_faults self.old) (chip_faults self.new) result }
+    {
         match self.look() {
             Ok(()) => Ok(peek(&self.blocks, at)),
             Err(PowerGone) => Err(PowerGone),
         }
     }
 
-    fn read(&mut self, at: PageAddr, out: &mut [u8]) -> Result<Reading, PowerGone> {
+    fn read(&mut self, at: PageAddr, out: &mut [u8]) -> Result<Reading, PowerGone>
+        ensures stamp { IfOk result
+            (λ reading. reading ≡ reading_of (chip_flash self.old at.block at.page)) }
+        ensures main { OnOk result
+            (ReadsMain (chip_flash self.old at.block at.page) out.new) }
+        ensures powered { OnOk result ((schedule_of self.old).powered ≡ true) }
+        ensures no_command { IsNoCommand self.old self.new }
+        ensures bad { chip_bad self.new ≡ chip_bad self.old }
+        ensures syncs { chip_syncs self.new ≡ chip_syncs self.old }
+        ensures cause { CountsCut (chip_faults self.old) (chip_faults self.new) result }
+    {
         match self.look() {
             Ok(()) => {
                 if copy_main(&self.blocks, at, out) {
@@ -397,14 +447,16 @@ impl Nand for Chip {
         ensures cause { CountsFault (chip_faults self.old) (chip_faults self.new) result }
         ensures tally { CountsCommand (command.Program at stamp.number)
             (chip_tally self.old) (chip_tally self.new) result }
+        ensures order { OnOk result (is_next_page (chip_flash self.old) at ≡ true) }
+        ensures violations { chip_violations self.new
+            ≡ violations_after (coming (schedule_of self.old))
+            (is_next_page (chip_flash self.old) at) (chip_violations self.old) }
+        ensures erases { chip_erases self.new ≡ chip_erases self.old }
         ensures ends { Ends (coming (schedule_of self.old)) result }
         ensures schedule { schedule_of self.new ≡ after_command (schedule_of self.old) }
     {
-        let Ok(main) = main.to_vec(self.alloc) else {
-            let _ = self.fate();
-            return self.failed();
-        };
-        self.fill(at, Page::Version(stamp, main))?;
+        let page = version(self.alloc, stamp, main);
+        self.fill(at, page)?;
         self.tally.programs = self.tally.programs.wrapping_add(1);
         Ok(())
     }
@@ -418,13 +470,15 @@ impl Nand for Chip {
         ensures cause { CountsFault (chip_faults self.old) (chip_faults self.new) result }
         ensures tally { CountsCommand (command.Copy 0 from to)
             (chip_tally self.old) (chip_tally self.new) result }
+        ensures order { OnOk result (is_next_page (chip_flash self.old) to ≡ true) }
+        ensures violations { chip_violations self.new
+            ≡ violations_after (coming (schedule_of self.old))
+            (is_next_page (chip_flash self.old) to) (chip_violations self.old) }
+        ensures erases { chip_erases self.new ≡ chip_erases self.old }
         ensures ends { Ends (coming (schedule_of self.old)) result }
         ensures schedule { schedule_of self.new ≡ after_command (schedule_of self.old) }
     {
-        let Some(page) = copied(self.alloc, &self.blocks, from) else {
-            let _ = self.fate();
-            return self.failed();
-        };
+        let page = copied(self.alloc, &self.blocks, from);
         self.fill(to, page)?;
         self.tally.copies = self.tally.copies.wrapping_add(1);
         Ok(())
@@ -439,6 +493,7 @@ impl Nand for Chip {
         ensures cause { CountsFault (chip_faults self.old) (chip_faults self.new) result }
         ensures tally { CountsCommand (command.Erase block)
             (chip_tally self.old) (chip_tally self.new) result }
+        ensures violations { chip_violations self.new ≡ chip_violations self.old }
         ensures ends { Ends (coming (schedule_of self.old)) result }
         ensures schedule { schedule_of self.new ≡ after_command (schedule_of self.old) }
         ensures counted { OnOk result (chip_erases self.new
@@ -474,7 +529,15 @@ impl Nand for Chip {
         }
     }
 
-    fn sync(&mut self) -> Result<(), PowerGone> {
+    fn sync(&mut self) -> Result<(), PowerGone>
+        ensures counts { OnOk result
+            (chip_syncs self.new ≡ (chip_syncs self.old + 1) % 2 ^ 64) }
+        ensures failed { OnErr result (chip_syncs self.new ≡ chip_syncs self.old) }
+        ensures powered { is_ok result ≡ (schedule_of self.old).powered }
+        ensures no_command { IsNoCommand self.old self.new }
+        ensures bad { chip_bad self.new ≡ chip_bad self.old }
+        ensures cause { CountsCut (chip_faults self.old) (chip_faults self.new) result }
+    {
         self.look()?;
         self.syncs = self.syncs.wrapping_add(1);
         Ok(())

@@ -12,9 +12,9 @@ ghost use Rattle.durable.specs.Promise.{KeepsAcknowledged};
 ghost use Rattle.durable.specs.Spare.{IsDuplicated};
 ghost use Rattle.durable.specs.Updates.{Update, sole};
 ghost use Rattle.durable.specs.declared.command.Command.TheVariants as command;
-ghost use Rattle.nand.specs.Cells.{IsWiped, contents_of, flash_in};
+ghost use Rattle.nand.specs.Cells.{IsWiped, contents_of, flash_in, reading_of};
 ghost use Rattle.nand.specs.Chip.{Ends, HasSame, after_command, chip_bad, chip_erases, chip_faults, chip_flash, chip_shape, chip_syncs};
-ghost use Rattle.nand.specs.Chip.{chip_tally, coming, schedule_of};
+ghost use Rattle.nand.specs.Chip.{IsNoCommand, chip_tally, chip_violations, coming, is_next_page, schedule_of, violations_after};
 ghost use Rattle.nand.specs.Stored.{HasLostSector, ReadsStored, StopsLook, StopsUpdate, WereStored, stored_value, value_at, value_for};
 ghost use Rattle.nand.specs.Histories.{IsFor, Leads, update_by};
 ghost use Rattle.nand.specs.Nand.{CountsCommand, CountsCut, CountsFault, HasBytes, Performs, ReadsMain, ReadsStamp};
@@ -236,6 +236,10 @@ pub fn modelled()
     ensures trim { (main : Vec ℕ OnHeap)
         → contents_of (page.Version (record { extent = sole 7; number = 3; trimmed = true }) main)
         ≡ Version (sole 7) 3 None }
+    ensures read_erased { reading_of Erased ≡ outcome.Erased }
+    ensures read_torn { reading_of Torn ≡ outcome.Unreadable }
+    ensures read { reading_of (Version (sole 7) 3 None)
+        ≡ outcome.Version (record { extent = sole 7; number = 3; trimmed = true }) }
     ensures wiped { (f t : Flash) → IsWiped f t 1 → t 1 3 ≡ Erased }
     ensures other { (f t : Flash) → IsWiped f t 1 → t 0 3 ≡ f 0 3 }
     ensures clean { (f : Flash) → IsErased f → IsWiped f f 1 }
@@ -304,6 +308,8 @@ pub fn schedules()
         → (chip_tally old).copies ≡ 3 → (chip_tally new).copies ≡ 3 }
     ensures same_syncs { (old new : Modelled) → HasSame old new
         → chip_syncs old ≡ 3 → chip_syncs new ≡ 3 }
+    ensures same_violations { (old new : Modelled) → HasSame old new
+        → chip_violations old ≡ 3 → chip_violations new ≡ 3 }
     ensures bad { (chip : Modelled) → chip.bad.items ≡ true ∷ [] → chip_bad chip ≡ true ∷ [] }
     ensures erases { (chip : Modelled) → chip.erases.items ≡ 3 ∷ [] → chip_erases chip ≡ 3 ∷ [] }
     ensures powered { (chip : Modelled) → chip.powered ≡ true → (schedule_of chip).powered ≡ true }
@@ -312,6 +318,38 @@ pub fn schedules()
         → (schedule_of chip).cut ≡ Some (4, cut.Whole) }
     ensures failing { (chip : Modelled) → chip.failing ≡ Some (5, 1)
         → (schedule_of chip).failing ≡ Some (5, 1) }
+{}
+
+/// In which order a modelled chip's pages are programmed, what breaks it, and what a call leaves that is no command.
+pub fn page_order()
+    ensures first { (f : Flash) → IsErased f
+        → is_next_page f (record { block = 0; page = 0 }) ≡ true }
+    ensures ahead { (f : Flash) → IsErased f
+        → is_next_page f (record { block = 0; page = 1 }) ≡ false }
+    ensures next { (f : Flash) → f 0 0 ≡ Torn → f 0 1 ≡ Erased
+        → is_next_page f (record { block = 0; page = 1 }) ≡ true }
+    ensures torn { (f : Flash) → f 0 0 ≡ Torn
+        → is_next_page f (record { block = 0; page = 0 }) ≡ false }
+    ensures programmed { (f : Flash) → f 0 0 ≡ Version (sole 7) 3 None
+        → is_next_page f (record { block = 0; page = 0 }) ≡ false }
+    ensures breaks { violations_after fate.Done false 3 ≡ 4 }
+    ensures wraps { violations_after fate.Done false (2 ^ 64 - 1) ≡ 0 }
+    ensures obeys { violations_after fate.Done true 3 ≡ 3 }
+    ensures failed { violations_after fate.Fails false 3 ≡ 3 }
+    ensures cut_off { violations_after (fate.Cut cut.Nothing) false 3 ≡ 3 }
+    ensures counted { (chip : Modelled) → chip.violations ≡ 3 → chip_violations chip ≡ 3 }
+    ensures pages { (old new : Modelled) → IsNoCommand old new
+        → chip_flash old 0 0 ≡ Torn → chip_flash new 0 0 ≡ Torn }
+    ensures schedule { (old new : Modelled) → IsNoCommand old new
+        → (schedule_of old).commands ≡ 3 → (schedule_of new).commands ≡ 3 }
+    ensures shape { (old new : Modelled) → IsNoCommand old new
+        → (chip_shape old).pages ≡ 4 → (chip_shape new).pages ≡ 4 }
+    ensures erases { (old new : Modelled) → IsNoCommand old new
+        → chip_erases old ≡ 3 ∷ [] → chip_erases new ≡ 3 ∷ [] }
+    ensures tally { (old new : Modelled) → IsNoCommand old new
+        → (chip_tally old).copies ≡ 3 → (chip_tally new).copies ≡ 3 }
+    ensures violations { (old new : Modelled) → IsNoCommand old new
+        → chip_violations old ≡ 3 → chip_violations new ≡ 3 }
 {}
 
 /// Which failures may come, and what they leave.

@@ -1,12 +1,10 @@
-use Rattle.std.proofs.Common.{◌∙◌, inl}
-use Rattle.nand.specs.declared.flash.Fault.TheVariants as fault
+use Rattle.std.proofs.Common.{ap, subst}
+use Rattle.durable.specs.Flash.{Flash, SetsPage}
+use Rattle.nand.specs.Cells.{flash_in}
 use Rattle.nand.specs.Chip.{chip_flash}
-use Rattle.nand.proofs.Chips.{ended, same_left}
 use Rattle.nand.proofs.chip.ChipNand.copyback.Goals as goal
 
-pub returns-in_default-clause-does : goal.returns-in_default-clause-does
-returns-in_default-clause-does c _ =
-    let f = chip_flash c.args.self.now in
-    let t = chip_flash c.failed.new.self in
-    ended c.failed.result fault.Failed c.failed.ensures.failed f t c.args.to (f c.args.from.block c.args.from.page)
-    (inl (same_left f t (c.failed.ensures.flash ∙ c.fate.ensures.same.flash)))
+pub returns-clause-does : goal.returns-clause-does
+returns-clause-does c _ =
+    (subst (λ (f : Flash). SetsPage (chip_flash c.args.self.now) (chip_flash c.fill.new.self) c.args.to.block c.args.to.page (f c.args.from.block c.args.from.page))
+    (ap flash_in c.deref.ensures.value) (c.in_ok-fill.ensures.sets _ c.copied-page.ensures).0, tt)
