@@ -6,5 +6,9 @@ use Rattle.nand.proofs.chip.ChipNand.copyback.Goals as goal
 
 pub returns-clause-does : goal.returns-clause-does
 returns-clause-does c _ =
-    (subst (λ (f : Flash). SetsPage (chip_flash c.args.self.now) (chip_flash c.fill.new.self) c.args.to.block c.args.to.page (f c.args.from.block c.args.from.page))
-    (ap flash_in c.deref.ensures.value) (c.in_ok-fill.ensures.sets _ c.copied-page.ensures).0, tt)
+    let f = chip_flash c.args.self.now in
+    let t = chip_flash c.fill.new.self in (
+      subst (λ (g : Flash). SetsPage f t c.args.to.block c.args.to.page (g c.args.from.block c.args.from.page)) (ap flash_in c.deref.ensures.value)
+          (c.in_ok-fill.ensures.sets _ c.copied-page.ensures).0,
+      tt,
+    )

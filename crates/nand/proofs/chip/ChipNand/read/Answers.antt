@@ -12,8 +12,8 @@ returns-then-copy_main-clause-stamp c =
 
 pub returns-then-copy_main-clause-main : goal.returns-then-copy_main-clause-main
 returns-then-copy_main-clause-main c =
-    subst (λ (f : Flash). ReadsMain (f c.args.at.block c.args.at.page) c.copy_main.new.out) (ap flash_in c.deref.ensures.value ∙ c.look.ensures.no_command.flash)
-    (c.copy_main.ensures c.if-copy_main.true)
+    subst (λ (f : Flash). ReadsMain (f c.args.at.block c.args.at.page) c.copy_main.new.out)
+    (ap flash_in c.deref.ensures.value ∙ c.look.ensures.no_command.flash) (c.copy_main.ensures c.if-copy_main.true)
 
 pub returns-else-copy_main-clause-cause : goal.returns-else-copy_main-clause-cause
 returns-else-copy_main-clause-cause c =
