@@ -207,7 +207,7 @@ pub fn all() -> Vec<Run> {
         run(4, 3, 5).failures(1).starts(Start::Filled(3)).one_value().up_to(1_000_000).long(),
         run(4, 3, 5).failures(1).freed(Freed::FewestFirst).starts(Start::Filled(3)).one_value().up_to(1_000_000).long(),
         run(4, 2, 3).failures(1).freed(Freed::One).one_value().refused(),
-        run(4, 3, 5).failures(1).freed(Freed::Maximal).starts(Start::Filled(3)).one_value().refused().long(),
+        run(4, 3, 5).failures(1).freed(Freed::Maximal).starts(Start::Filled(3)).one_value().up_to(1_000_000).long(),
     ];
     runs.extend(wrong_runs());
     runs
