@@ -8,9 +8,10 @@ use Rattle.durable.specs.Device.{Device, device_of}
 use Rattle.durable.specs.Flash.{Flash, Recovers}
 use Rattle.durable.specs.Promise.{IsConsistent, IsReadable, IsRecoverable, KeepsAcknowledged}
 use Rattle.durable.specs.Updates.{AreMade, Update, array_after}
-use Rattle.durable.specs.Runs.{Event, Completed, CutBetween, CutInside, Failed, Runs, outcomes_in}
+use Rattle.durable.specs.Retiring.{updates_left}
+use Rattle.durable.specs.Runs.{Event, Completed, CutBetween, CutInside, Failed, Retired, Runs, outcomes_in}
 use Rattle.durable.proofs.Promises.{readable, readable_renumbered, remounts, runs_consistent, survives_idle_cut}
-use Rattle.durable.proofs.Subsequences.{all_of, between_next, between_same}
+use Rattle.durable.proofs.Subsequences.{all_of, between_next, between_same, made_or_not}
 
 -- the updates that a flash keeps, told exactly
 exact : (f : Flash) (sectors : ℕ) (updates found : List Update) → found ≡ updates → Recovers f sectors (array_after found)
@@ -66,6 +67,11 @@ runs_made (Failed update m ∷ events) t new runs =
     (runs.3.1 runs.0 runs.3.0 update.value was.0 was.0 was.2 runs.3.2)
     (λ all is. remounts t (device_of new) new all all runs.3.4 refl
     (readable_renumbered runs.3.0 t (device_of runs.1) (device_of new) all all runs.3.3 runs.3.5 is))
+runs_made (Retired update m ∷ events) t new runs =
+    let was = runs_made events runs.0 runs.1 runs.2 in
+    let left = runs.3.0 in
+    let is = runs.3.3 runs.0 t update.value was.0 was.0 was.2 runs.3.2 in
+    (updates_left left m update was.0, (was.0, was.1, made_or_not left m update was.0), is)
 runs_made (CutInside update m ∷ events) t new runs =
     let was = runs_made events runs.0 runs.1 runs.2 in
     not_done t t (device_of runs.1) new update (outcomes_in events) was.0 was.1 (runs.3.0 runs.0 t update.value was.0 was.0 was.2 runs.3.1)

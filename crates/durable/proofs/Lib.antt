@@ -16,6 +16,7 @@ pub mod Noting
 pub mod Reserves
 pub mod Subsequences
 pub mod Exact
+pub mod Retired
 mod Losses
 mod Counted
 mod Telling

@@ -1,5 +1,5 @@
 -- What each call keeps of the promise.
-use Rattle.std.proofs.Common.{◌≡◌, ◌⊎◌, inl, inr, ⊎_elim, ◌+◌, ◌-◌, ◌*◌, ◌<◌, ◌≤◌, ◌^◌, ℕ, List, [], ◌∷◌, length, Option, None, Some, get_or}
+use Rattle.std.proofs.Common.{◌≡◌, ◌⊎◌, inl, inr, ⊎_elim, ◌+◌, ◌-◌, ◌*◌, ◌<◌, ◌≤◌, ◌^◌, ℕ, Bool, List, [], ◌∷◌, length, Option, None, Some, get_or}
 use Rattle.std.proofs.Common.{refl, sym, ◌∙◌, ap, subst, arith}
 use Rattle.std.proofs.lemmas.Bool.{cases_eq}
 use Rattle.std.proofs.lemmas.List.{length-set}
@@ -10,7 +10,7 @@ use Rattle.durable.specs.declared.command.Command.{Command}
 use Rattle.durable.specs.declared.command.Command.TheVariants.{Program, Copy, Erase, Refused}
 use Rattle.durable.specs.declared.memory.Core.{Core}
 use Rattle.durable.specs.declared.mount.Mount.{Mount}
-use Rattle.durable.specs.Updates.{LiesWithin, Update, array_after, changed}
+use Rattle.durable.specs.Updates.{IsSubsequence, LiesWithin, Update, array_after, changed}
 use Rattle.durable.specs.Flash.{PageContents, Torn, Version, Flash, HasVersion, RecoversSector, Recovers, SetsPage, IsErased}
 use Rattle.durable.specs.Commands.{Completes, CutLeaves, IsAllowed, IsSameFlash, updates_with}
 use Rattle.durable.specs.Device.{Device, device_of, device_in, NamesOn, IsWrittenOn}
@@ -23,13 +23,15 @@ use Rattle.durable.specs.Spare.{CanFree, IsDuplicated, LeavesSpare}
 use Rattle.durable.specs.Failures.{IsRenumbered, HasVersionlessBlock, IsSameFlashOf}
 use Rattle.durable.specs.Promise.{KeepsAcknowledged, IsReadable, IsRecoverable, IsConsistent}
 use Rattle.durable.specs.Calls.{IsSafe, SurvivesCut, SurvivesIdleCut, Acknowledges, HasNoted}
-use Rattle.durable.specs.Runs.{Event, Completed, Failed, CutInside, CutBetween, IsMountedFrom, Runs, acknowledged_in, begun_in}
+use Rattle.durable.specs.Retiring.{updates_left}
+use Rattle.durable.specs.Runs.{Event, Completed, Failed, Retired, CutInside, CutBetween, IsMountedFrom, Runs, acknowledged_in, begun_in}
 use Rattle.durable.proofs.Cells.{same_held, torn_holds_none, erased_holds_none, erased_has_none, erased_loses}
 use Rattle.durable.proofs.Moments.{erased_next, source_shows, same_mounts, lost_mounts, torn_mounts, programmed_mounts, copied_mounts}
 use Rattle.durable.proofs.Done.{Becomes, BecomesCore, array_with, represents_after}
 use Rattle.durable.proofs.Spares.{cut_spare, spare_after, same_spare}
 use Rattle.durable.specs.declared.found.Candidate.{Candidate}
 use Rattle.durable.proofs.Kept.{Keeps, keeps, finished}
+use Rattle.durable.proofs.Subsequences.{made_or_not, without_first}
 use Rattle.durable.proofs.Frees.{duplicated_freeable, spares}
 
 -- what success leaves is one of the things that a power cut may leave
@@ -306,6 +308,24 @@ pub remounts : (f : Flash) (device : Device) (new : Core) (acked begun : List Up
 remounts f device new acked begun from same is =
     from.3 f acked begun from.1 (readable_on f device (device_in from.0) acked begun (sym from.2 ∙ same) is)
 
+-- an update whose command has failed is begun, whether it was made or not
+begun_only : (left : Bool) (m : Command) (update : Update) (t : Flash) (new : Core) (acked begun : List Update)
+    → IsConsistent t new (updates_left left m update acked) (updates_left left m update begun) → IsConsistent t new acked (update ∷ begun)
+begun_only left m update t new acked begun is = record {
+  updates = is.updates;
+  includes = ⊎_elim
+      (λ same. subst (λ (us : List Update). IsSubsequence us is.updates) same is.includes)
+      (λ made. without_first update acked is.updates (subst (λ (us : List Update). IsSubsequence us is.updates) made is.includes))
+      (made_or_not left m update acked);
+  included = ⊎_elim
+      (λ same. inl (subst (λ (us : List Update). IsSubsequence is.updates us) same is.included))
+      (λ made. subst (λ (us : List Update). IsSubsequence is.updates us) made is.included)
+      (made_or_not left m update begun);
+  represents = is.represents;
+  written = is.written;
+  spare = is.spare;
+}
+
 pub runs_consistent : (events : List Event) (f : Flash) (core : Core) → Runs events f core → IsConsistent f core (acknowledged_in events) (begun_in events)
 runs_consistent [] f core runs = runs.1.3 f [] [] runs.1.1 (readable f (device_in runs.1.0) [] [] (erased_recoverable f (device_in runs.1.0) runs.0
     (some_blocks runs.1.0.blocks runs.1.0.pages (length runs.1.0.found.items) runs.1.0.has_capacity)))
@@ -319,6 +339,10 @@ runs_consistent (Failed update m ∷ events) t new runs =
     remounts t (device_of new) new (acknowledged_in events) begun runs.3.4 refl
     (readable_renumbered runs.3.0 t (device_of runs.1) (device_of new) (acknowledged_in events) begun runs.3.3 runs.3.5
     (readable runs.3.0 (device_of runs.1) (acknowledged_in events) begun left))
+runs_consistent (Retired update m ∷ events) t new runs =
+    let is = runs_consistent events runs.0 runs.1 runs.2 in
+    begun_only runs.3.0 m update t new (acknowledged_in events) (begun_in events)
+    (runs.3.3 runs.0 t update.value (acknowledged_in events) (begun_in events) is runs.3.2)
 runs_consistent (CutInside update m ∷ events) t new runs =
     let is = runs_consistent events runs.0 runs.1 runs.2 in
     let begun = update ∷ begun_in events in

@@ -13,7 +13,7 @@ use Rattle.durable.specs.Failures.{Changes, HoldsNoVersion, IsRenumbered, IsSwap
 use Rattle.durable.specs.Flash.{Flash}
 use Rattle.durable.specs.Promise.{IsRecoverable}
 use Rattle.durable.specs.Updates.{Update}
-use Rattle.durable.specs.Runs.{Event, Completed, CutBetween, CutInside, Failed, Runs, RunsOnReserve, acknowledged_in, begun_in, failures_in}
+use Rattle.durable.specs.Runs.{Event, Completed, CutBetween, CutInside, Failed, Retired, Runs, RunsOnReserve, acknowledged_in, begun_in, failures_in}
 use Rattle.durable.proofs.Cells.{erased_holds_none}
 use Rattle.durable.proofs.Promises.{blank_recoverable, completes_cut, readable, readable_renumbered, runs_consistent}
 
@@ -32,7 +32,7 @@ untouched f t device (Copy k from to) s value names cut b p le = ⊎_elim (λ sa
 untouched f t device (Erase d) s value names cut b p le = cut.outside b p (other_block d b device.blocks names le)
 untouched f t device Refused s value names cut b p le = cut b p
 
-changed_in_use : (device : Device) (m : Command) (b : ℕ) → NamesOn device m → Changes m b → b < device.blocks
+pub changed_in_use : (device : Device) (m : Command) (b : ℕ) → NamesOn device m → Changes m b → b < device.blocks
 changed_in_use device (Program at n) b names is = omega (arith, names.0, is)
 changed_in_use device (Copy k from to) b names is = omega (arith, names.1.0, is)
 changed_in_use device (Erase c) b names is = omega (arith, names, is)
@@ -54,7 +54,7 @@ swapped_twice a b c = grind (arith, nat_tests)
 pub swapped_within : (a b blocks c : ℕ) → a < blocks → b < blocks → c < blocks → swapped a b c < blocks
 swapped_within a b blocks c a_within b_within within = grind (arith, nat_tests)
 
-renumbered : (f t : Flash) (a b blocks : ℕ) → a < blocks → b < blocks → IsSwapped f t a b → IsRenumbered f t blocks
+pub renumbered : (f t : Flash) (a b blocks : ℕ) → a < blocks → b < blocks → IsSwapped f t a b → IsRenumbered f t blocks
 renumbered f t a b blocks a_within b_within is = record {
   to = swapped a b;
   from = swapped a b;
@@ -99,6 +99,10 @@ whole (Failed update m ∷ events) t new runs has =
         (is.1, ap (λ (d : Device). d.pages) runs.3.8, ap (λ (d : Device). d.sectors) runs.3.8),
       ),
     )
+whole (Retired update m ∷ events) t new runs has =
+    let old = device_of runs.1 in
+    let now = spares_before old (device_of new) (failures_in events + 1) runs.3.4 has in
+    (runs.0, runs.1, whole events runs.0 runs.1 runs.2 (omega (arith, now)), (runs.3.1, old.blocks + failures_in events, runs.3.2, runs.3.3, runs.3.4))
 whole (CutInside update m ∷ events) t new runs has =
     (runs.0, runs.1, whole events runs.0 runs.1 runs.2 (spares_before (device_of runs.1) (device_of new) (failures_in events) runs.3.1.3 has), runs.3.1)
 whole (CutBetween ∷ events) t new runs has =
@@ -126,6 +130,18 @@ blank (Failed update m ∷ events) t new runs has c le p s n v held =
     let stays = swapped_other runs.3.2 (old.blocks + failures_in events) c (λ e. omega (arith, e, within, le, is.0)) (λ e. omega (arith, e, le, is.0)) in
     let same = untouched runs.0 runs.3.1 old m update.extent update.value names runs.3.4 c p (omega (arith, le, is.0)) in
     let left = sym (runs.3.6 c p) ∙ ((λ i. t (stays i) p) ∙ held) in
+    blank events runs.0 runs.1 runs.2 (omega (arith, now)) c (omega (arith, le, is.0)) p s n v (sym same ∙ left)
+blank (Retired update m ∷ events) t new runs has c le p s n v held =
+    let old = device_of runs.1 in
+    let now = spares_before old (device_of new) (failures_in events + 1) runs.3.4 has in
+    let before = whole events runs.0 runs.1 runs.2 (omega (arith, now)) in
+    let is = blocks_are (device_of new) old runs.3.4 in
+    let names = names_of runs.1 m runs.0 events before runs.3.0 in
+    let gone = runs.3.2 in
+    let within = changed_in_use old m gone.block names gone.changes in
+    let stays = swapped_other gone.block (old.blocks + failures_in events) c (λ e. omega (arith, e, within, le, is.0)) (λ e. omega (arith, e, le, is.0)) in
+    let same = untouched runs.0 gone.failed old m update.extent update.value names gone.cut c p (omega (arith, le, is.0)) in
+    let left = sym (gone.swap c p) ∙ ((λ i. t (stays i) p) ∙ held) in
     blank events runs.0 runs.1 runs.2 (omega (arith, now)) c (omega (arith, le, is.0)) p s n v (sym same ∙ left)
 blank (CutInside update m ∷ events) t new runs has c le p s n v held =
     let old = device_of runs.1 in

@@ -8,7 +8,7 @@ use Rattle.durable.specs.Device.{Device, device_of, device_in, losses_of}
 use Rattle.durable.specs.Failures.{HasVersionlessBlock, IsRenumbered}
 use Rattle.durable.specs.Losses.{IsGapless, version_count}
 use Rattle.durable.specs.Promise.{IsReadable, IsRecoverable}
-use Rattle.durable.specs.Runs.{Event, Completed, Failed, CutInside, CutBetween, Runs, acknowledged_in, begun_in}
+use Rattle.durable.specs.Runs.{Event, Completed, Failed, Retired, CutInside, CutBetween, Runs, acknowledged_in, begun_in}
 use Rattle.durable.specs.Whole.{IsUnharmed, KeepsWhole, IsMountedWhole, RunsWhole}
 use Rattle.durable.proofs.Cells.{erased_has_none}
 use Rattle.durable.proofs.Promises.{readable, readable_on, readable_renumbered, erased_recoverable, some_blocks, survives_idle_cut, runs_consistent}
@@ -67,6 +67,8 @@ runs_of (Failed update m ∷ events) t new runs =
       runs_of events runs.0 runs.1 runs.2,
       (runs.3.0, runs.3.1, runs.3.2, runs.3.3, (mounted.0, mounted.1, mounted.2, mounted.3), runs.3.5),
     )
+runs_of (Retired update m ∷ events) t new runs =
+    (runs.0, runs.1, runs_of events runs.0 runs.1 runs.2, (runs.3.0, runs.3.1, runs.3.2, runs.3.3, runs.3.4))
 runs_of (CutInside update m ∷ events) t new runs =
     let mounted = runs.3.2 in
     (runs.0, runs.1, runs_of events runs.0 runs.1 runs.2, (runs.3.0, runs.3.1, (mounted.0, mounted.1, mounted.2, mounted.3), runs.3.3))
@@ -103,6 +105,10 @@ runs_whole (Failed update m ∷ events) t new runs =
     (readable runs.3.0 (device_of runs.1) (acknowledged_in events) begun left))
     (renumbered_unharmed runs.3.0 t (device_of runs.1).read_blocks runs.3.3 (device_of runs.1) (device_of new) runs.3.5.2 runs.3.7
     (runs.3.6 runs.0 runs.3.0 update.value (acknowledged_in events) (begun_in events) is before.0 runs.3.2))
+runs_whole (Retired update m ∷ events) t new runs =
+    let before = runs_whole events runs.0 runs.1 runs.2 in
+    let is = runs_consistent events runs.0 runs.1 (runs_of events runs.0 runs.1 runs.2) in
+    (runs.3.5 runs.0 t update.value (acknowledged_in events) (begun_in events) is before.0 runs.3.2, runs.3.6 ∙ before.1)
 runs_whole (CutInside update m ∷ events) t new runs =
     let before = runs_whole events runs.0 runs.1 runs.2 in
     let is = runs_consistent events runs.0 runs.1 (runs_of events runs.0 runs.1 runs.2) in

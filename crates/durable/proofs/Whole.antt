@@ -48,7 +48,7 @@ module _ (f t : Flash) where
       (λ differs. same_whole c (λ q. puts.others c q (inl differs)) whole)
       (cases_eq c b)
 
-  lost_whole : (b : ℕ) → LosesPages f t b → (c : ℕ) → c ≢ b → IsGapless f c → IsGapless t c
+  pub lost_whole : (b : ℕ) → LosesPages f t b → (c : ℕ) → c ≢ b → IsGapless f c → IsGapless t c
   lost_whole b loses c differs whole = same_whole c (λ q. loses.outside c q differs) whole
 
 -- the sector's newest version is in such a block, or no page has a value of it

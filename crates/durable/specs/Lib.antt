@@ -6,6 +6,7 @@ pub mod Device
 pub mod Promise
 pub mod Calls
 pub mod Failures
+pub mod Retiring
 pub mod Runs
 pub mod Whole
 pub mod Faults

@@ -1,5 +1,5 @@
 -- What stands between the flash and the layer's memory so that no loss is told of a flash that has lost no page.
-use Rattle.std.specs.Prelude.{◌≡◌, ◌≢◌, ◌⊎◌, ◌<◌, ℕ, List, [], ◌∷◌, length, Option, None, Some}
+use Rattle.std.specs.Prelude.{◌≡◌, ◌≢◌, ◌⊎◌, ◌<◌, ℕ, Bool, List, [], ◌∷◌, length, Option, None, Some}
 use Rattle.geometry.specs.Sectors.{Sector}
 use Rattle.geometry.specs.declared.page_addr.PageAddr.{PageAddr}
 use Rattle.durable.specs.Flash.{Flash, HoldsNeeded, HoldsNewest, IsErased}
@@ -13,7 +13,8 @@ use Rattle.durable.specs.Memory.{map_entry}
 use Rattle.durable.specs.Promise.{IsReadable, IsConsistent}
 use Rattle.durable.specs.Calls.{Acknowledges, HasNoted, Remounts, SurvivesCut}
 use Rattle.durable.specs.Failures.{HasVersionlessBlock, IsRenumbered, IsSameFlashOf}
-use Rattle.durable.specs.Runs.{Event, Completed, Failed, CutInside, CutBetween}
+use Rattle.durable.specs.Retiring.{IsRetired, Retires}
+use Rattle.durable.specs.Runs.{Event, Completed, Failed, Retired, CutInside, CutBetween}
 use Rattle.durable.specs.declared.command.Command.{Command}
 use Rattle.durable.specs.declared.memory.Core.{Core}
 use Rattle.durable.specs.declared.mount.Mount.{Mount}
@@ -59,6 +60,11 @@ abbrev pub StaysWhole : Core → Extent → Command → Core → Type 0
 StaysWhole old extent command new = (f t : Flash) (value : Sector) (acked begun : List Update) → IsConsistent f old acked begun → KeepsWhole f old
     → Completes command extent value f t → KeepsWhole t new
 
+-- nor does it keep anything there after a command has failed and its block has left the use
+abbrev pub RetiresWhole : Core → Extent → Command → Bool → ℕ → Core → Type 0
+RetiresWhole old extent command left spare new = (f t : Flash) (value : Sector) (acked begun : List Update) → IsConsistent f old acked begun
+    → KeepsWhole f old → IsRetired f t extent command left spare value → KeepsWhole t new
+
 -- a mount of a flash that has lost no page tells no loss, and the layer keeps nothing in a block that has a gap
 abbrev pub MountsWhole : Mount → Core → Type 0
 MountsWhole mount core = (f : Flash) (acked begun : List Update) → HasNoted f mount → IsReadable f (device_in mount) acked begun
@@ -78,6 +84,9 @@ HappensWhole (Failed update command) f old t new =
     (left : Flash) × SurvivesCut old update.extent command × CutLeaves command update.extent update.value f left
     × IsRenumbered left t (device_of old).read_blocks × IsMountedWhole t new × IsSameFlashOf (device_of old) (device_of new)
     × CutsUnharmed old update.extent command × HasVersionlessBlock t (device_of new)
+HappensWhole (Retired update command) f old t new =
+    (left : Bool) × (spare : ℕ) × IsRetired f t update.extent command left spare update.value × Retires old update.extent command left spare new
+    × (device_of new ≡ device_of old) × RetiresWhole old update.extent command left spare new × (losses_of new ≡ losses_of old)
 HappensWhole (CutInside update command) f old t new =
     SurvivesCut old update.extent command × CutLeaves command update.extent update.value f t × IsMountedWhole t new × (device_of new ≡ device_of old)
     × CutsUnharmed old update.extent command

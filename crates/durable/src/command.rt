@@ -1,4 +1,4 @@
-ghost use Rattle.std.specs.Prelude.{◌≡◌};
+ghost use Rattle.std.specs.Prelude.{◌≡◌, ◌≢◌};
 
 use geometry::PageAddr;
 
@@ -17,11 +17,25 @@ pub enum Command {
 
 impl Command {
     ghost use Rattle.durable.specs.Commands.{is_program};
+    ghost use Rattle.durable.specs.Failures.{Changes};
+    ghost use Rattle.durable.specs.declared.command.Command.TheVariants.{Refused};
 
     /// Whether the call is acknowledged after it.
     pub fn is_last(self) -> bool
         ensures { result ≡ is_program self }
     {
         matches!(self, Command::Program(..))
+    }
+
+    /// The block of which it changes pages.
+    pub fn changed_block(self) -> u32
+        ensures { self ≢ Refused → Changes self result }
+    {
+        match self {
+            Command::Program(at, _) => at.block,
+            Command::Copy(_, _, to) => to.block,
+            Command::Erase(block) => block,
+            Command::Refused => 0,
+        }
     }
 }

@@ -1,5 +1,6 @@
 ghost use Rattle.std.specs.Prelude.{◌≡◌, ◌<◌, ◌≤◌, ◌+◌, ◌^◌, ℕ, length, IfOk, None, Some, slice_set, slice_index_or};
-ghost use Rattle.durable.specs.Collecting.{AreLiveCounts, MapsAll, weight};
+ghost use Rattle.durable.specs.Collecting.{AreLiveCounts, IsFree, MapsAll, weight};
+ghost use Rattle.durable.specs.Retiring.{Renumbers};
 ghost use Rattle.durable.specs.Updates.{LiesWithin};
 ghost use Rattle.packed_map.specs.Entries.{IsPackable};
 
@@ -74,6 +75,32 @@ pub fn remap_all(map: &mut PackedMap, counts: &mut Counts, extent: Extent, to: P
     for sector in extent.first..extent.first + extent.count {
         let from = map.get(sector as usize);
         remap(map, counts, sector, from, to);
+    }
+}
+
+/// Gives each sector of a block the same page of another block, which no sector has, and counts the live pages anew.
+pub fn renumber(map: &mut PackedMap, counts: &mut Counts, from: u32, to: u32)
+    requires few { length map.old.items < 2 ^ 32 }
+    requires to { to + 1 < 2 ^ 32 }
+    requires free { IsFree map.old.items to }
+    requires counted { AreLiveCounts counts.old map.old.items }
+    ensures map { Renumbers map.old.items map.new.items from to }
+    ensures size { length counts.new ≡ length counts.old }
+    ensures counted { AreLiveCounts counts.new map.new.items }
+{
+    for s in 0..map.len() {
+        if let Some(at) = map.get(s) {
+            if at.block == from {
+                let page = at.page;
+                remap(
+                    map,
+                    counts,
+                    s as u32,
+                    Some(at),
+                    PageAddr { block: to, page },
+                );
+            }
+        }
     }
 }
 

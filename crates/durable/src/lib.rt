@@ -19,6 +19,7 @@ mod mounting;
 mod owners;
 mod ranking;
 mod rehearsal;
+mod retiring;
 mod runs;
 mod search;
 

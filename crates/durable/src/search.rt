@@ -57,8 +57,9 @@ pub fn source(map: &PackedMap, owners: &Owners, block: u32) -> Option<(u32, Page
     }
 }
 
+/// The same, by the map alone.
 #[inline(never)]
-fn source_in_map(map: &PackedMap, block: u32) -> Option<(u32, PageAddr)>
+pub fn source_in_map(map: &PackedMap, block: u32) -> Option<(u32, PageAddr)>
     requires { length map.now.items < 2 ^ 32 }
     ensures found { IfSome result
         (λ found. (found.0 < length map.now.items)

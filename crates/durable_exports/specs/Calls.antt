@@ -1,5 +1,5 @@
 -- What a call of C returns, and what it leaves: by what the handle has.
-use Rattle.std.specs.Prelude.{◌≡◌, ◌≢◌, ◌<◌, ℕ, Bool, nat_le, nat_lt, ◌+◌, ◌&&◌, ◌==◌, List, Option, None, Some, IfSome, if◌then◌else◌}
+use Rattle.std.specs.Prelude.{◌≡◌, ◌≢◌, ◌<◌, ◌≤◌, ◌^◌, ℕ, Bool, nat_le, nat_lt, ◌+◌, ◌&&◌, ◌==◌, List, Option, None, Some, IfSome, if◌then◌else◌}
 use Rattle.geometry.specs.declared.page_addr.PageAddr.{PageAddr}
 use Rattle.durable.specs.Flash.{Flash}
 use Rattle.durable.specs.declared.extent.Extent.{Extent}
@@ -12,7 +12,9 @@ use Rattle.durable.specs.Choice.{IsNextCommand, Spends, StaysOpen, left, number_
 use Rattle.durable.specs.Promise.{IsRecoverable, IsConsistent}
 use Rattle.durable.specs.Calls.{IsSafe, SurvivesCut, SurvivesIdleCut, Acknowledges, CountsLosses, DropsTrims, HasNoted, Remounts}
 use Rattle.durable.specs.Calls.{TellsLosses, TellsNoFalseLoss}
-use Rattle.durable.specs.Whole.{CutsIdleUnharmed, CutsUnharmed, MountsWhole, StaysWhole}
+use Rattle.durable.specs.Failures.{HoldsNoVersion}
+use Rattle.durable.specs.Retiring.{Retires}
+use Rattle.durable.specs.Whole.{CutsIdleUnharmed, CutsUnharmed, MountsWhole, RetiresWhole, StaysWhole}
 use Rattle.durable.specs.declared.command.Command.{Command}
 use Rattle.durable.specs.declared.command.Command.TheVariants.{Refused}
 use Rattle.durable.specs.declared.found.Stamp.{Stamp}
@@ -146,6 +148,23 @@ IsDone e did l after =
     × Spends command (layer_device l).pages (left l.core) (left after.core)
     × StaysOpen command (layer_device l).pages (next_page_of after.core)
     × (after.totals ≡ totals_with command l.totals)
+
+-- the code of a retirement, where its sectors are of the device: the command isn't the one that comes next, or the spare block won't do
+abbrev pub retire_code : ℕ → ℕ
+retire_code code = if code == OUT_OF_ORDER then OUT_OF_ORDER else (if code == NO_BLOCK then NO_BLOCK else DONE)
+
+-- the command of this report has failed for the extent, and the layer goes on with the spare block in its block's stead
+abbrev pub GoesOnWithout : Extent → CommandReport → Bool → ℕ → Layer → Layer → Type 0
+GoesOnWithout e did left spare l after =
+    (command : Command) × (did ≡ report_of e.first command) × IsNextCommand l.core command
+    × (layer_device after ≡ layer_device l) × Retires l.core e command left spare after.core
+    × RetiresWhole l.core e command left spare after.core × (layer_losses after ≡ layer_losses l)
+    × (next_number_of after.core ≡ number_after command (next_number_of l.core)) × (after.totals ≡ l.totals)
+
+-- a retirement that returns this code takes a block that isn't in use and has no version, while numbers are left
+abbrev pub TakesSpare : ℕ → ℕ → Layer → Type 0
+TakesSpare spare code l = (f : Flash) (acked begun : List Update) → IsConsistent f l.core acked begun → HoldsNoVersion f spare
+    → (layer_device l).blocks ≤ spare → spare < (layer_device l).read_blocks → next_number_of l.core + 1 < 2 ^ 64 → code ≢ NO_BLOCK
 
 -- the stamp that a note passes: none with 0, that of a version with 1, and with 2 that of a trim
 abbrev pub stamp_of : ℕ → Extent → ℕ → Option Stamp

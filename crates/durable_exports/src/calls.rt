@@ -7,7 +7,8 @@ ghost use Rattle.durable_exports.specs.Handles.{seat_of};
 ghost use Rattle.durable_exports.specs.Reports.{found_page};
 ghost use Rattle.durable_exports.specs.Calls.{code_of_mount, code_of_layer, OfMount, OfLayer, HasMount, HasLayer, begin_code, note_code};
 ghost use Rattle.durable_exports.specs.Calls.{finish_code, FreesBlock, Accepts, Refuses, IsBegun, IsNoted, IsMounted};
-ghost use Rattle.durable_exports.specs.Calls.{sector_code, extent_code, IsNewestPageOf, IsCommandFor, IsDone, layer_losses, stamp_of};
+ghost use Rattle.durable_exports.specs.Calls.{sector_code, extent_code, retire_code, IsNewestPageOf, IsCommandFor, IsDone, GoesOnWithout, TakesSpare};
+ghost use Rattle.durable_exports.specs.Calls.{layer_losses, stamp_of};
 
 use crate::codes::{
     ALREADY_OPEN, CLOSED, DONE, NO_BLOCK, NO_MEMORY, OUT_OF_ORDER, TOO_FEW_BLOCKS, WRONG_KIND,
@@ -303,6 +304,48 @@ pub extern "C" fn mintlintel_core_done(
         Seat::Mounted(layer) => layer.done(Extent { first, count }, command),
         Seat::Mounting(_) => WRONG_KIND,
     })
+}
+
+/// The command that comes next for these sectors has failed. Its block changes its number with `spare`, which comes in use in its stead. `left` isn't 0
+/// if the page of a program can be read as a version now.
+#[unsafe(no_mangle)]
+pub extern "C" fn mintlintel_core_retire(
+    alloc: Global,
+    handle: &mut Handle,
+    first: u32,
+    count: u32,
+    command: &mut CommandReport,
+    left: u32,
+    spare: u32,
+) -> u32
+    ensures code { result
+        ≡ code_of_layer (seat_of handle.old)
+        (extent_code (record { first = first; count = count }) (retire_code result)) }
+    ensures retired { result ≡ DONE
+        → OfLayer (seat_of handle.old) (λ l. HasLayer (seat_of handle.new)
+        (GoesOnWithout (record { first = first; count = count }) command.old (nat_lt 0 left) spare l)) }
+    ensures takes { OfLayer (seat_of handle.old) (TakesSpare spare result) }
+    ensures same { result ≢ DONE → seat_of handle.new ≡ seat_of handle.old }
+    ensures report { command.new ≡ command.old }
+{
+    let command = *command;
+    handle.typed().on(
+        alloc,
+        |seat| retire(seat, Extent { first, count }, command, left > 0, spare),
+    )
+}
+
+fn retire(seat: &mut Seat, extent: Extent, command: CommandReport, left: bool, spare: u32) -> u32
+    ensures code { result ≡ code_of_layer (Some seat.old) (extent_code extent (retire_code result)) }
+    ensures retired { result ≡ DONE → OfLayer (Some seat.old)
+        (λ l. HasLayer (Some seat.new) (GoesOnWithout extent command left spare l)) }
+    ensures takes { OfLayer (Some seat.old) (TakesSpare spare result) }
+    ensures same { result ≢ DONE → seat.new ≡ seat.old }
+{
+    match seat {
+        Seat::Mounted(layer) => layer.retire(extent, command, left, spare),
+        Seat::Mounting(_) => WRONG_KIND,
+    }
 }
 
 /// A block was erased so often before the mount, which counts where the layer chooses among blocks that are as good.

@@ -6,11 +6,13 @@ ghost use Rattle.durable.specs.Flash.{Flash};
 ghost use Rattle.durable.specs.Updates.{Update};
 ghost use Rattle.durable.specs.Device.{Device, device_in, next_number_in, next_number_of, next_page_of, IsStampOn};
 ghost use Rattle.durable.specs.Mounting.{IsStampOf, next_in, after_in};
-ghost use Rattle.durable.specs.Promise.{IsReadable, IsRecoverable};
+ghost use Rattle.durable.specs.Failures.{HoldsNoVersion};
+ghost use Rattle.durable.specs.Promise.{IsConsistent, IsReadable, IsRecoverable};
+ghost use Rattle.durable.specs.Retiring.{Retires};
 ghost use Rattle.durable.specs.Choice.{IsNextCommand, Spends, StaysOpen, left, number_after};
 ghost use Rattle.durable.specs.Calls.{Acknowledges, IsSafe, SurvivesCut, SurvivesIdleCut};
 ghost use Rattle.durable.specs.Calls.{CountsLosses, DropsTrims, HasNoted, Remounts, TellsLosses, TellsNoFalseLoss};
-ghost use Rattle.durable.specs.Whole.{CutsIdleUnharmed, CutsUnharmed, IsUnharmed, MountsWhole, StaysWhole};
+ghost use Rattle.durable.specs.Whole.{CutsIdleUnharmed, CutsUnharmed, IsUnharmed, MountsWhole, RetiresWhole, StaysWhole};
 ghost use Rattle.durable.specs.declared.command.Command.{Command as Next};
 ghost use Rattle.durable.specs.declared.command.Command.TheVariants as command;
 ghost use Rattle.durable.specs.declared.found.Stamp.{Stamp};
@@ -25,8 +27,9 @@ ghost use Rattle.durable_exports.specs.Handles.{seat_of};
 ghost use Rattle.durable_exports.specs.Reports.{found_page, place_report, page_at, report_of, one_more, no_totals, totals_with};
 ghost use Rattle.durable_exports.specs.Calls.{layer_device, layer_losses, code_of_mount, code_of_layer, OfMount, OfLayer, HasMount, HasLayer};
 ghost use Rattle.durable.specs.Updates.{sole};
-ghost use Rattle.durable_exports.specs.Calls.{begin_code, note_code, finish_code, sector_code, extent_code, stamp_of};
+ghost use Rattle.durable_exports.specs.Calls.{begin_code, note_code, finish_code, sector_code, extent_code, retire_code, stamp_of};
 ghost use Rattle.durable_exports.specs.Calls.{Accepts, Refuses, FreesBlock, IsBegun, IsNoted, IsMounted, IsNewestPageOf, IsCommandFor, IsDone};
+ghost use Rattle.durable_exports.specs.Calls.{GoesOnWithout, TakesSpare};
 
 /// The code of a call, by what the handle has.
 pub fn codes()
@@ -55,6 +58,9 @@ pub fn codes()
         → extent_code (record { first = 7; count = 2 }) 5 l ≡ 3 }
     ensures empty { (l : Layer) → (layer_device l).sectors ≡ 8
         → extent_code (record { first = 7; count = 0 }) 5 l ≡ 3 }
+    ensures retired { retire_code 0 ≡ 0 }
+    ensures no_spare { retire_code 7 ≡ 7 }
+    ensures not_next { retire_code 32 ≡ 32 }
 {}
 
 /// What is said of a mount or a layer, by what the handle has.
@@ -172,4 +178,27 @@ pub fn calls()
         → IsCommandFor (sole 7) out l → (c : Next) × (out ≡ report_of 7 c) }
     ensures done { (did : CommandReport) (l k : Layer) → IsDone (sole 7) did l k
         → (c : Next) × (did ≡ report_of 7 c) × (k.totals ≡ totals_with c l.totals) }
+{}
+
+/// What a retirement leaves, and which block it takes.
+pub fn retirements()
+    ensures retires { (did : CommandReport) (l k : Layer) → GoesOnWithout (sole 7) did true 5 l k
+        → (c : Next) × (did ≡ report_of 7 c) × IsNextCommand l.core c × Retires l.core (sole 7) c true 5 k.core }
+    ensures whole { (did : CommandReport) (l k : Layer) → GoesOnWithout (sole 7) did true 5 l k
+        → (c : Next) × (did ≡ report_of 7 c) × RetiresWhole l.core (sole 7) c true 5 k.core }
+    ensures device { (did : CommandReport) (l k : Layer) → GoesOnWithout (sole 7) did true 5 l k
+        → layer_device k ≡ layer_device l }
+    ensures losses { (did : CommandReport) (l k : Layer) → GoesOnWithout (sole 7) did true 5 l k
+        → layer_losses k ≡ layer_losses l }
+    ensures number { (did : CommandReport) (l k : Layer) → GoesOnWithout (sole 7) did true 5 l k
+        → (c : Next) × (did ≡ report_of 7 c)
+        × (next_number_of k.core ≡ number_after c (next_number_of l.core)) }
+    ensures totals { (did : CommandReport) (l k : Layer) → GoesOnWithout (sole 7) did true 5 l k → k.totals ≡ l.totals }
+    ensures takes { (f : Flash) (l : Layer) (acked begun : List Update) → IsConsistent f l.core acked begun
+        → HoldsNoVersion f 5 → (layer_device l).blocks ≡ 5 → (layer_device l).read_blocks ≡ 6
+        → next_number_of l.core ≡ 9 → ¬ TakesSpare 5 7 l }
+    ensures in_use { (l : Layer) → (layer_device l).blocks ≡ 6 → TakesSpare 5 7 l }
+    ensures not_read { (l : Layer) → (layer_device l).read_blocks ≡ 5 → TakesSpare 5 7 l }
+    ensures spent { (l : Layer) → next_number_of l.core ≡ 2 ^ 64 - 1 → TakesSpare 5 7 l }
+    ensures taken { (l : Layer) → TakesSpare 5 0 l }
 {}

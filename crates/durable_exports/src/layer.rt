@@ -1,7 +1,7 @@
 //! The layer behind a handle.
 ghost use Rattle.std.specs.Prelude.{◌≡◌};
 
-use crate::codes::{DONE, NO_NUMBER, NO_SECTOR, OUT_OF_ORDER, WRITTEN};
+use crate::codes::{DONE, NO_BLOCK, NO_NUMBER, NO_SECTOR, OUT_OF_ORDER, WRITTEN};
 use crate::reports::{self, CommandReport, PlaceReport, Totals};
 use durable::{Command, Core, Extent};
 
@@ -17,7 +17,7 @@ impl Layer {
     ghost use Rattle.durable.specs.Device.{next_number_of};
     ghost use Rattle.durable_exports.specs.declared.codes.TheConstants.{DONE, WRITTEN, NO_NUMBER, OUT_OF_ORDER};
     ghost use Rattle.durable_exports.specs.Reports.{no_totals, found_page};
-    ghost use Rattle.durable_exports.specs.Calls.{sector_code, extent_code, IsNewestPageOf, IsCommandFor, IsDone};
+    ghost use Rattle.durable_exports.specs.Calls.{sector_code, extent_code, retire_code, IsNewestPageOf, IsCommandFor, IsDone, GoesOnWithout, TakesSpare};
 
     /// A layer that was just mounted.
     pub(crate) fn new(core: Core) -> Layer
@@ -87,5 +87,32 @@ impl Layer {
         self.core.done(extent, command);
         self.totals.count(command);
         DONE
+    }
+
+    // Retires the block of the command that comes next for an extent, which has failed, for a block that isn't in use.
+    pub(crate) fn retire(
+        &mut self,
+        extent: Extent,
+        did: CommandReport,
+        left: bool,
+        spare: u32,
+    ) -> u32
+        ensures code { result ≡ extent_code extent (retire_code result) self.old }
+        ensures retired { result ≡ DONE → GoesOnWithout extent did left spare self.old self.new }
+        ensures takes { TakesSpare spare result self.old }
+        ensures same { result ≢ DONE → self.new ≡ self.old }
+    {
+        if !extent.lies_within(self.core.sectors() as usize) {
+            return NO_SECTOR;
+        }
+        let command = self.core.next(extent);
+        if reports::report(extent.first, command) != did {
+            return OUT_OF_ORDER;
+        }
+        if self.core.retire(extent, command, left, spare) {
+            DONE
+        } else {
+            NO_BLOCK
+        }
     }
 }

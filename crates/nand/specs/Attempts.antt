@@ -1,7 +1,10 @@
 -- What an attempt to update a sector leaves that came to no end.
 use Rattle.std.specs.Prelude.{◌≡◌, ◌<◌, ◌+◌, ℕ, Bool, false, List, Result, Ok, Err}
+use Rattle.durable.specs.Choice.{IsNextCommand}
+use Rattle.durable.specs.Failures.{Changes}
 use Rattle.durable.specs.Flash.{Flash}
 use Rattle.durable.specs.Updates.{Makes, Update}
+use Rattle.durable.specs.declared.command.Command.{Command}
 use Rattle.nand.specs.declared.flash.Fault.{Fault}
 use Rattle.nand.specs.declared.flash.Shape.{Shape}
 use Rattle.nand.specs.declared.flash.Tally.{Tally}
@@ -41,3 +44,9 @@ abbrev pub CountsStop : {T : Type 0} → (Fault → ℕ) → (Fault → ℕ) →
 CountsStop {T} before now (Ok value) = (cause : Fault) → now cause ≡ before cause
 CountsStop {T} before now (Err stop.NoNumber) = (cause : Fault) → now cause ≡ before cause
 CountsStop {T} before now (Err (stop.Fault cause number)) = CountsOne before now cause
+
+-- a fault is told of the block whose pages a command changes that comes next
+abbrev pub StopsAt : {N T : Type 0} → Durable N → Result T Stop → Type 0
+StopsAt {N} {T} layer (Ok value) = Unit {0}
+StopsAt {N} {T} layer (Err stop.NoNumber) = Unit {0}
+StopsAt {N} {T} layer (Err (stop.Fault cause number)) = (command : Command) × IsNextCommand layer.core command × Changes command number

@@ -1,12 +1,10 @@
 //! How sectors get a new version, and how the layer goes on after a command that has failed.
 ghost use Rattle.std.specs.Prelude.{◌≡◌, ◌≢◌, ◌⊎◌, ◌<◌, ◌≤◌, ◌+◌, ◌^◌, ℕ, Bool, true, false, List, ◌∷◌, length, Ok, Err, OnOk, OnErr, IfErr};
 ghost use Rattle.durable.specs.Device.{device_of, losses_of};
-ghost use Rattle.durable.specs.Failures.{Changes};
 ghost use Rattle.durable.specs.Updates.{LiesWithin, Update};
-ghost use Rattle.durable.specs.declared.command.Command.TheVariants as commands;
-ghost use Rattle.nand.specs.Attempts.{CanReplace, CountsStop, Leaves, TalliesAttempt};
+ghost use Rattle.nand.specs.Attempts.{CanReplace, CountsStop, Leaves, StopsAt, TalliesAttempt};
 ghost use Rattle.nand.specs.Nand.{CountsCommand, CountsFault, Performs, value_with};
-ghost use Rattle.nand.specs.Numbers.{IsOrder, good_before, is_marked, numbered};
+ghost use Rattle.nand.specs.Numbers.{IsOrder, chip_block as block_of, good_before, is_marked, numbered};
 ghost use Rattle.nand.specs.Opened.{CanOpen, Fails, IsUnmounted, IsOpenLayer, IsSameDevice, IsTrueCause, KeepsDevice, MarksFailed};
 ghost use Rattle.nand.specs.Opened.{layer_sectors, number_of, reserve_of, update_of};
 ghost use Rattle.nand.specs.Programs.{AddsVersion, ProgramsOnce};
@@ -29,18 +27,6 @@ pub(crate) enum Stop {
     NoNumber,
     // The fault of a command that changes pages of the block with this number.
     Fault(Fault, u32),
-}
-
-// The block of which a command changes pages.
-fn changed_block(command: Command) -> u32
-    ensures { command ≢ commands.Refused → Changes command result }
-{
-    match command {
-        Command::Program(at, _) => at.block,
-        Command::Copy(_, _, to) => to.block,
-        Command::Erase(block) => block,
-        Command::Refused => 0,
-    }
 }
 
 // Has the chip do a command.
@@ -162,6 +148,7 @@ impl<N: Nand> Durable<N> {
             (update_of extent (value_with trimmed main.now)) updates) }
         ensures number { result ≡ Err stop.NoNumber
             → (number_of self.new ≡ number_of self.old) × (2 ^ 64 ≤ number_of self.new + 1) }
+        ensures at { StopsAt self.new result }
         ensures counts { CountsStop (N.faults self.old.nand) (N.faults self.new.nand) result }
         ensures device { IsSameDevice N.shape N.bad self.old self.new }
         ensures reserve { reserve_of self.new ≡ reserve_of self.old }
@@ -188,7 +175,7 @@ impl<N: Nand> Durable<N> {
                 main,
             ) {
                 self.mounted = false;
-                return Err(Stop::Fault(fault, changed_block(command)));
+                return Err(Stop::Fault(fault, command.changed_block()));
             }
             self.core.done(extent, command);
             if command.is_last() {
@@ -226,6 +213,8 @@ impl<N: Nand> Durable<N> {
             → N.faults self.new.nand fault.PowerGone ≢ N.faults self.old.nand fault.PowerGone }
         ensures marks { (b : ℕ) → is_marked (N.bad self.old.nand) b ≡ true
             → is_marked (N.bad self.new.nand) b ≡ true }
+        ensures no_other { (b : ℕ) → b ≢ block_of self.old.numbers.items number
+            → is_marked (N.bad self.new.nand) b ≡ is_marked (N.bad self.old.nand) b }
         ensures tally { N.tally self.new.nand ≡ N.tally self.old.nand }
         ensures shape { N.shape self.new.nand ≡ N.shape self.old.nand }
         ensures sectors { layer_sectors self.new ≡ layer_sectors self.old }

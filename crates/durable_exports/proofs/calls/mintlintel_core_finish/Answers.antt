@@ -62,14 +62,6 @@ finishes no_block no_memory s mount other next has same reads ends =
     subst (λ (x : Option Seat). finish_code None no_block no_memory ≡ code_of_mount x (λ m. finish_code (next_in m) no_block no_memory)) (sym has)
     (ap (λ (n : Option PageAddr). finish_code n no_block no_memory) (sym none))
 
-pub returns-then-fill-clause-code : goal.returns-then-fill-clause-code
-returns-then-fill-clause-code c =
-    let held : Some c.in-Some.seat.value ≡ Some (Mounting c.in-Mounting-into_inner.mount) =
-    ap (λ (x : Seat). Some x) (sym c.into_inner.ensures ∙ c.in-Mounting-into_inner.is) in
-    finishes false false _ c.in-Mounting-into_inner.mount c.in-Mounting.mount c.next_page.result
-    (sym (ap value_of c.typed-handle.ensures.value) ∙ sym c.take.ensures.value ∙ ap (option_map boxed) c.in-Some.is ∙ held)
-    (sym c.in-Mounting.is ∙ c.deref.ensures ∙ sym c.into_inner.ensures ∙ c.in-Mounting-into_inner.is) c.next_page.ensures c.if-is_some.ensures
-
 pub returns-else-fill-clause-code : goal.returns-else-fill-clause-code
 returns-else-fill-clause-code c =
     let held : Some c.in-Some.seat.value ≡ Some (Mounting c.in-Mounting-into_inner.mount) =
