@@ -83,8 +83,8 @@ fn numbers(words: &[&str]) -> Result<Vec<usize>, String> {
 
 impl Follower {
     fn new(size: Size, wrong: Option<Wrong>) -> Follower {
-        let rule = Rule { size, failures: 0, has_reserve: false, freed: Freed::One, drops_tombstones: true, reads_to_gap: false, wrong };
-        let device = Device { blocks: [Block::BLANK; BLOCKS], call: None, next_number: 1, failures_left: 0, allowed: 0 };
+        let rule = Rule { freed: Freed::One, wrong, ..Rule::of(size) };
+        let device = Device { blocks: [Block::BLANK; BLOCKS], call: None, next_number: 1, failures_left: 0, choices: 0, allowed: 0 };
         Follower { rule, device, lost: None, compared: Compared::default() }
     }
 
@@ -152,7 +152,7 @@ impl Follower {
                 let copy = Command::Copy { from: (*block, *page), sector: *sector as u8, block: *to };
                 (copy, None, Some((*to, *to_page)))
             }
-            ("erase", [block]) => (Command::Erase { block: *block }, None, None),
+            ("erase", [block]) => (Command::Erase { block: *block, for_copies: true }, None, None),
             _ => return Err("it is no command".to_string()),
         };
         if number.is_some_and(|number| number + 1 != self.device.next_number as usize) {

@@ -142,13 +142,14 @@ pub fn fingerprint(device: &Device) -> u128 {
         Page::Holds(v) => 4 | (v.value as u64) << 3 | (v.first as u64) << 5 | (v.count as u64) << 8 | (v.number as u64) << 12,
     };
     for block in &device.blocks {
-        add(block.open.map_or(255, |page| page as u64) | (block.bad as u64) << 8 | (block.is_reserve as u64) << 9);
+        let marks = (block.bad as u64) << 8 | (block.is_reserve as u64) << 9 | (block.for_copies as u64) << 10;
+        add(block.open.map_or(255, |page| page as u64) | marks);
         for cell in &block.cells {
             add(code(cell.now) | code(cell.sure) << 20 | (cell.kept as u64) << 40);
         }
     }
     let call = device.call.map_or(0, |call| code(Page::Holds(call)));
-    add(call | (device.failures_left as u64) << 24 | (device.next_number as u64) << 32);
+    add(call | (device.failures_left as u64) << 24 | (device.choices as u64) << 28 | (device.next_number as u64) << 32);
     add(device.allowed as u64);
     (low as u128) << 64 | high as u128
 }

@@ -1,7 +1,7 @@
 //! Every state that a device can reach, by calls, commands, failures and power cuts.
 
 use crate::canon;
-use crate::flash::{Block, Device, Page, Place, Version, BLOCKS};
+use crate::flash::{Block, Cell, Device, Page, Place, Version, BLOCKS};
 use crate::layer::{Array, Command, Rule, Wrong};
 use std::collections::{HashMap, VecDeque};
 use std::fmt;
@@ -16,6 +16,9 @@ pub enum Sync {
     Flush,
     /// The same, and between an erase and the block's first program.
     FlushAndAfterErase,
+    /// When it lands: commands of different blocks are under way side by side. One waits for that before it of its block, a copy for its page, and
+    /// an erase for all.
+    SideBySide,
 }
 
 /// What a mount may show.
@@ -59,6 +62,8 @@ pub enum Event {
     Begins(Version),
     Flushed,
     Did(Command),
+    /// What was under way of the block is sure.
+    Landed(usize),
     CutBetween,
     Cut(Command),
     KilledBetween,
@@ -75,6 +80,7 @@ impl fmt::Display for Event {
             Event::Begins(call) => write!(f, "trim of {} sectors from {}", call.count, call.first),
             Event::Flushed => write!(f, "flush"),
             Event::Did(command) => write!(f, "{command}"),
+            Event::Landed(block) => write!(f, "the command of block {block} lands"),
             Event::CutBetween => write!(f, "power cut between two commands, and mount"),
             Event::Cut(command) => write!(f, "power cut in: {command}; and mount"),
             Event::KilledBetween => write!(f, "kill between two commands, and mount"),
@@ -107,6 +113,9 @@ pub enum Outcome {
 
 type Next = Vec<(Event, Device)>;
 
+/// What is known of states, by their fingerprints.
+type Seen<Known> = HashMap<u128, Known, BuildHasherDefault<ByFingerprint>>;
+
 impl Model {
     fn is(&self, wrong: Wrong) -> bool {
         self.rule.is(wrong)
@@ -134,8 +143,8 @@ impl Model {
     }
 
     fn start(&self, start: Start) -> Device {
-        let mut device =
-            Device { blocks: [Block::BLANK; BLOCKS], call: None, next_number: 1, failures_left: self.rule.failures, allowed: 0 };
+        let failures_left = self.rule.failures;
+        let mut device = Device { blocks: [Block::BLANK; BLOCKS], call: None, next_number: 1, failures_left, choices: 0, allowed: 0 };
         if self.rule.has_reserve {
             let used = self.rule.size.blocks - self.rule.failures as usize;
             device.blocks[used..self.rule.size.blocks].iter_mut().for_each(|block| block.is_reserve = true);
@@ -206,7 +215,7 @@ impl Model {
 
     /// Without a reserve a failed erase may leave a block with a gap as the only one with a version.
     fn tells_losses(&self) -> bool {
-        self.sync == Sync::Always && (self.rule.failures == 0 || self.rule.has_reserve)
+        matches!(self.sync, Sync::Always | Sync::SideBySide) && (self.rule.failures == 0 || self.rule.has_reserve)
     }
 
     /// Each page in turn becomes unreadable: an older version is shown only with a loss told, or where the flash doesn't show that a page is missing.
@@ -250,12 +259,59 @@ impl Model {
         put
     }
 
+    /// The device once the command may begin: what it waits for has landed.
     fn before(&self, device: &Device, command: Command) -> Device {
         let mut device = *device;
-        if matches!(command, Command::Erase { .. }) && !self.is(Wrong::NoSyncBeforeErase) {
+        let waits_for = |block: usize| match (self.sync, command) {
+            (Sync::SideBySide, Command::Erase { block: erased, .. }) => self.erase_waits_for(&device, erased, block),
+            (Sync::SideBySide, Command::Program { block: of }) => block == of,
+            (Sync::SideBySide, Command::Copy { from, block: of, .. }) => block == of || block == from.0,
+            (Sync::FlushAndAfterErase, Command::Program { block: of }) => self.shares_after_hosts(&device, of),
+            (_, Command::Erase { .. }) => !self.is(Wrong::NoSyncBeforeErase),
+            _ => false,
+        };
+        let awaited: Vec<usize> = (0..self.rule.size.blocks).filter(|block| waits_for(*block)).collect();
+        if awaited.len() == self.rule.size.blocks {
             self.sync(&mut device);
         }
+        awaited.into_iter().for_each(|block| self.land(&mut device, block));
         device
+    }
+
+    /// A host writes in the block of copies after others, which have to be sure, or a cut would not leave a beginning of the history.
+    fn shares_after_hosts(&self, device: &Device, block: usize) -> bool {
+        let is_other_busy = || (0..self.rule.size.blocks).any(|other| other != block && device.blocks[other].is_busy());
+        self.rule.hosts > 0 && device.blocks[block].for_copies && is_other_busy() && !self.is(Wrong::SharesUnsynced)
+    }
+
+    /// An erase waits for all that is programmed or copied, and for nothing else of other blocks.
+    fn erase_waits_for(&self, device: &Device, erased: usize, block: usize) -> bool {
+        let is_replaced = |new: Version| device.blocks[erased].cells.iter().filter_map(|old| old.sure.version()).any(|old| old.meets(new));
+        let under_way = device.blocks[block].cells.iter().filter(|cell| cell.now != cell.sure);
+        let mut programmed = under_way.filter_map(|cell| cell.now.version());
+        block == erased
+            || match self.rule.wrong {
+                Some(Wrong::ErasesBesideCopies) => !device.blocks[block].for_copies,
+                Some(Wrong::ErasesBesidePrograms) => device.blocks[block].for_copies,
+                Some(Wrong::ErasesBesideOthers) => programmed.any(is_replaced),
+                _ => programmed.next().is_some(),
+            }
+    }
+
+    /// What is under way of the block is sure then, and its call acknowledged: no older value of the sectors that are kept there may be shown.
+    fn land(&self, device: &mut Device, block: usize) {
+        for page in 0..self.rule.size.pages {
+            let Cell { now, sure, kept } = *device.cell((block, page));
+            device.cell_mut((block, page)).sure = now;
+            if let Some(version) = now.version().filter(|_| now != sure) {
+                for sector in version.sectors().filter(|sector| kept >> sector & 1 == 1) {
+                    device.allowed &= !(7 << (3 * sector)) | 1 << (3 * sector + version.value);
+                }
+            }
+        }
+        if self.is(Wrong::AcknowledgesOthers) {
+            device.allowed = self.now(device);
+        }
     }
 
     fn done(&self, put: &Device, call: Version, command: Command) -> Device {
@@ -268,25 +324,33 @@ impl Model {
         done
     }
 
-    /// Without a fault each run of commands ends the call, and none is refused where there is space.
-    fn ends(&self, device: &Device, depth: usize) -> Result<(), String> {
-        let call = match device.call {
-            Some(call) => call,
-            None => return Ok(()),
+    /// Without a fault each run of commands ends the call, and none is refused where there is space. `seen` has the states behind and, with false,
+    /// those on the way.
+    fn ends(&self, device: &Device, seen: &mut Seen<bool>) -> Result<(), String> {
+        let Some(call) = device.call else { return Ok(()) };
+        let print = canon::fingerprint(device);
+        match seen.get(&print) {
+            Some(true) => return Ok(()),
+            Some(false) => return Err(format!("the call never ends\n{device}")),
+            None => seen.insert(print, false),
         };
-        if depth > 2 * self.rule.size.blocks * (self.rule.size.pages + 1) {
-            return Err(format!("the call never ends\n{device}"));
-        }
+        let mut opened = vec![];
         for command in self.rule.commands(device, call) {
-            match command {
-                Command::Refused(why) if self.rule.has_space() => return Err(format!("refused though there is space: {why}\n{device}")),
-                Command::Refused(_) => {}
-                _ => {
-                    let put = self.put(&self.before(device, command), call, command);
-                    self.ends(&self.done(&put, call, command), depth + 1)?;
+            // Free blocks are alike.
+            if let Command::Erase { for_copies, .. } = command {
+                if opened.contains(&for_copies) {
+                    continue;
                 }
+                opened.push(for_copies);
+            }
+            if command != Command::Refused {
+                let put = self.put(&self.before(device, command), call, command);
+                self.ends(&self.done(&put, call, command), seen)?;
+            } else if self.rule.has_space() {
+                return Err(format!("refused though there is space\n{device}"));
             }
         }
+        seen.insert(print, true);
         Ok(())
     }
 
@@ -298,6 +362,10 @@ impl Model {
         if self.rule.array(device) != self.rule.newest_array(device) && self.rule.wrong.is_none() {
             return Err(format!("the map differs from the newest pages\n{device}"));
         }
+        let keeps_spare = self.rule.wrong.is_none() && self.rule.has_space() && (self.rule.failures == 0 || self.rule.has_reserve);
+        if keeps_spare && !self.rule.leaves_spare(device) {
+            return Err(format!("no block is free, nor has the open one copies alone\n{device}"));
+        }
         Ok(())
     }
 
@@ -307,6 +375,11 @@ impl Model {
         self.cut(device, Event::CutBetween, &mut out)?;
         if self.kills {
             self.mounts(device, self.now(device), Event::KilledBetween, false, &mut out)?;
+        }
+        for block in (0..self.rule.size.blocks).filter(|block| self.sync == Sync::SideBySide && device.blocks[*block].is_busy()) {
+            let mut landed = *device;
+            self.land(&mut landed, block);
+            out.push((Event::Landed(block), landed));
         }
         match device.call {
             None => self.begin(device, &mut out)?,
@@ -320,16 +393,20 @@ impl Model {
     }
 
     fn begin(&self, device: &Device, out: &mut Next) -> Result<(), String> {
+        let mut seen = Seen::default();
         for call in self.calls() {
             let mut begun = *device;
-            begun.call = Some(call);
-            self.ends(&begun, 0)?;
+            let is_before = |cell: &Cell| cell.now != cell.sure && cell.now.version().map_or(false, |version| version.meets(call));
+            let awaited = |block: &usize| self.sync == Sync::SideBySide && device.blocks[*block].cells.iter().any(is_before);
+            (0..self.rule.size.blocks).filter(awaited).for_each(|block| self.land(&mut begun, block));
+            (begun.call, begun.choices) = (Some(call), self.rule.choices);
+            self.ends(&begun, &mut seen)?;
             if self.is(Wrong::AcknowledgesEarly) {
                 begun.allowed = self.bits(&self.rule.after(self.rule.array(device), call));
             }
             out.push((Event::Begins(call), begun));
         }
-        if self.sync != Sync::Always {
+        if matches!(self.sync, Sync::Flush | Sync::FlushAndAfterErase) {
             let mut flushed = *device;
             if self.is(Wrong::FlushesNothing) {
                 flushed.allowed = self.now(device);
@@ -381,8 +458,8 @@ impl Model {
     /// A failure marks the block as bad, one in reserve takes its place, and the layer mounts again.
     fn fail(&self, before: &Device, put: &Device, call: Version, command: Command, shown: u32, out: &mut Next) -> Result<(), String> {
         let block = match command {
-            Command::Program { block } | Command::Copy { block, .. } | Command::Erase { block } => block,
-            Command::Nothing | Command::Refused(_) => return Ok(()),
+            Command::Program { block } | Command::Copy { block, .. } | Command::Erase { block, .. } => block,
+            Command::GiveUp { .. } | Command::Nothing | Command::Refused => return Ok(()),
         };
         for mut part in self.parts(before, put) {
             part.failures_left -= 1;
@@ -394,21 +471,47 @@ impl Model {
             if !self.is(Wrong::ReserveForgotten) {
                 part.blocks.iter_mut().filter(|block| block.is_reserve).take(1).for_each(|block| block.is_reserve = false);
             }
-            if self.sync == Sync::Always {
-                for place in self.rule.size.places() {
-                    let now = part.cell(place).now;
-                    part.cell_mut(place).sure = now;
-                }
+            let is_sure = matches!(self.sync, Sync::Always | Sync::SideBySide);
+            for place in self.rule.size.places().filter(|_| is_sure) {
+                part.cell_mut(place).sure = part.cell(place).now;
             }
-            self.mounts(&part, shown, Event::Failed(command), self.sync == Sync::Always, out)?;
+            self.mounts(&part, shown, Event::Failed(command), is_sure, out)?;
         }
         Ok(())
+    }
+
+    /// Makes so many random steps, few of them cuts and failures, and begins anew after each thousand. What a cut or a failure may leave is checked at
+    /// each step.
+    pub fn walk(&self, start: Start, steps: usize) -> Outcome {
+        let mut random = 88_172_645_463_325_252u64;
+        let mut below = |bound: usize| {
+            random ^= random << 13;
+            random ^= random >> 7;
+            random ^= random << 17;
+            (random >> 20) as usize % bound
+        };
+        let (mut device, mut events) = (self.start(start), vec![]);
+        for step in 1..=steps {
+            let next = match self.next(&device) {
+                Err(what) => return Outcome::Refused { states: step, violation: Violation { what, steps: events } },
+                Ok(next) => next,
+            };
+            let is_quiet = |event: &Event| matches!(event, Event::Begins(_) | Event::Flushed | Event::Did(_) | Event::Landed(_));
+            let quiet: Vec<usize> = (0..next.len()).filter(|chosen| is_quiet(&next[*chosen].0)).collect();
+            let chosen = if quiet.is_empty() || below(16) == 0 { below(next.len()) } else { quiet[below(quiet.len())] };
+            events.push(next[chosen].0);
+            device = canon::of(self, &next[chosen].1);
+            if step % 1000 == 0 {
+                (device, events) = (self.start(start), vec![]);
+            }
+        }
+        Outcome::Limit { states: steps }
     }
 
     /// Visits states in the order of their distance from the start.
     pub fn explore(&self, start: Start, limit: usize) -> Outcome {
         let start = canon::of(self, &self.start(start));
-        let mut parents: HashMap<u128, (u128, Option<Event>), BuildHasherDefault<ByFingerprint>> = HashMap::default();
+        let mut parents: Seen<(u128, Option<Event>)> = Seen::default();
         parents.insert(canon::fingerprint(&start), (0, None));
         let mut queue = VecDeque::from([(start, 0)]);
         let mut depth = 0;

@@ -88,13 +88,15 @@ pub struct Block {
     pub cells: [Cell; PAGES],
     /// The page to be programmed next, if the block is open.
     pub open: Option<u8>,
+    /// Open for copies; what a host writes goes there only while no block is open for hosts.
+    pub for_copies: bool,
     pub bad: bool,
     /// Not in use: it takes the place of a block that fails.
     pub is_reserve: bool,
 }
 
 impl Block {
-    pub const BLANK: Block = Block { cells: [Cell::BLANK; PAGES], open: None, bad: false, is_reserve: false };
+    pub const BLANK: Block = Block { cells: [Cell::BLANK; PAGES], open: None, for_copies: false, bad: false, is_reserve: false };
 
     /// How many sectors are kept here. A tombstone counts once for each.
     pub fn kept_sectors(&self) -> usize {
@@ -103,6 +105,11 @@ impl Block {
 
     pub fn kept_pages(&self) -> usize {
         self.cells.iter().filter(|cell| cell.kept != 0).count()
+    }
+
+    /// Whether a command of this block is under way.
+    pub fn is_busy(&self) -> bool {
+        self.cells.iter().any(|cell| cell.now != cell.sure)
     }
 }
 
@@ -113,6 +120,8 @@ pub struct Device {
     pub call: Option<Version>,
     pub next_number: u8,
     pub failures_left: u8,
+    /// How many copies the call may still make that it doesn't need, and blocks it may give up.
+    pub choices: u8,
     /// A bit for each array, or for each value of each sector: see `Promise`.
     pub allowed: u32,
 }
@@ -129,8 +138,8 @@ impl Device {
         &mut self.blocks[block].cells[page]
     }
 
-    pub fn open_block(&self) -> Option<usize> {
-        self.blocks.iter().position(|block| block.open.is_some())
+    pub fn open_blocks(&self, for_copies: bool) -> Vec<usize> {
+        (0..BLOCKS).filter(|block| self.blocks[*block].open.is_some() && self.blocks[*block].for_copies == for_copies).collect()
     }
 }
 
@@ -183,7 +192,8 @@ impl fmt::Display for Device {
     fn fmt(&self, f: &mut fmt::Formatter) -> fmt::Result {
         for (number, block) in self.blocks.iter().enumerate() {
             let bad = if block.bad { " bad" } else if block.is_reserve { " in reserve" } else { "" };
-            let open = block.open.map_or(String::new(), |page| format!(" open at {page}"));
+            let stream = if block.for_copies { "copies" } else { "hosts" };
+            let open = block.open.map_or(String::new(), |page| format!(" open for {stream} at {page}"));
             write!(f, "    block {number}{bad}{open}:")?;
             for cell in &block.cells {
                 let sure = if cell.sure == cell.now { String::new() } else { format!(" / after a cut {}", cell.sure) };

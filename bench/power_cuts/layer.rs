@@ -1,6 +1,6 @@
 //! The layer's rule: what a mount keeps, which command comes next, and what its success changes. And rules that are wrong in one point.
 
-use crate::flash::{Block, Device, Page, Place, Size, Version, BLOCKS, PAGES, SECTORS};
+use crate::flash::{Block, Cell, Device, Page, Place, Size, Version, BLOCKS, PAGES, SECTORS};
 use std::fmt;
 
 macro_rules! wrong_rules {
@@ -94,6 +94,34 @@ wrong_rules! {
     KeepsBehindGap,
     /// A mount frees a block by twins in blocks with a gap.
     FreesByTwinsBehindGap,
+    /// A block is opened for hosts beside the last free one but none.
+    HostsTakeLast,
+    /// The same while the block of copies is open.
+    HostsTakeLastBesideCopies,
+    /// The second block for hosts takes the last free one.
+    SecondTakesLast,
+    /// What a host writes goes to the block of copies though no block is free.
+    HostInCopiesAtNone,
+    /// Where no block is free any victim is taken.
+    AnyVictimAtNone,
+    /// The block of copies is given up though no block is free.
+    GivesUpAtNone,
+    /// An open block without kept pages is taken for free.
+    OpenTakenForFree,
+    /// A mount goes on with the block of copies.
+    ContinuesCopies,
+    /// An erase doesn't wait for the copy before it.
+    ErasesBesideCopies,
+    /// An erase doesn't wait for what hosts write in other blocks.
+    ErasesBesidePrograms,
+    /// An erase waits only for what takes the place of the block's own pages.
+    ErasesBesideOthers,
+    /// What a host writes in the block of copies needn't wait for what hosts have written in theirs.
+    SharesUnsynced,
+    /// A program that has come to its end acknowledges what is under way in other blocks.
+    AcknowledgesOthers,
+    /// Each block for hosts has numbers of its own.
+    NumbersApart,
 }
 
 /// Which blocks a mount leaves empty, where the pages that it would keep there have twins elsewhere.
@@ -120,12 +148,18 @@ pub enum Command {
         sector: u8,
         block: usize,
     },
+    /// Opens the block, for copies or for hosts.
     Erase {
+        block: usize,
+        for_copies: bool,
+    },
+    /// No more is programmed in an open block.
+    GiveUp {
         block: usize,
     },
     /// A trim of sectors that are empty.
     Nothing,
-    Refused(&'static str),
+    Refused,
 }
 
 impl fmt::Display for Command {
@@ -133,9 +167,10 @@ impl fmt::Display for Command {
         match self {
             Command::Program { block } => write!(f, "program in block {block}"),
             Command::Copy { from, sector, block } => write!(f, "copy of sector {sector} from page {} of block {} to block {block}", from.1, from.0),
-            Command::Erase { block } => write!(f, "erase of block {block}"),
+            Command::Erase { block, for_copies } => write!(f, "erase of block {block} for {}", if *for_copies { "copies" } else { "hosts" }),
+            Command::GiveUp { block } => write!(f, "block {block} is given up"),
             Command::Nothing => write!(f, "nothing to trim"),
-            Command::Refused(why) => write!(f, "refused: {why}"),
+            Command::Refused => write!(f, "refused: no block is free, and none can be emptied"),
         }
     }
 }
@@ -150,13 +185,52 @@ pub struct Rule {
     pub drops_tombstones: bool,
     /// A mount reads each block up to its first page that is no version.
     pub reads_to_gap: bool,
+    /// How many blocks may be open for hosts at once, and how many for copies: one of each on each LUN. None for hosts and one for copies: hosts
+    /// write in that one, which is today's rule.
+    pub hosts: usize,
+    pub copies: usize,
+    /// How many copies a call may make that it doesn't need.
+    pub choices: u8,
+    /// Whether it may give up an open block instead.
+    pub gives_up: bool,
     pub wrong: Option<Wrong>,
+}
+
+/// The blocks that the next command depends on, and how many free ones a host's write has to leave.
+struct Room {
+    hosts: Vec<usize>,
+    copies: Vec<usize>,
+    free: Vec<usize>,
+    needed: usize,
+}
+
+impl Room {
+    fn is_spared(&self) -> bool {
+        self.free.len() >= self.needed
+    }
 }
 
 /// The value of each sector, 0 for an empty one.
 pub type Array = [u8; SECTORS];
 
 impl Rule {
+    /// Today's rule without failures.
+    pub fn of(size: Size) -> Rule {
+        Rule {
+            size,
+            failures: 0,
+            has_reserve: false,
+            freed: Freed::Most,
+            drops_tombstones: true,
+            reads_to_gap: false,
+            hosts: 0,
+            copies: 1,
+            choices: 0,
+            gives_up: false,
+            wrong: None,
+        }
+    }
+
     pub fn is(&self, wrong: Wrong) -> bool {
         self.wrong == Some(wrong)
     }
@@ -274,10 +348,12 @@ impl Rule {
     pub fn mount(&self, device: &Device) -> Vec<Device> {
         let mut base = *device;
         base.call = None;
+        base.choices = 0;
         for block in base.blocks.iter_mut() {
             block.open = None;
+            block.for_copies &= self.is(Wrong::ContinuesCopies);
             for cell in block.cells.iter_mut() {
-                *cell = crate::flash::Cell { now: cell.now.untrusted(), sure: cell.sure.untrusted(), kept: 0 };
+                *cell = Cell { now: cell.now.untrusted(), sure: cell.sure.untrusted(), kept: 0 };
             }
         }
         let versions = self.versions(&base);
@@ -345,11 +421,12 @@ impl Rule {
             let outside = |twins: &Vec<Place>| twins.is_empty() || twins.iter().any(|twin| set >> twin.0 & 1 == 0);
             found.iter().all(outside) && (0..self.size.blocks).all(|block| set >> block & 1 == 0 || self.is_used(&device.blocks[block]))
         };
-        let all: Vec<u32> = (0..1 << self.size.blocks).filter(|set| frees(*set)).collect();
+        let is_wanted = |set: &u32| self.freed != Freed::One || set.is_power_of_two();
+        let all: Vec<u32> = (0..1 << self.size.blocks).filter(is_wanted).filter(|set| frees(*set)).collect();
         let most = all.iter().map(|set| set.count_ones()).max().unwrap_or(0);
         let chosen: Vec<u32> = match self.freed {
             Freed::Most => all.iter().copied().filter(|set| set.count_ones() == most).collect(),
-            Freed::One => all.iter().copied().filter(|set| set.count_ones() == 1).collect(),
+            Freed::One => all.clone(),
             Freed::Maximal => all.iter().copied().filter(|set| !all.iter().any(|other| other != set && other & set == *set)).collect(),
             Freed::FewestFirst => self.fewest_first(found, frees),
         };
@@ -414,9 +491,11 @@ impl Rule {
         }
         for block in device.blocks[..self.size.blocks].iter_mut().filter(|block| !block.bad && !block.is_reserve) {
             let used = block.cells[..self.size.pages].iter().rposition(|cell| !cell.now.is_blank()).map_or(0, |last| last + 1);
-            let continues = self.is(Wrong::ContinuesOpenBlock) && used > 0 && used < self.size.pages;
+            let continues = (self.is(Wrong::ContinuesOpenBlock) || block.for_copies) && used > 0 && used < self.size.pages;
+            block.for_copies &= continues;
             if continues || (self.is(Wrong::TrustsErased) && used == 0) {
                 block.open = Some(used as u8);
+                block.for_copies |= self.hosts == 0;
                 break;
             }
         }
@@ -429,7 +508,8 @@ impl Rule {
     }
 
     fn is_free(&self, block: &Block) -> bool {
-        block.open.is_none() && self.is_used(block) && block.kept_pages() <= self.is(Wrong::ErasesEarly) as usize
+        let is_closed = block.open.is_none() || self.is(Wrong::OpenTakenForFree);
+        is_closed && self.is_used(block) && block.kept_pages() <= self.is(Wrong::ErasesEarly) as usize
     }
 
     /// The commands that may come next for the call under way: several where the rule leaves a choice.
@@ -439,38 +519,83 @@ impl Rule {
         if in_memory || !call.has_bytes() && call.sectors().all(|sector| array[sector as usize] == 0) {
             return vec![Command::Nothing];
         }
-        let blocks = || (0..self.size.blocks).map(|number| (number, &device.blocks[number]));
-        let free: Vec<usize> = blocks().filter(|(_, block)| self.is_free(block)).map(|(number, _)| number).collect();
-        let open = match device.open_block() {
-            Some(open) => open,
-            None if free.is_empty() => return vec![Command::Refused("no free block")],
-            None => return free.into_iter().map(|block| Command::Erase { block }).collect(),
-        };
-        let reserve = match self.wrong {
+        let room = self.room(device);
+        let mut all = self.programs(&room);
+        all.extend(self.erases(&room));
+        all.extend(self.collecting(device, &room));
+        if self.gives_up && device.choices > 0 && (room.is_spared() || self.is(Wrong::GivesUpAtNone)) {
+            all.extend(room.hosts.iter().chain(&room.copies).map(|block| Command::GiveUp { block: *block }));
+        }
+        if all.is_empty() {
+            all.push(Command::Refused);
+        }
+        all
+    }
+
+    fn room(&self, device: &Device) -> Room {
+        let free = (0..self.size.blocks).filter(|block| self.is_free(&device.blocks[*block])).collect();
+        let needed = match self.wrong {
             Some(Wrong::NoReserve) => 0,
             Some(Wrong::OneSpare) => 1,
             _ if self.has_reserve => 1,
             _ => device.failures_left as usize + 1,
         };
-        if free.len() >= reserve {
-            return vec![Command::Program { block: open }];
+        Room { hosts: device.open_blocks(false), copies: device.open_blocks(true), free, needed }
+    }
+
+    /// What a mount after a cut rests on: a block is free, or the only open one has nothing but copies of pages that still stand.
+    pub fn leaves_spare(&self, device: &Device) -> bool {
+        let room = self.room(device);
+        let only = match (&room.copies[..], room.hosts.is_empty()) {
+            ([only], true) => *only,
+            _ => return !room.free.is_empty(),
+        };
+        let stands = |cell: &Cell| (0..self.size.blocks).any(|other| other != only && device.blocks[other].cells.iter().any(|twin| twin.now == cell.now));
+        !room.free.is_empty() || device.blocks[only].cells.iter().filter(|cell| cell.kept != 0).all(stands)
+    }
+
+    /// What a host writes goes to a block of hosts; while none is open, to that of copies. A block stays free then.
+    fn programs(&self, room: &Room) -> Vec<Command> {
+        let is_spared = room.is_spared() || room.hosts.is_empty() && self.is(Wrong::HostInCopiesAtNone);
+        let blocks = if room.hosts.is_empty() { &room.copies } else { &room.hosts };
+        blocks.iter().filter(|_| is_spared).map(|block| Command::Program { block: *block }).collect()
+    }
+
+    /// A block is opened if enough free ones are left beside it. One for copies may take the last ones, if no block is open.
+    fn erases(&self, room: &Room) -> Vec<Command> {
+        let each = |for_copies: bool| room.free.iter().map(move |block| Command::Erase { block: *block, for_copies });
+        let takes_last = match self.wrong {
+            Some(Wrong::HostsTakeLast) => true,
+            Some(Wrong::HostsTakeLastBesideCopies) => !room.copies.is_empty(),
+            Some(Wrong::SecondTakesLast) => !room.hosts.is_empty(),
+            _ => false,
+        };
+        let is_left = room.free.len() > room.needed;
+        let mut all = vec![];
+        if room.hosts.len() < self.hosts && (is_left || takes_last) {
+            all.extend(each(false));
         }
-        let victims: Vec<(usize, usize)> = blocks()
-            .filter(|(number, block)| *number != open && self.is_used(block) && block.kept_pages() > 0)
-            .map(|(number, block)| (self.count(block), number))
-            .collect();
-        match victims.iter().map(|(count, _)| *count).min() {
-            None if free.is_empty() => vec![Command::Refused("no block to collect")],
-            None => vec![Command::Program { block: open }],
-            Some(fewest) if fewest >= self.size.pages => {
-                vec![Command::Refused("every block is full of kept pages")]
-            }
-            Some(fewest) => victims
-                .into_iter()
-                .filter(|(count, _)| *count == fewest)
-                .flat_map(|(_, victim)| self.copies(device, victim, open))
-                .collect(),
+        if room.copies.len() < self.copies && (is_left || room.hosts.is_empty() && room.copies.is_empty()) {
+            all.extend(each(true));
         }
+        all
+    }
+
+    /// Copies to the blocks for them, from closed ones: beside a free block from any, and otherwise from one with the fewest sectors.
+    fn collecting(&self, device: &Device, room: &Room) -> Vec<Command> {
+        let blocks = (0..self.size.blocks).map(|number| (number, &device.blocks[number]));
+        let is_victim = |block: &Block| block.open.is_none() && self.is_used(block) && block.kept_pages() > 0;
+        let victims: Vec<(usize, usize)> = blocks.filter(|(_, block)| is_victim(block)).map(|(number, block)| (self.count(block), number)).collect();
+        let fewest = victims.iter().map(|(count, _)| *count).min();
+        if fewest.is_none() && !room.is_spared() && !room.free.is_empty() {
+            return room.copies.iter().map(|block| Command::Program { block: *block }).collect();
+        }
+        let may_go = |count: usize| match room.is_spared() {
+            true => device.choices > 0,
+            false => count < self.size.pages && Some(count) == fewest || self.is(Wrong::AnyVictimAtNone),
+        };
+        let pairs = victims.iter().filter(|(count, _)| may_go(*count)).flat_map(|(_, victim)| room.copies.iter().map(move |to| (*victim, *to)));
+        pairs.flat_map(|(victim, to)| self.copies(device, victim, to)).collect()
     }
 
     /// How much of a block is kept: what makes it a victim or not.
@@ -518,15 +643,22 @@ impl Rule {
         self.is(Wrong::TombstoneNotCopied) && device.cell(from).now.version().map_or(false, |version| !version.has_bytes())
     }
 
+    fn number(&self, device: &Device, block: usize) -> u8 {
+        if !self.is(Wrong::NumbersApart) {
+            return device.next_number;
+        }
+        device.blocks[block].cells.iter().filter_map(|cell| cell.now.version()).map(|version| version.number).max().unwrap_or(0) + 1
+    }
+
     /// The pages that a command changes, and what it puts there.
     pub fn puts(&self, device: &Device, call: Version, command: Command) -> Vec<(Place, Page)> {
         let open = |block: usize| (block, device.blocks[block].open.unwrap_or(0) as usize);
         match command {
-            Command::Program { block } => vec![(open(block), Page::Holds(Version { number: device.next_number, ..call }))],
+            Command::Program { block } => vec![(open(block), Page::Holds(Version { number: self.number(device, block), ..call }))],
             Command::Copy { from, .. } if self.forgets(device, from) => vec![],
             Command::Copy { from, sector, block } => vec![(open(block), self.copied(device, from, sector))],
-            Command::Erase { block } => (0..self.size.pages).map(|page| ((block, page), Page::Erased)).collect(),
-            Command::Nothing | Command::Refused(_) => vec![],
+            Command::Erase { block, .. } => (0..self.size.pages).map(|page| ((block, page), Page::Erased)).collect(),
+            Command::GiveUp { .. } | Command::Nothing | Command::Refused => vec![],
         }
     }
 
@@ -545,30 +677,35 @@ impl Rule {
                 }
                 device.cell_mut(place).kept = call.mask();
                 device.next_number += 1;
-                device.call = None;
+                (device.call, device.choices) = (None, 0);
             }
             Command::Copy { from, sector, .. } if self.forgets(device, from) => device.cell_mut(from).kept &= !(1 << sector),
             Command::Copy { from, sector, block } => {
                 let place = self.use_page(device, block);
+                device.choices = device.choices.saturating_sub(1);
                 device.cell_mut(from).kept &= !(1 << sector);
                 device.cell_mut(place).kept = 1 << sector;
                 if device.cell(place).now.version().map(|version| version.number) == Some(device.next_number) {
                     device.next_number += 1;
                 }
             }
-            Command::Erase { block } => {
-                device.blocks[block].open = Some(0);
+            Command::GiveUp { block } => {
+                (device.blocks[block].open, device.blocks[block].for_copies) = (None, false);
+                device.choices -= 1;
+            }
+            Command::Erase { block, for_copies } => {
+                (device.blocks[block].open, device.blocks[block].for_copies) = (Some(0), for_copies);
                 for cell in device.blocks[block].cells.iter_mut() {
                     cell.kept = 0;
                 }
             }
-            Command::Nothing | Command::Refused(_) => {
+            Command::Nothing | Command::Refused => {
                 if self.is(Wrong::TrimInMemory) {
                     for place in self.size.places() {
                         device.cell_mut(place).kept &= !call.mask();
                     }
                 }
-                device.call = None;
+                (device.call, device.choices) = (None, 0);
             }
         }
     }
@@ -576,6 +713,7 @@ impl Rule {
     fn use_page(&self, device: &mut Device, block: usize) -> Place {
         let page = device.blocks[block].open.unwrap_or(0);
         device.blocks[block].open = if page as usize + 1 == self.size.pages { None } else { Some(page + 1) };
+        device.blocks[block].for_copies &= device.blocks[block].open.is_some();
         (block, page as usize)
     }
 }

@@ -81,7 +81,7 @@ fn agrees(file: &str) -> i32 {
 /// Makes one run, and tells whether it ended as it should.
 fn made(run: &Run) -> bool {
     let start = Instant::now();
-    let outcome = run.model.explore(run.start, run.limit);
+    let outcome = if run.walks { run.model.walk(run.start, run.limit) } else { run.model.explore(run.start, run.limit) };
     let seconds = start.elapsed().as_secs_f32();
     let (right, told) = match &outcome {
         Outcome::Holds { states, depth } => (run.expected == Expected::Holds, format!("holds in all {states} states, {depth} steps deep")),

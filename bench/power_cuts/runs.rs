@@ -16,7 +16,9 @@ pub struct Run {
     pub name: String,
     pub model: Model,
     pub start: Start,
+    /// The most states, or how many steps of one that walks.
     pub limit: usize,
+    pub walks: bool,
     pub long: bool,
     pub expected: Expected,
 }
@@ -25,10 +27,10 @@ const MANY: usize = 30_000_000;
 
 fn run(blocks: usize, pages: usize, sectors: usize) -> Run {
     let size = Size { blocks, pages, sectors };
-    let rule = Rule { size, failures: 0, has_reserve: false, freed: Freed::Most, drops_tombstones: true, reads_to_gap: false, wrong: None };
+    let rule = Rule::of(size);
     let promise = if sectors > 3 { Promise::EachSector } else { Promise::Whole };
     let model = Model { rule, sync: Sync::Always, promise, kills: false, range: 1, values: 2, by_overlap: true, decays: false };
-    Run { name: size.to_string(), model, start: Start::Blank, limit: MANY, long: false, expected: Expected::Holds }
+    Run { name: size.to_string(), model, start: Start::Blank, limit: MANY, walks: false, long: false, expected: Expected::Holds }
 }
 
 impl Run {
@@ -99,6 +101,32 @@ impl Run {
         self.named("core")
     }
 
+    /// The rule with so many blocks for hosts, and as many for copies. A call may make one copy that it doesn't need.
+    fn hosts(mut self, hosts: usize) -> Run {
+        self.model.rule.hosts = hosts;
+        self.model.rule.copies = hosts;
+        self.model.rule.choices = 1;
+        self.named(&format!("hosts {hosts}"))
+    }
+
+    /// So many copies, or open blocks that it gives up.
+    fn gives_up(mut self, choices: u8) -> Run {
+        self.model.rule.choices = choices;
+        self.model.rule.gives_up = true;
+        self.named("gives up")
+    }
+
+    fn side_by_side(mut self) -> Run {
+        self.model.sync = Sync::SideBySide;
+        self.model.promise = Promise::EachSector;
+        self.named("side by side")
+    }
+
+    fn walk(mut self, steps: usize) -> Run {
+        (self.walks, self.limit, self.expected) = (true, steps, Expected::NothingFound);
+        self.named("walk")
+    }
+
     fn wrong(mut self, wrong: Wrong) -> Run {
         self.model.rule.wrong = Some(wrong);
         let renumbers = matches!(wrong, Wrong::CopyRenumbered | Wrong::CopyNarrowed | Wrong::CopySplit | Wrong::NumberAboveKept);
@@ -155,6 +183,15 @@ fn on_its_device(wrong: Wrong) -> Run {
         Wrong::LossTakenForTorn => run(3, 2, 2).one_value().core().decays().wrong(wrong),
         Wrong::TornTakenForLoss | Wrong::KeepsBehindGap => run(3, 2, 2).one_value().core().wrong(wrong),
         Wrong::FreesByTwinsBehindGap => run(4, 2, 3).reserve(1).one_value().wrong(wrong),
+        Wrong::HostsTakeLast | Wrong::ContinuesCopies | Wrong::OpenTakenForFree => run(4, 2, 3).one_value().core().hosts(1).wrong(wrong),
+        Wrong::HostsTakeLastBesideCopies | Wrong::HostInCopiesAtNone | Wrong::AnyVictimAtNone => run(3, 2, 3).one_value().core().hosts(1).wrong(wrong),
+        Wrong::GivesUpAtNone => run(3, 3, 4).starts(Start::Filled(2)).one_value().core().hosts(1).gives_up(2).wrong(wrong),
+        Wrong::SecondTakesLast => run(4, 2, 2).one_value().core().hosts(2).wrong(wrong),
+        Wrong::NumbersApart => run(4, 1, 2).core().hosts(2).wrong(wrong),
+        Wrong::ErasesBesideCopies => run(4, 2, 3).one_value().core().hosts(1).side_by_side().wrong(wrong),
+        Wrong::ErasesBesidePrograms | Wrong::ErasesBesideOthers => run(3, 2, 3).one_value().core().hosts(2).side_by_side().wrong(wrong),
+        Wrong::SharesUnsynced => run(3, 2, 2).one_value().core().hosts(1).synced(Sync::FlushAndAfterErase, Promise::Whole, "flush, whole").wrong(wrong),
+        Wrong::AcknowledgesOthers => run(4, 1, 2).core().hosts(2).side_by_side().wrong(wrong),
         Wrong::TwinBySector | Wrong::FreesNoBlock | Wrong::NoReserve => run(3, 2, 3).one_value().wrong(wrong),
         _ => run(3, 2, 2).wrong(wrong),
     }
@@ -209,6 +246,51 @@ pub fn all() -> Vec<Run> {
         run(4, 2, 3).failures(1).freed(Freed::One).one_value().refused(),
         run(4, 3, 5).failures(1).freed(Freed::Maximal).starts(Start::Filled(3)).one_value().up_to(1_000_000).long(),
     ];
+    runs.extend(runs_with_hosts());
     runs.extend(wrong_runs());
     runs
+}
+
+/// The rule with blocks for hosts.
+fn runs_with_hosts() -> Vec<Run> {
+    let one = |blocks: usize, pages: usize, sectors: usize| run(blocks, pages, sectors).core().hosts(1);
+    let two = |blocks: usize, pages: usize, sectors: usize| run(blocks, pages, sectors).core().hosts(2);
+    let flushed = |run: Run, promise: Promise| run.synced(Sync::FlushAndAfterErase, promise, &format!("flush and after erase, {promise:?}"));
+    vec![
+        one(3, 2, 1).one_value(),
+        one(4, 1, 1).gives_up(1),
+        one(4, 1, 2),
+        one(5, 1, 2).one_value(),
+        one(4, 1, 1).reserve(1).decays(),
+        one(4, 1, 1).failures(1),
+        two(4, 1, 2),
+        two(5, 1, 2).one_value(),
+        two(4, 1, 1).reserve(1),
+        two(4, 1, 2).side_by_side(),
+        two(3, 2, 1).one_value().side_by_side(),
+        two(4, 1, 1).reserve(1).side_by_side(),
+        two(5, 3, 6).ranges(3).gives_up(2).walk(1_000),
+        two(5, 3, 6).ranges(3).side_by_side().walk(2_000),
+        flushed(two(4, 1, 2), Promise::Whole).refused(),
+        one(3, 2, 1).decays().long(),
+        one(3, 2, 2).one_value().decays().long(),
+        one(3, 2, 3).one_value().long(),
+        one(3, 2, 2).one_value().gives_up(1).long(),
+        one(3, 2, 2).ranges(2).one_value().long(),
+        one(4, 2, 1).one_value().long(),
+        one(4, 2, 1).one_value().reserve(1).long(),
+        one(5, 1, 1).reserve(2).long(),
+        one(5, 1, 2).one_value().reserve(1).keeps_tombstones().long(),
+        flushed(one(3, 2, 1), Promise::EachSector).long(),
+        flushed(one(3, 2, 2).one_value(), Promise::Whole).long(),
+        flushed(two(4, 1, 2), Promise::EachSector).long(),
+        two(3, 2, 2).one_value().long(),
+        two(4, 2, 1).one_value().long(),
+        two(5, 1, 2).one_value().side_by_side().long(),
+        two(5, 1, 2).one_value().reserve(1).side_by_side().long(),
+        two(4, 2, 2).one_value().side_by_side().up_to(2_000_000).long(),
+        two(5, 2, 3).one_value().side_by_side().up_to(2_000_000).long(),
+        two(5, 2, 5).ranges(3).reserve(1).side_by_side().walk(1_000_000).long(),
+        two(5, 3, 6).decays().gives_up(2).walk(1_000_000).long(),
+    ]
 }
