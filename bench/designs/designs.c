@@ -7,27 +7,39 @@
 
 #include "mintlintel_locked.h"
 #include "plain.h"
+#include "tables.h"
 
 /* A host waits for a block so long; a device has so many erases that it lasts; a broom collects while fewer than FEW blocks are free, MANY at once. */
-enum { WAIT = 60000, ENDURANCE = 1000000, FEW = 12, MANY = 16, MOST_HOSTS = 16, MOST_BROOMS = 8, PARTS = 16 };
+enum { WAIT = 60000, ENDURANCE = 1000000, FEW = 12, MANY = 16, MOST_HOSTS = 16, MOST_BROOMS = 8, PARTS = 16, STRIPES = 64 };
 
 struct luns luns;
 
-/* The LUN of the part that a thread's call goes to. */
+/* How many LUNs the device has, and the LUN of the part that a thread's call goes to. */
+static uint32_t device_luns;
 static _Thread_local uint32_t lun_of_part;
 
-/* Neighbours among the blocks of a shared device are on different LUNs: the block of the LUNs that stands for one of the device. */
-static uint32_t striped(uint32_t block, uint32_t count)
+/* ---- Commands that take time: the linker puts these in front of the library's calls. */
+
+/* The clock of the LUNs has a lock, which is no design's: a thread that has it isn't stopped. */
+void command(enum command command, uint32_t block, uint32_t count)
 {
-    return block % count * luns.blocks + block / count;
+    static uint64_t (*const ends[])(struct luns *, uint32_t, uint64_t) = {luns_read, luns_program, luns_erase};
+    uint32_t place = block % count * luns.blocks + block / count;
+    sigset_t stop;
+    if (!luns.is_timed)
+        return;
+    sigemptyset(&stop);
+    sigaddset(&stop, STOP);
+    pthread_sigmask(SIG_BLOCK, &stop, NULL);
+    uint64_t end = command == COPY ? luns_copy(&luns, place, place, 0) : ends[command](&luns, place, 0);
+    pthread_sigmask(SIG_UNBLOCK, &stop, NULL);
+    luns_sleep(end);
 }
 
-/* ---- Commands that take time: the linker puts these in front of the library's calls. A copy takes its time within the LUN of its victim. */
-
-static void take_copies(uint32_t block, uint64_t count)
+static void take_copies(uint32_t block, uint32_t count, uint64_t copies)
 {
-    for (uint64_t i = 0; i < count; i++)
-        luns_sleep(luns_copy(&luns, block, block, 0));
+    for (uint64_t i = 0; i < copies; i++)
+        command(COPY, block, count);
 }
 
 uint32_t __real_mintlintel_one_read(struct mintlintel_one *handle, uint32_t sector, uint8_t *out, size_t bytes);
@@ -37,7 +49,7 @@ uint32_t __wrap_mintlintel_one_read(struct mintlintel_one *handle, uint32_t sect
 {
     uint32_t code = __real_mintlintel_one_read(handle, sector, out, bytes);
     if (luns.is_timed && code == MINTLINTEL_WRITTEN)
-        luns_sleep(luns_read(&luns, lun_of_part * luns.blocks, 0));
+        command(READ, lun_of_part, device_luns);
     return code;
 }
 
@@ -47,21 +59,20 @@ uint32_t __wrap_mintlintel_one_write(struct mintlintel_one *handle, uint32_t sec
 uint32_t __wrap_mintlintel_one_write(struct mintlintel_one *handle, uint32_t sector, const uint8_t *bytes, size_t count)
 {
     struct mintlintel_totals before, after;
-    uint32_t block = lun_of_part * luns.blocks;
     if (!luns.is_timed)
         return __real_mintlintel_one_write(handle, sector, bytes, count);
     mintlintel_one_counts(handle, &before);
     uint32_t code = __real_mintlintel_one_write(handle, sector, bytes, count);
     mintlintel_one_counts(handle, &after);
-    take_copies(block, after.copies - before.copies);
+    take_copies(lun_of_part, device_luns, after.copies - before.copies);
     if (after.erases > before.erases)
-        luns_sleep(luns_erase(&luns, block, 0));
-    luns_sleep(luns_program(&luns, block, 0));
+        command(ERASE, lun_of_part, device_luns);
+    command(PROGRAM, lun_of_part, device_luns);
     return code;
 }
 
-/* How many LUNs a shared device has. */
-static uint32_t shared_luns;
+/* What the brooms of a shared device have copied, and from how many blocks. */
+static _Atomic uint64_t shared_copies, shared_drained;
 
 #define DRAINS(name)                                                                                                    \
     uint32_t __real_mintlintel_broom_##name(struct mintlintel_seat *handle, uint32_t *block, uint32_t *moved);          \
@@ -69,8 +80,11 @@ static uint32_t shared_luns;
     uint32_t __wrap_mintlintel_broom_##name(struct mintlintel_seat *handle, uint32_t *block, uint32_t *moved)           \
     {                                                                                                                   \
         uint32_t code = __real_mintlintel_broom_##name(handle, block, moved);                                           \
-        if (luns.is_timed && code == MINTLINTEL_DONE)                                                                   \
-            take_copies(striped(*block, shared_luns), *moved);                                                          \
+        if (code == MINTLINTEL_DONE) {                                                                                  \
+            shared_copies += *moved;                                                                                    \
+            shared_drained++;                                                                                           \
+            take_copies(*block, device_luns, luns.is_timed ? *moved : 0);                                               \
+        }                                                                                                               \
         return code;                                                                                                    \
     }
 DRAINS(drain)
@@ -82,8 +96,8 @@ uint32_t __wrap_mintlintel_broom_erase(struct mintlintel_seat *handle, uint32_t 
 uint32_t __wrap_mintlintel_broom_erase(struct mintlintel_seat *handle, uint32_t block)
 {
     uint32_t code = __real_mintlintel_broom_erase(handle, block);
-    if (luns.is_timed && (code == MINTLINTEL_DONE || code == MINTLINTEL_KEPT))
-        luns_sleep(luns_erase(&luns, striped(block, shared_luns), 0));
+    if (code == MINTLINTEL_DONE || code == MINTLINTEL_KEPT)
+        command(ERASE, block, device_luns);
     return code;
 }
 
@@ -105,7 +119,7 @@ static void *shared_open(const struct geometry *g)
     shared->host_count = g->hosts;
     shared->broom_count = g->brooms;
     shared->page_bytes = g->words * 8;
-    shared_luns = g->luns;
+    device_luns = g->luns;
     return shared;
 }
 
@@ -126,7 +140,7 @@ static int hold(struct mintlintel_seat *host, uint32_t sector, uint32_t *block)
     if (mintlintel_host_hold(host, sector) != MINTLINTEL_WRITTEN)
         return 0;
     mintlintel_host_held(host, &page);
-    *block = striped(page.block, shared_luns);
+    *block = page.block;
     return 1;
 }
 
@@ -139,7 +153,7 @@ static uint32_t shared_read(void *device, uint32_t number, uint32_t sector, uint
         return mintlintel_host_read(host, sector, out, shared->page_bytes);
     if (!hold(host, sector, &block))
         return MINTLINTEL_EMPTY;
-    luns_sleep(luns_read(&luns, block, 0));
+    command(READ, block, device_luns);
     uint32_t code = mintlintel_host_copy(host, out, shared->page_bytes);
     mintlintel_host_release(host);
     return code;
@@ -152,7 +166,7 @@ static uint32_t shared_write(void *device, uint32_t number, uint32_t sector, con
     uint32_t block, code = mintlintel_write_within(host, sector, page, shared->page_bytes, WAIT);
     if (luns.is_timed && code <= MINTLINTEL_WRITTEN && hold(host, sector, &block)) {
         mintlintel_host_release(host);
-        luns_sleep(luns_program(&luns, block, 0));
+        command(PROGRAM, block, device_luns);
     }
     return code;
 }
@@ -165,9 +179,16 @@ static int shared_collect(void *device, uint32_t number)
     return mintlintel_broom_counts(broom, &counts) != MINTLINTEL_DONE || counts.free >= FEW || mintlintel_collect(broom, MANY, &did) != MINTLINTEL_DONE;
 }
 
+static void shared_moved(void *device, uint64_t moved[2])
+{
+    (void)device;
+    moved[0] = shared_copies;
+    moved[1] = shared_drained;
+}
+
 /* ---- Devices for one thread behind locks. */
 
-struct locked { struct mintlintel_locked device; uint32_t parts, luns, page_bytes; };
+struct locked { struct mintlintel_locked device; uint32_t parts, page_bytes; };
 
 /* Whether the locks spin before they wait. */
 static int is_spinning;
@@ -190,7 +211,7 @@ static void *locked_open(const struct geometry *g, uint32_t parts, int spins)
     uint32_t code = mintlintel_locked_open(&locked->device, parts, 1, g->blocks / parts, g->pages, g->words, sectors, ENDURANCE);
     is_spinning = 0;
     locked->parts = parts;
-    locked->luns = g->luns;
+    device_luns = g->luns;
     locked->page_bytes = g->words * 8;
     if (code == MINTLINTEL_DONE)
         return locked;
@@ -224,7 +245,7 @@ static uint32_t locked_read(void *device, uint32_t number, uint32_t sector, uint
 {
     struct locked *locked = device;
     (void)number;
-    lun_of_part = sector % locked->parts % locked->luns;
+    lun_of_part = sector % locked->parts % device_luns;
     return mintlintel_locked_read(&locked->device, sector, out, locked->page_bytes);
 }
 
@@ -232,20 +253,29 @@ static uint32_t locked_write(void *device, uint32_t number, uint32_t sector, con
 {
     struct locked *locked = device;
     (void)number;
-    lun_of_part = sector % locked->parts % locked->luns;
+    lun_of_part = sector % locked->parts % device_luns;
     return mintlintel_locked_write(&locked->device, sector, page, locked->page_bytes);
+}
+
+/* Each block that is collected is erased. */
+static void locked_moved(void *device, uint64_t moved[2])
+{
+    struct mintlintel_totals totals;
+    mintlintel_locked_counts(&((struct locked *)device)->device, &totals);
+    moved[0] = totals.copies;
+    moved[1] = totals.erases;
 }
 
 /* ---- The plain layer behind a lock that readers share. */
 
-struct readers { pthread_rwlock_t lock; struct plain *layer; uint32_t luns; };
+struct readers { pthread_rwlock_t lock; struct plain *layer; };
 
 static void *readers_open(const struct geometry *g)
 {
     struct readers *readers = calloc(1, sizeof *readers);
     pthread_rwlock_init(&readers->lock, NULL);
     readers->layer = plain_open(g->blocks, g->pages, g->words, g->sectors, ENDURANCE);
-    readers->luns = g->luns;
+    device_luns = g->luns;
     return readers;
 }
 
@@ -264,7 +294,7 @@ static uint32_t readers_read(void *device, uint32_t number, uint32_t sector, uin
     pthread_rwlock_rdlock(&readers->lock);
     uint32_t code = plain_read(readers->layer, sector, out);
     if (luns.is_timed && code == PLAIN_WRITTEN)
-        luns_sleep(luns_read(&luns, striped(plain_block_of(readers->layer, sector), readers->luns), 0));
+        command(READ, plain_block_of(readers->layer, sector), device_luns);
     pthread_rwlock_unlock(&readers->lock);
     return code;
 }
@@ -279,21 +309,69 @@ static uint32_t readers_write(void *device, uint32_t number, uint32_t sector, co
     uint32_t code = plain_write(readers->layer, sector, page);
     plain_counts(readers->layer, after);
     if (luns.is_timed) {
-        uint32_t block = striped(plain_block_of(readers->layer, sector), readers->luns);
-        take_copies(block, after[1] - before[1]);
+        uint32_t block = plain_block_of(readers->layer, sector);
+        take_copies(block, device_luns, after[1] - before[1]);
         if (after[2] > before[2])
-            luns_sleep(luns_erase(&luns, block, 0));
-        luns_sleep(luns_program(&luns, block, 0));
+            command(ERASE, block, device_luns);
+        command(PROGRAM, block, device_luns);
     }
     pthread_rwlock_unlock(&readers->lock);
     return code;
 }
 
+static void readers_moved(void *device, uint64_t moved[2])
+{
+    uint64_t counts[3];
+    plain_counts(((struct readers *)device)->layer, counts);
+    moved[0] = counts[1];
+    moved[1] = counts[2];
+}
+
+/* ---- Locks round the tables alone: one, or many. */
+
+static void *table_open(const struct geometry *g)
+{
+    return tables_open(g, 1);
+}
+
+static void *stripes_open(const struct geometry *g)
+{
+    return tables_open(g, STRIPES);
+}
+
+static uint32_t table_read(void *device, uint32_t number, uint32_t sector, uint8_t *out)
+{
+    (void)number;
+    return tables_read(device, sector, out);
+}
+
+static uint32_t table_write(void *device, uint32_t number, uint32_t sector, const uint8_t *page)
+{
+    return tables_write(device, number, sector, page);
+}
+
+static int table_collect(void *device, uint32_t number)
+{
+    return tables_collect(device, number);
+}
+
+static void table_moved(void *device, uint64_t moved[2])
+{
+    tables_moved(device, moved);
+}
+
+static void table_close(void *device)
+{
+    tables_close(device);
+}
+
 const struct design designs[] = {
-    {"shared", 1, shared_open, shared_read, shared_write, shared_collect, shared_close},
-    {"lock", 0, lock_open, locked_read, locked_write, NULL, locked_close},
-    {"spinning", 0, spinning_open, locked_read, locked_write, NULL, locked_close},
-    {"parts", 0, parts_open, locked_read, locked_write, NULL, locked_close},
-    {"readers", 0, readers_open, readers_read, readers_write, NULL, readers_close},
+    {"shared", 1, shared_open, shared_read, shared_write, shared_collect, shared_moved, shared_close},
+    {"table", 1, table_open, table_read, table_write, table_collect, table_moved, table_close},
+    {"stripes", 1, stripes_open, table_read, table_write, table_collect, table_moved, table_close},
+    {"lock", 0, lock_open, locked_read, locked_write, NULL, locked_moved, locked_close},
+    {"spinning", 0, spinning_open, locked_read, locked_write, NULL, locked_moved, locked_close},
+    {"parts", 0, parts_open, locked_read, locked_write, NULL, locked_moved, locked_close},
+    {"readers", 0, readers_open, readers_read, readers_write, NULL, readers_moved, readers_close},
     {0},
 };

@@ -5,6 +5,8 @@
  * growth write BLOCKS PAGES USE    a host and a broom by turns: the nanoseconds of a write, of the broom's work for it, and the write amplification
  * growth alone plain|one USE WORDS the layer for one thread: the nanoseconds of a write with its collections, and the write amplification
  * growth open one|shared large|small   an open of 15 million words: its milliseconds, the peak of memory in megabytes, and the nanoseconds of a read
+ * growth sectors one|plain|shared SECTORS PAGES WORDS large|small   70 % in use: the megabytes of its words; the nanoseconds of a uniform write, with
+ *                                  what is collected for it (but a broom's work), of the broom's work for it, and of a uniform read
  */
 #define _GNU_SOURCE
 #include <mintlintel.h>
@@ -147,6 +149,73 @@ static void open_large(int is_one, int is_large)
     printf("%.1f %ld %.1f\n", (opened - began) / 1e6, usage.ru_maxrss / 1024, (now() - read) / READS);
 }
 
+/* One of the layers, with its calls. */
+struct kind { const char *name; uint32_t (*write)(uint32_t sector, size_t bytes), (*read)(uint32_t sector, size_t bytes); };
+
+static struct plain *layer;
+
+static uint32_t one_write(uint32_t sector, size_t bytes) { return mintlintel_one_write(&one, sector, page, bytes); }
+static uint32_t one_read(uint32_t sector, size_t bytes) { return mintlintel_one_read(&one, sector, page, bytes); }
+static uint32_t shared_write(uint32_t sector, size_t bytes) { return mintlintel_host_write(&host, sector, page, bytes); }
+static uint32_t shared_read(uint32_t sector, size_t bytes) { return mintlintel_host_read(&host, sector, page, bytes); }
+
+static uint32_t layer_write(uint32_t sector, size_t bytes)
+{
+    (void)bytes;
+    return plain_write(layer, sector, page);
+}
+
+static uint32_t layer_read(uint32_t sector, size_t bytes)
+{
+    (void)bytes;
+    return plain_read(layer, sector, page);
+}
+
+static const struct kind kinds[] = {{"one", one_write, one_read}, {"shared", shared_write, shared_read}, {"plain", layer_write, layer_read}};
+
+/* Writes so many sectors, the first ones in order; the broom collects by turns. Adds to the times of writes and of the broom. */
+static void write_many(const struct kind *kind, uint32_t count, int in_order, uint32_t sectors, size_t bytes, double times[2])
+{
+    for (uint32_t i = 0; i < count; i += 64) {
+        struct mintlintel_counts counts;
+        struct mintlintel_collected did;
+        double began = now();
+        for (uint32_t k = i; k < i + 64 && k < count; k++)
+            check(kind->write(in_order ? k : below(sectors), bytes), MINTLINTEL_WRITTEN);
+        double wrote = now();
+        if (kind->write == shared_write && mintlintel_broom_counts(&broom, &counts) == MINTLINTEL_DONE && counts.free < FEW)
+            mintlintel_collect(&broom, MANY, &did);
+        times[0] += wrote - began;
+        times[1] += now() - wrote;
+    }
+}
+
+static void by_sectors(const char *name, uint32_t sectors, uint32_t pages, uint32_t words, int is_large)
+{
+    enum { READS = 1000000 };
+    const struct kind *kind = kinds;
+    uint32_t all = (uint32_t)((uint64_t)sectors * 10 / 7), blocks = all / pages + 2, count = all < 200000 ? 200000 : all;
+    size_t bytes = 8 * (size_t)words;
+    double times[2] = {0, 0}, unused[2] = {0, 0};
+    while (strcmp(kind->name, name) != 0)
+        kind++;
+    if (!is_large)
+        prctl(PR_SET_THP_DISABLE, 1, 0, 0, 0);
+    if (kind->write == shared_write)
+        open_shared(blocks, pages, words, sectors);
+    else if (kind->write == one_write)
+        check(mintlintel_one_open(&one, 1, blocks, pages, words, sectors, ENDURANCE), MINTLINTEL_DONE);
+    else
+        layer = plain_open(blocks, pages, words, sectors, ENDURANCE);
+    write_many(kind, sectors, 1, sectors, bytes, unused);
+    write_many(kind, 2 * all, 0, sectors, bytes, unused);
+    write_many(kind, count, 0, sectors, bytes, times);
+    double began = now();
+    for (int i = 0; i < READS; i++)
+        check(kind->read(below(sectors), bytes), MINTLINTEL_WRITTEN);
+    printf("%.1f %.1f %.1f %.1f\n", (double)blocks * pages * (words + 1) * 8 / 1e6, times[0] / count, times[1] / count, (now() - began) / READS);
+}
+
 int main(int count, char **words)
 {
     const char *work = count > 2 ? words[1] : "";
@@ -160,6 +229,8 @@ int main(int count, char **words)
         alone(words[2][0] == 'p', (uint32_t)atoi(words[3]), (uint32_t)atoi(words[4]));
     else if (strcmp(work, "open") == 0 && count > 3)
         open_large(words[2][0] == 'o', words[3][0] == 'l');
+    else if (strcmp(work, "sectors") == 0 && count > 6)
+        by_sectors(words[2], (uint32_t)atoi(words[3]), (uint32_t)atoi(words[4]), (uint32_t)atoi(words[5]), words[6][0] == 'l');
     else
         return 2;
     return 0;

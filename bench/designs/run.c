@@ -1,12 +1,23 @@
 /* designs rate DESIGN USE READS BROOMS WORDS WINDOWS MILLISECONDS HOSTS..
- * designs response DESIGN USE READS BROOMS WORDS MILLISECONDS HOSTS [LUNS READ PROGRAM ERASE]
+ * designs response DESIGN USE READS BROOMS WORDS WINDOWS MILLISECONDS HOSTS [LUNS READ PROGRAM ERASE]
+ * designs stopped DESIGN USE READS BROOMS WORDS STOPS HOSTS [LUNS READ PROGRAM ERASE]
  *
  * Threads read and write uniform random sectors of 512 blocks of 64 pages, of which USE percent are used and READS percent of the calls are reads.
  * Before that each page is overwritten twice. `rate` prints a line for each window and each number of hosts in turns: hosts, calls a second, and
- * nanoseconds of processor time for a call, with the brooms'. `response` runs half as long before it begins. It prints the calls a second, and then
- * of reads and of writes how many there were and how many nanoseconds they took: the median, 90, 99, 99.9 and 99.99 percent, and the longest. With
- * LUNS, commands take a part's times, in nanoseconds. Each page that is read has to be one of its sector. */
+ * nanoseconds of processor time for a call, with the brooms'.
+ *
+ * `response` goes on until the write amplification is steady: over half of the device's pages, twice, it differs by a hundredth at most, or it gives
+ * up after four times as long as it measures. It prints the seconds that this took, the amplification, and the last difference in percent. Then it
+ * prints of each window the calls a second and the amplification, and of reads and of writes how many there were and how many nanoseconds they took: the
+ * median, 90, 99, 99.9 and 99.99 percent, and the longest. With LUNS, commands take a part's times, in nanoseconds. Each page that is read has to be
+ * one of its sector.
+ *
+ * `stopped` measures the same while a host, at a random moment, is stopped by a signal whose handler sleeps for a tenth of a second, so many times. The
+ * calls that are stopped don't count. The last lines have the stops, and as many pauses of the same length without a stop, and in how many of them
+ * some other host, and all others, ended no call. */
 #define _GNU_SOURCE
+#include <errno.h>
+#include <poll.h>
 #include <pthread.h>
 #include <sched.h>
 #include <stdatomic.h>
@@ -20,6 +31,8 @@
 
 enum { WAITING, RUNNING, ENDED };
 enum { BLOCKS = 512, PAGES = 64, MOST_THREADS = 16, SECOND = 1000000000, PARTS_OF_TWO = 32, SLOTS = 64 * PARTS_OF_TWO, BATCH = 32 };
+/* In milliseconds: a stop, its beginning and its end, in which others' calls don't count, the least time between stops, and a window of settling. */
+enum { STOPPED = 100, BEGINNING = 5, BEHIND = 30, SETTLING = 2000 };
 
 /* How many calls took how long; a slot is a thirty-second of a power of two. */
 struct times { uint64_t count, longest, slots[SLOTS]; };
@@ -27,15 +40,18 @@ struct times { uint64_t count, longest, slots[SLOTS]; };
 struct thread {
     pthread_t thread;
     uint32_t number;
-    uint64_t random, calls, processor;
+    uint64_t random, writes, processor;
+    _Atomic uint64_t calls;
     struct times *read, *write; /* or NULL */
+    volatile sig_atomic_t was_stopped;
 };
 
 static const struct design *design;
 static void *device;
 static struct geometry geometry;
 static uint32_t reads;
-static atomic_int phase, are_ready, hosts_left;
+static atomic_int phase, are_ready, hosts_left, is_stopped;
+static _Thread_local struct thread *self;
 
 static uint64_t clock_of(clockid_t clock)
 {
@@ -131,9 +147,11 @@ static void call(struct thread *thread, uint8_t *page)
         read_sector(thread->number, sector, page);
     else
         write_sector(thread->number, sector, page);
-    if (times)
+    if (times && !thread->was_stopped)
         add_time(times, clock_of(CLOCK_MONOTONIC) - began);
-    thread->calls++;
+    thread->was_stopped = 0;
+    thread->writes += !is_read;
+    atomic_store_explicit(&thread->calls, atomic_load_explicit(&thread->calls, memory_order_relaxed) + 1, memory_order_relaxed);
 }
 
 /* Waits for the beginning of a window. Returns the processor time of the thread so far. */
@@ -147,7 +165,7 @@ static uint64_t begin_together(void)
 
 static void *run_host(void *argument)
 {
-    struct thread *thread = argument;
+    struct thread *thread = self = argument;
     uint8_t *page = calloc(1, geometry.words * 8);
     uint64_t began = begin_together();
     do
@@ -174,13 +192,62 @@ static void *run_broom(void *argument)
     return NULL;
 }
 
+/* ---- Stops. */
+
+static void stop_here(int signal)
+{
+    int kept = errno;
+    (void)signal;
+    self->was_stopped = 1;
+    poll(NULL, 0, STOPPED);
+    atomic_store(&is_stopped, 0);
+    errno = kept;
+}
+
+/* Of stops, or of pauses: how many there were, and in how many some other host, and all others, ended no call. */
+struct waits { uint64_t count, some, all; };
+
+/* Stops a host, or none, and looks which of the others end a call meanwhile. */
+static void stop_one(struct thread *hosts, uint32_t count, uint32_t stopped, struct waits *waits)
+{
+    uint64_t calls[MOST_THREADS];
+    uint32_t waited = 0, others = count - (stopped < count);
+    atomic_store(&is_stopped, stopped < count);
+    if (stopped < count)
+        pthread_kill(hosts[stopped].thread, STOP);
+    poll(NULL, 0, BEGINNING);
+    for (uint32_t i = 0; i < count; i++)
+        calls[i] = hosts[i].calls;
+    poll(NULL, 0, STOPPED - 2 * BEGINNING);
+    for (uint32_t i = 0; i < count; i++)
+        waited += i != stopped && hosts[i].calls == calls[i];
+    while (atomic_load(&is_stopped))
+        poll(NULL, 0, 1);
+    waits->count++;
+    waits->some += waited > 0;
+    waits->all += waited == others;
+}
+
+static void stop_hosts(struct thread *hosts, uint32_t count, uint32_t stops, struct waits waits[2])
+{
+    uint64_t random = 88172645463325252u;
+    for (uint32_t i = 0; i < stops; i++) {
+        poll(NULL, 0, (int)(BEHIND + drawn(&random) % STOPPED));
+        stop_one(hosts, count, drawn(&random) % count, &waits[0]);
+        poll(NULL, 0, BEHIND);
+        stop_one(hosts, count, count, &waits[1]);
+    }
+}
+
 /* ---- Runs. */
 
-/* Runs the threads for so long. Returns the calls a second. */
-static double window(struct thread *hosts, uint32_t count, struct thread *brooms, uint32_t milliseconds)
+/* How long a window is, or how many stops it has and what came of them. */
+struct plan { uint32_t milliseconds, stops; struct waits waits[2]; };
+
+/* Runs the threads. Returns the calls a second. */
+static double window(struct thread *hosts, uint32_t count, struct thread *brooms, struct plan *plan)
 {
     uint32_t broom_count = design->has_brooms && reads < 100 ? geometry.brooms : 0;
-    struct timespec length = {milliseconds / 1000, milliseconds % 1000 * 1000000};
     uint64_t calls = 0;
     atomic_store(&phase, WAITING);
     atomic_store(&are_ready, 0);
@@ -193,7 +260,8 @@ static double window(struct thread *hosts, uint32_t count, struct thread *brooms
         sched_yield();
     uint64_t began = clock_of(CLOCK_MONOTONIC);
     atomic_store(&phase, RUNNING);
-    nanosleep(&length, NULL);
+    poll(NULL, 0, (int)plan->milliseconds);
+    stop_hosts(hosts, count, plan->stops, plan->waits);
     atomic_store(&phase, ENDED);
     for (uint32_t i = 0; i < count; i++) {
         pthread_join(hosts[i].thread, NULL);
@@ -218,10 +286,12 @@ static void settle(void)
     free(page);
 }
 
+/* No two windows have the same random numbers. */
 static void begin(struct thread *threads, uint32_t count)
 {
+    static uint64_t seed = 88172645463325252u;
     for (uint32_t i = 0; i < count; i++)
-        threads[i] = (struct thread){.number = i, .random = 88172645463325252u + 7919 * i};
+        threads[i] = (struct thread){.number = i, .random = seed += 0x9e3779b97f4a7c15u};
 }
 
 static void print_rates(int windows, uint32_t milliseconds, char **counts)
@@ -231,9 +301,10 @@ static void print_rates(int windows, uint32_t milliseconds, char **counts)
         for (char **at = counts; *at; at++) {
             uint32_t count = (uint32_t)atoi(*at);
             uint64_t calls = 0, processor = 0;
+            struct plan plan = {.milliseconds = milliseconds};
             begin(hosts, count);
             begin(brooms, geometry.brooms);
-            double rate = window(hosts, count, brooms, milliseconds);
+            double rate = window(hosts, count, brooms, &plan);
             for (uint32_t host = 0; host < count; host++) {
                 calls += hosts[host].calls;
                 processor += hosts[host].processor;
@@ -244,20 +315,60 @@ static void print_rates(int windows, uint32_t milliseconds, char **counts)
         }
 }
 
-static void print_response(uint32_t milliseconds, uint32_t count)
+/* What collection cost between two counts of what it has moved: programs for each write. */
+static double amplification(const uint64_t before[2], const uint64_t after[2])
 {
-    struct thread hosts[MOST_THREADS], brooms[MOST_THREADS];
+    double blocks = (double)(after[1] - before[1]), live = blocks > 0 ? (double)(after[0] - before[0]) / blocks : 0;
+    return PAGES / (PAGES - live);
+}
+
+/* Runs until the amplification is steady, at most so long, and prints what it was. */
+static void settle_in_threads(struct thread *hosts, uint32_t count, struct thread *brooms, uint32_t most)
+{
+    double last = 0, now = 0, change = 100;
+    uint32_t windows = 0;
+    uint64_t before[2], after[2], writes = 0;
+    design->moved(device, before);
+    for (; windows * SETTLING < most && change > 1; windows++) {
+        struct plan plan = {.milliseconds = SETTLING};
+        begin(hosts, count);
+        begin(brooms, geometry.brooms);
+        window(hosts, count, brooms, &plan);
+        for (uint32_t i = 0; i < count; i++)
+            writes += hosts[i].writes;
+        if (writes < BLOCKS * PAGES / 2)
+            continue;
+        design->moved(device, after);
+        now = amplification(before, after);
+        change = last > 0 ? 100 * (now > last ? now / last - 1 : last / now - 1) : 100;
+        last = now;
+        writes = 0;
+        memcpy(before, after, sizeof before);
+    }
+    printf("settled %u %.3f %.2f\n", windows * (SETTLING / 1000), now, change);
+}
+
+static void print_waits(const char *name, const struct waits *waits)
+{
+    printf("%s %llu %llu %llu\n", name, (unsigned long long)waits->count, (unsigned long long)waits->some, (unsigned long long)waits->all);
+}
+
+/* A window, of which each call is timed. */
+static void print_window(struct thread *hosts, uint32_t count, struct thread *brooms, struct plan *plan)
+{
     static struct times times[MOST_THREADS][2];
-    begin(hosts, count);
-    begin(brooms, geometry.brooms);
-    window(hosts, count, brooms, milliseconds / 2);
+    uint64_t before[2], after[2];
+    memset(times, 0, sizeof times);
     begin(hosts, count);
     begin(brooms, geometry.brooms);
     for (uint32_t i = 0; i < count; i++) {
         hosts[i].read = &times[i][0];
         hosts[i].write = &times[i][1];
     }
-    printf("calls %.0f\n", window(hosts, count, brooms, milliseconds));
+    design->moved(device, before);
+    double rate = window(hosts, count, brooms, plan);
+    design->moved(device, after);
+    printf("calls %.0f %.3f\n", rate, amplification(before, after));
     for (uint32_t i = 1; i < count; i++) {
         add_times(&times[0][0], &times[i][0]);
         add_times(&times[0][1], &times[i][1]);
@@ -266,11 +377,26 @@ static void print_response(uint32_t milliseconds, uint32_t count)
     print_times("write", &times[0][1]);
 }
 
+static void print_responses(struct plan *plan, uint32_t windows, uint32_t count)
+{
+    static struct thread hosts[MOST_THREADS], brooms[MOST_THREADS];
+    signal(STOP, stop_here);
+    settle_in_threads(hosts, count, brooms, 4 * windows * plan->milliseconds + 2000 * plan->stops);
+    for (uint32_t i = 0; i < windows; i++)
+        print_window(hosts, count, brooms, plan);
+    if (plan->stops > 0) {
+        print_waits("stops", &plan->waits[0]);
+        print_waits("pauses", &plan->waits[1]);
+    }
+}
+
 int main(int count, char **words)
 {
-    int is_rate = count > 9 && strcmp(words[1], "rate") == 0;
+    int is_rate = count > 9 && strcmp(words[1], "rate") == 0, has_stops = count > 8 && strcmp(words[1], "stopped") == 0;
+    int at = has_stops ? 8 : 9; /* of the hosts */
     struct part part = {0};
-    if (count < 9)
+    struct plan plan = {0};
+    if (count <= at)
         return 2;
     for (design = designs; design->name && strcmp(design->name, words[2]) != 0; design++)
         ;
@@ -279,9 +405,11 @@ int main(int count, char **words)
     geometry = (struct geometry){.hosts = 4, .brooms = (uint32_t)atoi(words[5]), .luns = 1, .blocks = BLOCKS, .pages = PAGES};
     geometry.words = (uint32_t)atoi(words[6]);
     geometry.sectors = (uint32_t)(BLOCKS * PAGES * atoi(words[3]) / 100);
-    if (!is_rate && count > 12) {
-        geometry.luns = (uint32_t)atoi(words[9]);
-        part = (struct part){.read = strtoull(words[10], NULL, 10), .program = strtoull(words[11], NULL, 10), .erase = strtoull(words[12], NULL, 10)};
+    if (!is_rate && count > at + 4) {
+        geometry.luns = (uint32_t)atoi(words[at + 1]);
+        part.read = strtoull(words[at + 2], NULL, 10);
+        part.program = strtoull(words[at + 3], NULL, 10);
+        part.erase = strtoull(words[at + 4], NULL, 10);
     }
     luns_begin(&luns, &part, geometry.luns, geometry.blocks);
     device = design->open(&geometry);
@@ -290,10 +418,11 @@ int main(int count, char **words)
     settle();
     luns_time(&luns);
     reads = (uint32_t)atoi(words[4]);
+    *(has_stops ? &plan.stops : &plan.milliseconds) = (uint32_t)atoi(words[at - 1]);
     if (is_rate)
-        print_rates(atoi(words[7]), (uint32_t)atoi(words[8]), words + 9);
+        print_rates(atoi(words[7]), plan.milliseconds, words + 9);
     else
-        print_response((uint32_t)atoi(words[7]), (uint32_t)atoi(words[8]));
+        print_responses(&plan, has_stops ? 1 : (uint32_t)atoi(words[7]), (uint32_t)atoi(words[at]));
     design->close(device);
     luns_end(&luns);
 }
