@@ -1,9 +1,16 @@
 /* Mintlintel's device that survives power cuts, over flash that the caller brings, or over an image file.
  *
  * The promise: after any run of flash commands, with any number of power cuts, each inside a command or between two, an open gives the array
- * after a list of begun calls that contains every acknowledged call, in order. It rests on three premises: the flash tells a torn page from a
- * version, a page reads the same each time, and what has succeeded is durable (or is after a sync, as the modes of an image say). An open refuses
- * flash of which pages have become unreadable, as far as it shows that: see mintlintel_durable_open_despite_losses.
+ * after a list of begun calls that contains every acknowledged call, in order. A trim of more than 4096 sectors counts as one call for each 4096 of
+ * them, from the first on. It rests on four premises:
+ *  - The flash tells a torn page from a version.
+ *  - A page reads the same each time.
+ *  - What has succeeded is durable.
+ *  - A command that is cut or fails harms no page that was programmed before. Chips with several bits in a cell pair their pages, and may break that:
+ *    then an acknowledged sector has an older value, or none, and nothing tells.
+ * An image in mode `flush` keeps a beginning of the commands, with all that was flushed, in place of the third: an open gives the array after a
+ * beginning of the begun calls that contains each call acknowledged before the last flush. That is tested, and no theorem covers it yet.
+ * An open refuses flash of which pages have become unreadable, as far as it shows that: see mintlintel_durable_open_despite_losses.
  *
  * Which command comes next, and what a mount makes of the stamps, is proved (`mintlintel_core_..`, at the end). The calls before it are plain C
  * that performs these commands, and not proved. For all of them holds what mintlintel.h says of handles, pointers and the allocator. */
@@ -32,7 +39,10 @@ enum mintlintel_durable_code {
     MINTLINTEL_OTHER_VERSION = 43, /* an image: its format has a version that this library doesn't know */
     MINTLINTEL_OTHER_NUMBERS = 44, /* an image: its device has other numbers */
     MINTLINTEL_CUT_SHORT = 45,     /* an image: the file is shorter than its device */
-    MINTLINTEL_FILE_FAILED = 46    /* an image: a read, a write or a sync of the file failed; errno says why */
+    MINTLINTEL_FILE_FAILED = 46,   /* an image: a read, a write or a sync of the file failed; errno says why */
+    MINTLINTEL_OTHER_PROCESS = 47, /* an image: this process is a child of the one that has it open */
+    MINTLINTEL_BAD_MODE = 48,      /* an image: there is no such mode */
+    MINTLINTEL_BAD_BLOCKS_LISTED = 49 /* an image: a block device has listed bad blocks beside it, and only a block device opens it */
 };
 
 /* A code's name, for messages: of these codes and those of mintlintel.h. */
@@ -44,29 +54,31 @@ const char *mintlintel_durable_code_name(uint32_t code);
 #define MINTLINTEL_STAMP_BYTES 24
 
 /* The caller's flash. It tells a page whose program or erase was cut from one that has a version, by its own check or by mintlintel_stamp_fits.
- * What a function returns that stands for no answer counts as 3. */
+ * What a function returns that isn't listed counts as 3. */
 struct mintlintel_nand {
     void *chip;
     /* 0 read, 1 erased, 2 unreadable, 3 power gone. `main` may be null: then the stamp alone is read. */
     int (*read)(void *chip, uint32_t block, uint32_t page, void *main, void *stamp);
     /* 0 done, 1 failed, 3 power gone. The page is erased, and the pages of a block are programmed in order. A block that has failed a program, a copy
-     * or an erase gets none of them again, but its pages are read still. */
+     * or an erase gets none of them again: the call moves out of it what is needed, and marks it before it returns. If the power goes before the mark,
+     * if there is no room (27) or no memory (6) for that, or without `mark_bad`, the next open takes the block for a good one. */
     int (*program)(void *chip, uint32_t block, uint32_t page, const void *main, const void *stamp);
     /* The same, of a page with its stamp, which was read before and is given: the copy gets these bytes, also if their check doesn't fit the page.
      * Null: the page is read and programmed. */
     int (*copyback)(void *chip, uint32_t from_block, uint32_t from_page, uint32_t block, uint32_t page, const void *stamp);
     /* 0 done, 1 failed, 3 power gone. */
     int (*erase)(void *chip, uint32_t block);
-    /* 1 for a block that must not be used: it was bad from the factory, or was marked. Null: there is none. */
+    /* 0 for a good block, 1 for one that must not be used, since it was bad from the factory or was marked, 3 power gone. Null: all are good. */
     int (*is_bad)(void *chip, uint32_t block);
-    /* 0 done, 3 power gone. Nothing in the block is needed any more. Null: it is kept in memory, and no block is in reserve. */
+    /* 0 done, 3 power gone. Nothing in the block is needed any more: its pages need not be readable afterwards, and are not read. Null: the mark is kept
+     * in memory, and no block is in reserve. */
     int (*mark_bad)(void *chip, uint32_t block);
     /* 0 done, 1 failed, 3 power gone. Null: each command is durable once it has succeeded. */
     int (*sync)(void *chip);
 };
 
 /* Whether a stamp is the one that was programmed with this page: 1 if its check fits the page and the stamp, and otherwise 0. With a null page,
- * whether the stamp fits by itself, by the 16 bits of its own check. */
+ * whether the stamp fits by itself, by the 16 bits of its own check, as one in 65,536 of torn pages may: an open reads whole what may be torn. */
 int mintlintel_stamp_fits(const void *stamp, const void *page, size_t page_bytes);
 
 /* ---- A device that survives power cuts ---- */
@@ -84,37 +96,41 @@ struct mintlintel_durable_numbers { uint32_t luns, blocks, pages, page_bytes, se
  * On a chip that can mark blocks one block of 50 is in reserve, less one for each bad block, and at least one if the sectors leave room for it:
  * sectors < (blocks - 1 - reserve) * pages. It takes the place of one that fails.
  * 0; 8; the first fault of the numbers, 101 to 105 and 109 (104 is of page_bytes); 6; 7 if no block can be freed, which this library leaves no
- * flash in unless pages have become unreadable; 28, 30 or 34; 35 if there are losses. With any code but 0 the handle is as it was, and nothing was
- * programmed or erased. */
+ * flash in unless pages have become unreadable; 28, 30 or 34; 35 if there are losses. 30 tells other sectors or page_bytes where a version shows it, but
+ * a device of which only the first write was made opens as an empty one with other page_bytes. With any code but 0 the handle is as it was, and nothing
+ * was programmed or erased. */
 uint32_t mintlintel_durable_open(struct mintlintel_durable *device, const struct mintlintel_nand *nand, uint32_t luns, uint32_t blocks,
                                  uint32_t pages, uint32_t page_bytes, uint32_t sectors);
 
 /* The same, also where there are losses: a page that has become unreadable before one that can be read, in a block that has a newest version which no
  * block without such a page has. A power cut or a failing command leaves none: pages are programmed in order. Which sector a lost page was of
  * isn't known; that sector has an older version then, or is empty. A page that has no readable one behind it in its block is not told. With 0
- * `losses` is their number, and otherwise as it was. They are told until their blocks are erased. */
+ * `losses` is their number, and otherwise as it was. They are told until their blocks are erased. Of a page that becomes unreadable while the device is
+ * open, and whose block is collected before the next open, the sector is known: it has no older version, and its reads return 33. */
 uint32_t mintlintel_durable_open_despite_losses(struct mintlintel_durable *device, const struct mintlintel_nand *nand, uint32_t luns, uint32_t blocks,
                                                 uint32_t pages, uint32_t page_bytes, uint32_t sectors, uint64_t *losses);
 
 /* Frees the memory. It gives the flash no command: an open after it, or after none, finds the same. */
 void mintlintel_durable_close(struct mintlintel_durable *device);
 
-/* Reads a sector into `out`, of page_bytes bytes: 1 with the page in `out`; 0 for an empty sector; 2, 3, 4 or 28; 33 if the page can't be read.
- * With 0, 2, 3 and 4 `out` is as it was. */
+/* Reads a sector into `out`, of page_bytes bytes: 1 with the page in `out`; 0 for an empty sector; 2, 3, 4 or 28; 33 if the page can't be read, up to a
+ * write or trim of the sector. With 0, 2, 3 and 4 `out` is as it was. */
 uint32_t mintlintel_durable_read(struct mintlintel_durable *device, uint32_t sector, void *out, size_t bytes);
 
-/* Writes a page to a sector: 0 or 1 for what the sector was; 2, 3 or 4; 27, 28, 31 or 33. After a block has failed, the call mounts the device
- * without it and goes on elsewhere; 6 if there is no memory for it, and then each call returns 6 until the device is opened again. Calls after it move
- * what is needed out of the block, and then mark it. Where there is no room without the block, this call and each write or trim after it return 27,
- * and reads go on. After 27 and 28 the sector has this page or what it had before: the next read or open says which. If such a mount finds losses, each
- * call returns 35 until the device is opened again, unless it was opened despite losses. */
+/* Writes a page to a sector: 0 or 1 for what the sector was; 2, 3 or 4; 27, 28 or 31. After a block has failed, the call goes on elsewhere; then it moves
+ * what is needed out of the block, and marks it. The sectors of pages that can't be read there are lost: their reads return 33. While blocks are in
+ * reserve this costs what the block holds. With the last of them, and without one, the call mounts the device without the block: it takes as long as an
+ * open, and allocates as much for that time; 6 if there is no memory for it, and then each call returns 6 until the device is opened again. Where there
+ * is no room without the block, this call or the next one, and each write or trim after it, return 27, and reads go on. After 27 and 28 the sector has
+ * this page or what it had before: the next read or open says which. If such a mount finds losses, each call returns 35 until the device is opened again,
+ * unless it was opened despite losses. */
 uint32_t mintlintel_durable_write(struct mintlintel_durable *device, uint32_t sector, const void *bytes, size_t count);
 
 /* Writes a page to a sector that is empty: 0 if it wrote, 1 if the sector was written and didn't change; otherwise as a write. */
 uint32_t mintlintel_durable_write_new(struct mintlintel_durable *device, uint32_t sector, const void *bytes, size_t count);
 
 /* Empties `count` sectors from `first` on: 1 if any of them was written, and 0 if none was; 3 if the device lacks one of them, and nothing changes;
- * otherwise as a write. After a code above 1 some of them may be empty already. Of up to 4096 sectors it programs one page. */
+ * otherwise as a write. It is done in parts of 4096 sectors, from the first on, each by one page: after a code above 1 the first parts may be done. */
 uint32_t mintlintel_durable_trim(struct mintlintel_durable *device, uint32_t first, uint32_t count);
 
 /* Returns once what was acknowledged is durable: 0; 2 or 28; 29 if the sync failed. */
@@ -147,7 +163,7 @@ struct mintlintel_command { uint32_t kind, sector, from_block, from_page, block,
 uint32_t mintlintel_core_open(struct mintlintel_core *core, uint32_t blocks, uint32_t pages, uint32_t sectors);
 
 /* The same, where the blocks from `blocks` to `read_blocks` - 1 are bad or in reserve: a mount reads them, and no command programs or erases them. 109 also
- * if read_blocks < blocks. After a command that failed, give its block such a number and mount again: the update may be there or not. */
+ * if read_blocks < blocks. After a command that failed, retire its block; or give it such a number and mount again: the update may be there or not. */
 uint32_t mintlintel_core_open_over(struct mintlintel_core *core, uint32_t read_blocks, uint32_t blocks, uint32_t pages, uint32_t sectors);
 
 /* Notes what the next page holds, block by block: with has_version 0 no version (it is erased or torn), and with 1 or 2 one with its sectors, `count`
@@ -169,6 +185,12 @@ uint32_t mintlintel_core_next(struct mintlintel_core *core, uint32_t first, uint
 
 /* This command has succeeded: 0, and after a command of kind 1 the write or trim is acknowledged. 2, 3 or 9; 32 if it isn't the one that comes next. */
 uint32_t mintlintel_core_done(struct mintlintel_core *core, uint32_t first, uint32_t count, struct mintlintel_command *command);
+
+/* This command, which comes next, has failed, and its block isn't programmed or erased any more: it changes its number with `spare`, a block that isn't in
+ * use and has no sector, and that comes in use. Its pages are read still, by the other number. `left` isn't 0 if the page of a program that failed can be
+ * read as its version now, which the sectors have then. 0; 2, 3 or 9; 7 if `spare` won't do; 32 if the command isn't the one that comes next. */
+uint32_t mintlintel_core_retire(struct mintlintel_core *core, uint32_t first, uint32_t count, struct mintlintel_command *command, uint32_t left,
+                                uint32_t spare);
 
 /* `block` was erased so often before the mount, of which more than 65,535 count as so many: 0; 2 or 9. Of a few blocks that are as good the core erases the
  * least erased. */

@@ -18,14 +18,15 @@ enum mintlintel_image_mode {
 };
 
 /* A handle: `struct mintlintel_image image = {0};`. The calls mintlintel_durable_.. take `&image.device`, except open and close. They return 46 where
- * the file failed, and then only close and open help: nothing that was acknowledged is lost, unless a sync failed. */
+ * the file failed, and then only close and open help: nothing that was acknowledged is lost, unless a sync failed. In a child that the process has
+ * forked since the open they return 47, and a close leaves the file and the lock as they are. */
 struct mintlintel_image { struct mintlintel_durable device; struct mintlintel_image_file *file; };
 
 /* What the head of an image says. */
 struct mintlintel_image_head { uint32_t version; struct mintlintel_durable_numbers numbers; };
 
 /* Opens the image, and makes it if there is no such file. Numbers that are all 0 stand for those of the image, which is not
- * made then. 0; 8; a code of mintlintel_durable_open; 40 to 46. It locks the file, so that a second open returns 41. If the image wasn't closed, and
+ * made then. 0; 8; a code of mintlintel_durable_open; 40 to 46; 48; 49. It locks the file, so that a second open returns 41. If the image wasn't closed, and
  * the machine was started anew since or is another one, its power may have been cut: then blocks that were erased since the last flush in mode `flush`
  * have what they had before, and each page is read, and set aside if it doesn't fit its check. */
 uint32_t mintlintel_image_open(struct mintlintel_image *image, const char *path, enum mintlintel_image_mode mode, uint32_t luns, uint32_t blocks,
@@ -38,10 +39,11 @@ uint32_t mintlintel_image_open_despite_losses(struct mintlintel_image *image, co
 /* Closes the image: 0, or 46 if a last sync failed. A handle that is closed stays so. */
 uint32_t mintlintel_image_close(struct mintlintel_image *image);
 
-/* What the head of a file says: 0; 40, 42 or 46. An image of another version has no numbers here. After 43 and 44 it tells what to say. */
+/* What the head of a file says: 0; 40, 42 or 46. An image of another version has no numbers here. After 43 and 44 it tells what to say. What isn't a
+ * regular file is no image. */
 uint32_t mintlintel_image_look(const char *path, struct mintlintel_image_head *head);
 
-/* Copies the image as it stands into a new file, which then is an image of its own: 0; 2; 40 if the file exists already or can't be made; 46. */
+/* Copies the image as it stands into a new file, which then is an image of its own: 0; 2; 40 if the file exists already or can't be made; 46; 47. */
 uint32_t mintlintel_image_copy(struct mintlintel_image *image, const char *path);
 
 /* The errno of the failure that a call returned 46 for, or 0. */

@@ -14,7 +14,7 @@
 #include "power.h"
 #include "random.h"
 
-enum { DONE = 0, FAILED = 1 }; // what the chip answers
+enum { DONE = 0, FAILED = 1, UNREADABLE = 2 }; // what the chip answers
 
 // A block: it works; its programs and erases fail from now on; it must not be used; it works, and is hidden from the layer.
 enum block { GOOD, FAILING, BAD, RESERVED };
@@ -26,9 +26,9 @@ static const char WORN[] = "worn";
 static struct chip *opening;
 
 uint32_t __real_mtl_durable_open(struct mintlintel_durable *device, const struct mintlintel_nand *nand, const struct mintlintel_durable_numbers *numbers,
-                                 const uint32_t *reason, uint64_t *losses);
+                                 struct mtl_reason *reason, uint64_t *losses);
 uint32_t __wrap_mtl_durable_open(struct mintlintel_durable *device, const struct mintlintel_nand *nand, const struct mintlintel_durable_numbers *numbers,
-                                 const uint32_t *reason, uint64_t *losses);
+                                 struct mtl_reason *reason, uint64_t *losses);
 
 static int may_fail(const struct chip *chip) {
     return chip->options->fail_programs > 0 || chip->options->fail_erases > 0;
@@ -61,6 +61,8 @@ static void end_look(struct chip *chip) {
     chip->has_looked = 0;
 }
 
+// Nothing in a block was needed when it was marked, and since then the layer may have dropped the trims that are newer than its pages. A worn chip shows
+// the layer such blocks too, so none of their pages is given.
 static int chip_read(void *at, uint32_t block, uint32_t page, void *main, void *stamp) {
     struct chip *chip = at;
     end_look(chip);
@@ -68,7 +70,7 @@ static int chip_read(void *at, uint32_t block, uint32_t page, void *main, void *
     chip->looked_at = block;
     if (!chip->is_untimed && main)
         chip->end = luns_read(&chip->luns, block, chip->end);
-    return chip->nand.read(chip->nand.chip, block, page, main, stamp);
+    return chip->blocks[block] == BAD ? UNREADABLE : chip->nand.read(chip->nand.chip, block, page, main, stamp);
 }
 
 static int chip_program(void *at, uint32_t block, uint32_t page, const void *main, const void *stamp) {
@@ -149,26 +151,15 @@ static int chip_mark_bad(void *at, uint32_t block) {
 
 // What earlier servers have kept.
 static int read_lines(struct chip *chip) {
-    char line[64];
-    FILE *file = fopen(chip->file, "re");
-    int is_list = 1;
-    if (!file)
-        return 0;
-    while (is_list && fscanf(file, "%63s", line) == 1) {
-        char *end;
-        unsigned long block = strtoul(line, &end, 10);
-        if (strcmp(line, WORN) == 0)
-            chip->is_worn = 1;
-        else if (*end == 0 && block < chip->numbers.blocks)
-            set_bad(chip, (uint32_t) block);
-        else
-            is_list = 0;
-    }
-    fclose(file);
-    if (is_list)
-        return 0;
-    nbdkit_error("%s: it isn't a list of blocks, one a line", chip->file);
-    return -1;
+    uint8_t *bad = calloc(chip->numbers.blocks, 1);
+    int found = bad ? mtl_bad_blocks(chip->options->image, chip->numbers.blocks, bad, &chip->is_worn) : -1;
+    for (uint32_t block = 0; found == 1 && block < chip->numbers.blocks; block++)
+        if (bad[block])
+            set_bad(chip, block);
+    free(bad);
+    if (found == -1)
+        nbdkit_error("%s: it can't be read, or it isn't a list of blocks, one a line", chip->file);
+    return found == -1 ? -1 : 0;
 }
 
 static int is_erased(const struct chip *chip, uint32_t block) {
@@ -256,7 +247,7 @@ static uint32_t mount_somehow(struct chip *chip, struct mintlintel_durable *devi
 }
 
 uint32_t __wrap_mtl_durable_open(struct mintlintel_durable *device, const struct mintlintel_nand *nand, const struct mintlintel_durable_numbers *numbers,
-                                 const uint32_t *reason, uint64_t *losses) {
+                                 struct mtl_reason *reason, uint64_t *losses) {
     struct chip *chip = opening;
     chip->nand = *nand;
     chip->numbers = *numbers;

@@ -11,6 +11,7 @@
 #ifndef NBDKIT_CHIP_H
 #define NBDKIT_CHIP_H
 
+#include <flash.h>
 #include <mintlintel_image.h>
 #include <stdint.h>
 
@@ -28,7 +29,7 @@ struct chip {
     const struct options *options;
     struct mintlintel_nand nand; // of the image's file
     struct mintlintel_durable_numbers numbers;
-    const uint32_t *reason; // why the file failed
+    struct mtl_reason *reason; // why the file refuses each call
     uint64_t *losses; // of whoever opens the device despite them
     uint8_t *blocks;
     struct luns luns;

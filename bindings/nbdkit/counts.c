@@ -3,13 +3,18 @@
 #include "counts.h"
 
 #include <errno.h>
+#include <fcntl.h>
 #include <inttypes.h>
 #include <nbdkit-plugin.h>
 #include <signal.h>
 #include <stdio.h>
 #include <stdlib.h>
 #include <string.h>
+#include <time.h>
 #include <unistd.h>
+
+// So much of the file's name is in the one under which it is written.
+enum { MOST_OF_A_NAME = 200 };
 
 struct host_counts {
     uint64_t reads, writes, trims, refusals, handles_that_wrote;
@@ -129,13 +134,32 @@ static int tell(const char *call, const char *name) {
     return -1;
 }
 
+// A name of this moment in the folder of a file, with a part of its name, as far as a name may be long.
+static char *new_name(const char *path) {
+    const char *slash = strrchr(path, '/'), *name = slash ? slash + 1 : path;
+    size_t length = strlen(name) < MOST_OF_A_NAME ? strlen(name) : MOST_OF_A_NAME;
+    struct timespec now;
+    char *made;
+    clock_gettime(CLOCK_REALTIME, &now);
+    return asprintf(&made, "%.*s.new-%ld-%ld", (int) (name - path) + (int) length, path, (long) getpid(), (long) now.tv_nsec) == -1 ? NULL : made;
+}
+
+// A file that wasn't there, so nobody has led the name elsewhere.
+static FILE *open_new(const char *name) {
+    int fd = open(name, O_WRONLY | O_CREAT | O_EXCL | O_NOFOLLOW | O_CLOEXEC, 0666);
+    FILE *file = fd >= 0 ? fdopen(fd, "w") : NULL;
+    if (fd >= 0 && !file) {
+        close(fd);
+        unlink(name);
+    }
+    return file;
+}
+
 int counts_write(struct device *device) {
-    char *name;
-    if (asprintf(&name, "%s.new", device->options.stats) == -1)
-        return tell("stats", device->options.stats);
-    FILE *file = fopen(name, "w");
+    char *name = new_name(device->options.stats);
+    FILE *file = name ? open_new(name) : NULL;
     if (!file) {
-        tell("stats", name);
+        tell("stats", device->options.stats);
         free(name);
         return -1;
     }

@@ -55,6 +55,10 @@ int rate_set(double *rate, const char *key, const char *value) {
     char *end;
     double number = strtod(value, &end);
     int is_percentage = end > value && strcmp(end, "%") == 0;
+    if (end > value && *end == 0 && number == 1) {
+        nbdkit_error("%s=%s: is it one of a hundred, or each one? Give %s=1%%, or %s=100%%", key, value, key, key);
+        return -1;
+    }
     if (is_percentage)
         number /= 100;
     if (end > value && (*end == 0 || is_percentage) && number >= 0 && number <= 1) {

@@ -12,7 +12,7 @@ struct numbers {
     } *runs;
 };
 
-// 0, or -1 with an error reported. A rate is from 0 to 1, or a percentage.
+// 0, or -1 with an error reported. A rate is from 0 to below 1, or a percentage.
 int numbers_set(struct numbers *numbers, const char *key, const char *value);
 int rate_set(double *rate, const char *key, const char *value);
 

@@ -53,12 +53,14 @@ static void tell_worn(void) {
 static uint32_t open_image(struct image_disk *disk) {
     const struct options *options = disk->options;
     enum mintlintel_image_mode mode = options->sync;
+    struct mintlintel_durable_numbers numbers = {0};
     if (!options->has_numbers) {
-        uint32_t code = mintlintel_image_open(&disk->image, options->image, mode, 0, 0, 0, 0, 0);
+        uint32_t code = mtl_image_open(&disk->image, options->image, mode, &numbers, NULL);
         if (code != MINTLINTEL_NO_FILE || errno != ENOENT)
             return code;
     }
-    return mintlintel_image_open(&disk->image, options->image, mode, options->luns, options->blocks, options->pages, options->page, options->sectors);
+    numbers = (struct mintlintel_durable_numbers){options->luns, options->blocks, options->pages, options->page, options->sectors};
+    return mtl_image_open(&disk->image, options->image, mode, &numbers, NULL);
 }
 
 // Who waits for the lock spins a little first, since it is mostly held for less than a sleep takes.
@@ -81,6 +83,7 @@ int image_disk_open(struct image_disk *disk, struct options *options) {
         tell_refusal(options, code, errno);
         return -1;
     }
+    make_mutex(&disk->order);
     make_mutex(&disk->mutex);
     mintlintel_durable_numbers(&disk->image.device, &numbers);
     options->luns = numbers.luns;
@@ -97,7 +100,9 @@ int image_disk_open(struct image_disk *disk, struct options *options) {
     return -1;
 }
 
+// nbdkit has become its own child by now, if it is in the background.
 void image_disk_start(struct image_disk *disk) {
+    mtl_image_take_over(&disk->image);
     chip_start(&disk->chip);
 }
 
@@ -105,6 +110,7 @@ static void close_image(struct image_disk *disk) {
     if (mintlintel_image_close(&disk->image) != MINTLINTEL_DONE)
         nbdkit_error("image=%s wasn't closed well: %s", disk->options->image, strerror(errno));
     pthread_mutex_destroy(&disk->mutex);
+    pthread_mutex_destroy(&disk->order);
 }
 
 void image_disk_close(struct image_disk *disk) {
@@ -114,7 +120,7 @@ void image_disk_close(struct image_disk *disk) {
     chip_end(&disk->chip);
 }
 
-// ---- The requests. The lock is held by all functions whose names don't begin with image_disk.
+// ---- The requests. The locks are held by all functions whose names don't begin with image_disk.
 
 // What failed is told once, since the layer refuses each call after it.
 static int fail(struct image_disk *disk, const char *call, uint32_t code) {
@@ -245,10 +251,22 @@ static int trim_sectors(struct image_disk *disk, uint32_t first, uint32_t count)
     return changed(disk, "trim", code);
 }
 
-// Lets others have the lock.
-static void end_turn(struct image_disk *disk) {
-    pthread_mutex_unlock(&disk->mutex);
+// ---- The locks. Requests that change anything and flushes are in order; reads come between, but for a flush's syncs, beside which they go on.
+
+static void begin_change(struct image_disk *disk) {
+    pthread_mutex_lock(&disk->order);
     pthread_mutex_lock(&disk->mutex);
+}
+
+static void end_change(struct image_disk *disk) {
+    pthread_mutex_unlock(&disk->mutex);
+    pthread_mutex_unlock(&disk->order);
+}
+
+// Lets others have the locks.
+static void end_turn(struct image_disk *disk) {
+    end_change(disk);
+    begin_change(disk);
 }
 
 // ---- Reads without the lock: it is held only while the pages are looked up.
@@ -340,22 +358,24 @@ int image_disk_read(struct image_disk *disk, uint8_t *to, uint32_t count, uint64
 
 // A part of a page.
 static int write_part(struct image_disk *disk, const struct piece *piece, const uint8_t *from, struct request *request) {
-    pthread_mutex_lock(&disk->mutex);
+    begin_change(disk);
     chip_ask(&disk->chip, request->began);
     int result = store_part(disk, piece, from);
     note(disk, request);
-    pthread_mutex_unlock(&disk->mutex);
+    end_change(disk);
     return result;
 }
 
 // The lock is mostly given back before a thread that sleeps would be awake again. Reads don't wait like this, so they come before writes.
-static void lock_for_write(struct image_disk *disk) {
+static void begin_write(struct image_disk *disk) {
     for (int i = 0; i < YIELDS; i++) {
-        if (pthread_mutex_trylock(&disk->mutex) == 0)
+        if (pthread_mutex_trylock(&disk->order) == 0) {
+            pthread_mutex_lock(&disk->mutex);
             return;
+        }
         sched_yield();
     }
-    pthread_mutex_lock(&disk->mutex);
+    begin_change(disk);
 }
 
 // Whole pages, at most those of a turn.
@@ -365,7 +385,7 @@ static int write_pages(struct image_disk *disk, const uint8_t *from, uint32_t se
     int result = 0;
     for (uint32_t i = 0; i < count; i++)
         checks[i] = mtl_crc(0, from + i * page, page);
-    lock_for_write(disk);
+    begin_write(disk);
     mtl_image_keep(&disk->image, from, checks, count);
     for (uint32_t i = 0; result == 0 && i < count; i++) {
         chip_ask(&disk->chip, request->began);
@@ -373,7 +393,7 @@ static int write_pages(struct image_disk *disk, const uint8_t *from, uint32_t se
         note(disk, request);
     }
     uint64_t ticket = mtl_image_let_go(&disk->image);
-    pthread_mutex_unlock(&disk->mutex);
+    end_change(disk);
     uint32_t code = mtl_image_commit(&disk->image, ticket);
     announce_had_back();
     return result == 0 && code != MINTLINTEL_DONE ? fail_commit(disk, code) : result;
@@ -407,7 +427,7 @@ int image_disk_trim(struct image_disk *disk, uint32_t count, uint64_t offset) {
     struct sectors sectors = whole_sectors(count, offset, disk->options->page);
     struct request request = begin_request();
     int result = 0;
-    pthread_mutex_lock(&disk->mutex);
+    begin_change(disk);
     for (uint64_t sector = sectors.first; result == 0 && sector < sectors.end; sector += SECTORS_OF_A_TURN) {
         uint64_t left = sectors.end - sector;
         chip_ask(&disk->chip, request.began);
@@ -415,7 +435,7 @@ int image_disk_trim(struct image_disk *disk, uint32_t count, uint64_t offset) {
         note(disk, &request);
         end_turn(disk);
     }
-    pthread_mutex_unlock(&disk->mutex);
+    end_change(disk);
     end_request(disk, &request);
     return result;
 }
@@ -439,7 +459,7 @@ int image_disk_zero(struct image_disk *disk, uint32_t count, uint64_t offset, in
         return -1;
     struct request request = begin_request();
     int result = 0;
-    pthread_mutex_lock(&disk->mutex);
+    begin_change(disk);
     for (uint32_t done = 1; result == 0 && next_piece(&range, &piece); done++) {
         chip_ask(&disk->chip, request.began);
         if (!piece.is_whole || !may_trim)
@@ -448,17 +468,20 @@ int image_disk_zero(struct image_disk *disk, uint32_t count, uint64_t offset, in
         if (done % PAGES_OF_A_TURN == 0)
             end_turn(disk);
     }
-    pthread_mutex_unlock(&disk->mutex);
+    end_change(disk);
     end_request(disk, &request);
     return result;
 }
 
+// The syncs come first, without the lock of reads. Then the layer's flush has nothing left to sync, and takes note of a sync that failed.
 int image_disk_flush(struct image_disk *disk) {
+    pthread_mutex_lock(&disk->order);
+    mtl_image_sync(&disk->image);
     pthread_mutex_lock(&disk->mutex);
     uint32_t code = mintlintel_durable_flush(&disk->image.device);
     disk->flushes++;
     int result = code == MINTLINTEL_DONE ? 0 : fail(disk, "flush", code);
-    pthread_mutex_unlock(&disk->mutex);
+    end_change(disk);
     return result;
 }
 

@@ -1,7 +1,8 @@
 // The disk in an image file, or a layer of it: a device that survives the end of the server, by image=FILE.
 //
 // One lock is round all calls of the layer. A request of many pages gives it up from time to time, so it is not one step; each of its pages is. The
-// pages of a write that stand one behind another are written together. A read looks its pages up under the lock, and reads them without it.
+// pages of a write that stand one behind another are written together. A read looks its pages up under the lock, and reads them without it. Changes and
+// flushes take another lock before it, so that a flush syncs the file while sectors are looked up.
 #ifndef NBDKIT_IMAGE_DISK_H
 #define NBDKIT_IMAGE_DISK_H
 
@@ -18,6 +19,7 @@ enum { PAGES_OF_A_TURN = 32 };
 
 struct image_disk {
     struct options *options;
+    pthread_mutex_t order; // of changes and flushes; it is taken first
     pthread_mutex_t mutex; // of all below
     struct mintlintel_image image;
     struct chip chip;

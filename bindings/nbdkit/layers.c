@@ -187,7 +187,7 @@ static int open_layer(struct layers *layers, uint32_t layer, int is_finished) {
     struct image_disk *disk = &layers->disks[layer];
     struct options *own = &layers->own_options[layer];
     struct mtl_run run;
-    if (share_options(layers, layer, is_finished) == -1 || image_disk_open(disk, own) == -1)
+    if (image_disk_open(disk, own) == -1)
         return -1;
     for (uint32_t at = 0; !is_finished && at < own->sectors; at += run.count) {
         if (mtl_image_find(&disk->image, at, own->sectors - at, &run) == MINTLINTEL_EMPTY)
@@ -233,13 +233,18 @@ int layers_open(struct layers *layers, struct options *options) {
         return -1;
     layers->options = options;
     layers->count = options->layers;
+    for (uint32_t layer = 0; layer < layers->count; layer++) {
+        if (share_options(layers, layer, finished) == -1)
+            return -1;
+        layers->power.images[layer] = layers->own_options[layer].image;
+    }
+    layers->power.count = layers->count;
+    if (power_open(&layers->power, options) == -1)
+        return -1;
     for (uint32_t layer = layers->count; layer-- > 0;)
         if (open_layer(layers, layer, finished) == -1)
             return -1;
-    for (uint32_t layer = 0; layer < layers->count; layer++)
-        layers->power.images[layer] = layers->own_options[layer].image;
-    layers->power.count = layers->count;
-    return take_numbers(layers) == -1 ? -1 : power_open(&layers->power, options);
+    return take_numbers(layers);
 }
 
 int layers_start(struct layers *layers) {

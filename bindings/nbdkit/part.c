@@ -4,11 +4,15 @@
 
 #include <ctype.h>
 #include <errno.h>
+#include <fcntl.h>
 #include <inttypes.h>
 #include <nbdkit-plugin.h>
 #include <stdio.h>
 #include <stdlib.h>
 #include <string.h>
+#include <unistd.h>
+
+#include <image_format.h>
 
 enum { LONGEST_LINE = 4096, MAX_MICROSECONDS = 1000000000 };
 
@@ -149,15 +153,25 @@ static int check_all(const char *file, const int *has) {
     return 0;
 }
 
+// Opens a file of the disk, which has an end and for which nobody has to wait.
+static FILE *open_file(const char *name) {
+    int fd = mtl_open_file(name, O_RDONLY);
+    FILE *file = fd >= 0 ? fdopen(fd, "r") : NULL;
+    if (file)
+        return file;
+    nbdkit_error("part=%s: %s", name, errno == EINVAL ? "not a regular file" : strerror(errno));
+    if (fd >= 0)
+        close(fd);
+    return NULL;
+}
+
 int part_read(const char *name, struct part *part) {
     struct place place = {.file = name};
     uint64_t times[KEYS] = {0};
     int has[KEYS] = {0};
-    FILE *file = fopen(name, "re");
-    if (!file) {
-        nbdkit_error("part=%s: %s", name, strerror(errno));
+    FILE *file = open_file(name);
+    if (!file)
         return -1;
-    }
     int result = read_lines(file, &place, times, has);
     fclose(file);
     if (result == -1 || check_all(name, has) == -1)

@@ -18,7 +18,7 @@
 
 #include "random.h"
 
-enum { DISK_SECTOR = 512, WAIT_FOR_A_WRITE_US = 10000 };
+enum { DISK_SECTOR = 512, WAIT_FOR_A_WRITE_US = 10000, ONE_TORN_IN = 3 };
 // So many bytes are kept of writes that aren't synced; then they are written to the disk, as a system does at some time.
 enum { MOST_KEPT = 1 << 28 };
 
@@ -39,7 +39,7 @@ static struct {
     pthread_mutex_t mutex; // of all but the last three
     struct unsynced *newest, *oldest;
     size_t bytes; // of these
-    uint64_t writes, cut, random, kept, lost;
+    uint64_t writes, cut, random, kept, lost, torn;
     int is_armed;
     const struct power *power;
     _Atomic int is_due; // the next write is cut
@@ -49,10 +49,12 @@ ssize_t __real_pread64(int fd, void *bytes, size_t count, off_t at);
 ssize_t __real_pwrite64(int fd, const void *bytes, size_t count, off_t at);
 ssize_t __real_pwritev64(int fd, const struct iovec *parts, int count, off_t at);
 int __real_fdatasync(int fd);
+int __real_fsync(int fd);
 ssize_t __wrap_pread64(int fd, void *bytes, size_t count, off_t at);
 ssize_t __wrap_pwrite64(int fd, const void *bytes, size_t count, off_t at);
 ssize_t __wrap_pwritev64(int fd, const struct iovec *parts, int count, off_t at);
 int __wrap_fdatasync(int fd);
+int __wrap_fsync(int fd);
 
 #ifdef __SANITIZE_THREAD__
 char power_given, power_written;
@@ -81,24 +83,47 @@ static void put(int fd, const uint8_t *bytes, size_t count, off_t at) {
         fprintf(stderr, "mintlintel: a cut of the power couldn't change the image: %s\n", strerror(errno));
 }
 
-// Each write is lost or kept by itself: with all older ones lost, as if they never were, and those that are kept written again in their order.
+static int is_kept(uint64_t percent) {
+    return next_number(&state.random) % 100 < percent;
+}
+
+// Writes those sectors of the disk again of a write that are kept: how many were, and how many not.
+static void keep_sectors(const struct unsynced *write, uint64_t percent, uint32_t *kept, uint32_t *lost) {
+    for (size_t begin = 0, end; begin < write->count; begin = end) {
+        end = begin + DISK_SECTOR - ((size_t) write->at + begin) % DISK_SECTOR;
+        end = end < write->count ? end : write->count;
+        int keeps = is_kept(percent);
+        if (keeps)
+            put(write->fd, write->bytes + write->count + begin, end - begin, write->at + (off_t) begin);
+        *kept += (uint32_t) keeps;
+        *lost += (uint32_t) !keeps;
+    }
+}
+
+// Each write is lost, kept or torn by itself, and of one that is torn each sector of the disk is lost or kept: with all of them lost, as if they never
+// were, and what is kept written again in their order.
 static void lose_writes(void) {
     uint64_t percent = next_number(&state.random) % 101;
     for (struct unsynced *write = state.newest; write; write = write->older)
         put(write->fd, write->bytes, write->count, write->at);
     for (struct unsynced *write = state.oldest; write; write = write->newer) {
-        int is_kept = next_number(&state.random) % 100 < percent;
-        if (is_kept)
+        uint32_t kept = 0, lost = 0;
+        if (next_number(&state.random) % ONE_TORN_IN == 0)
+            keep_sectors(write, percent, &kept, &lost);
+        else if (is_kept(percent)) {
             put(write->fd, write->bytes + write->count, write->count, write->at);
-        state.kept += is_kept;
-        state.lost += !is_kept;
+            kept = 1;
+        }
+        state.kept += kept > 0 && lost == 0;
+        state.torn += kept > 0 && lost > 0;
+        state.lost += kept == 0;
     }
 }
 
 // The machine's run has another name from now on, so that the next server doubts what it finds.
 static void end_session(const char *image) {
     uint8_t session[SESSION_BYTES];
-    int fd = open(image, O_RDWR | O_CLOEXEC);
+    int fd = open(image, O_RDWR | O_CLOEXEC); // there is none yet if the power goes while it is made
     if (fd == -1 || __real_pread64(fd, session, sizeof session, SESSION_AT) != sizeof session)
         return;
     memset(session + BOOT_AT, '-', BOOT_BYTES);
@@ -113,7 +138,7 @@ static void cut(void) {
     for (uint32_t i = 0; i < state.power->count; i++)
         end_session(state.power->images[i]);
     fprintf(stderr, "mintlintel: the power is cut at write %" PRIu64 " to the image: of those that were not synced %" PRIu64 " are lost, and %" PRIu64
-                    " kept\n", state.writes, state.lost, state.kept);
+                    " kept; and of %" PRIu64 " a part\n", state.writes, state.lost, state.kept, state.torn);
     _exit(STATUS_OF_A_CUT);
 }
 
@@ -197,15 +222,23 @@ ssize_t __wrap_pwritev64(int fd, const struct iovec *parts, int count, off_t at)
     return written;
 }
 
-int __wrap_fdatasync(int fd) {
+static int sync_file(int fd, int (*sync)(int fd)) {
     if (!state.is_armed)
-        return __real_fdatasync(fd);
+        return sync(fd);
     pthread_mutex_lock(&state.mutex);
-    int result = __real_fdatasync(fd);
+    int result = sync(fd);
     if (result == 0)
         forget_all(fd);
     pthread_mutex_unlock(&state.mutex);
     return result;
+}
+
+int __wrap_fdatasync(int fd) {
+    return sync_file(fd, __real_fdatasync);
+}
+
+int __wrap_fsync(int fd) {
+    return sync_file(fd, __real_fsync);
 }
 
 // ---- SIGUSR2.

@@ -1,7 +1,7 @@
 // Power cuts of a disk in images, by cut=: the power goes at a write to a file, or at SIGUSR2. That write is torn, each write that was not synced
-// is lost or kept, by the seed, and the server ends. The next one finds what a machine finds after a power cut.
+// is lost, kept or torn, by the seed, and the server ends. The next one finds what a machine finds after a power cut.
 //
-// All reads, writes and syncs of the library go through this: its calls of pread, pwrite and fdatasync are linked to the functions here.
+// All reads, writes and syncs of the library go through this: its calls of pread, pwrite, fdatasync and fsync are linked to the functions here.
 #ifndef NBDKIT_POWER_H
 #define NBDKIT_POWER_H
 
@@ -20,7 +20,7 @@ struct power {
     _Atomic int is_stopping;
 };
 
-// From now on the writes to the images are counted and kept, if the options have a cut. 0, or -1 with an error reported.
+// From now on the writes to the images are counted and kept, if the options have a cut: before these are opened. 0, or -1 with an error reported.
 int power_open(struct power *power, const struct options *options);
 
 // Starts the thread that waits for SIGUSR2.

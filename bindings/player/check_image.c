@@ -1,6 +1,7 @@
 /* What is in an image, by its bytes alone: nothing is mounted, and nothing is written. Plain C, and not proved. */
 #define _FILE_OFFSET_BITS 64
 #include "check_image.h"
+#include "flash.h"
 #include "image_format.h"
 #include "options.h"
 #include "stamp.h"
@@ -9,6 +10,7 @@
 #include <inttypes.h>
 #include <stdio.h>
 #include <stdlib.h>
+#include <string.h>
 #include <sys/file.h>
 #include <sys/stat.h>
 #include <unistd.h>
@@ -22,6 +24,8 @@ struct look {
     struct mintlintel_durable_numbers numbers;
     struct image_layout layout;
     uint8_t *sides;        /* on which each block is, for an open */
+    uint8_t *bad;          /* of each block, whether a block device has listed it as bad: nothing in it is needed, and none of it is read */
+    int has_list, is_worn; /* whether there is such a list, and whether the disk can only be read */
     uint8_t *spares, *page;
     uint32_t *erases;      /* of each block, as its newest version tells */
     uint32_t *gaps;        /* of each block */
@@ -59,7 +63,7 @@ static int check_version(struct look *look, const uint8_t *spare, uint64_t at, u
     struct stamp stamp = mtl_stamp_from(spare);
     if (!read_all(look->fd, look->page, look->numbers.page_bytes, at))
         return 0;
-    int fits = mintlintel_stamp_fits(spare, look->page, look->numbers.page_bytes);
+    int fits = stamp.kind != STAMP_LOST && mintlintel_stamp_fits(spare, look->page, look->numbers.page_bytes);
     int is_known = mtl_stamp_is_of(&stamp, look->numbers.sectors);
     look->broken += !fits || !is_known;
     look->versions += fits && is_known;
@@ -163,6 +167,18 @@ static void show_device(const struct look *look, const char *path, uint32_t vers
            n->luns, n->blocks, n->pages, n->page_bytes, n->sectors, 100.0 * n->sectors / n->blocks / n->pages);
 }
 
+static void show_bad(const struct look *look)
+{
+    uint32_t bad = 0;
+    for (uint32_t i = 0; i < look->numbers.blocks; i++)
+        bad += look->bad[i];
+    if (look->has_list)
+        printf("bad blocks    %" PRIu32 ", which a block device has listed%s; only a block device opens the image\n", bad,
+               look->is_worn ? ", and it can only be read" : "");
+    else
+        printf("bad blocks    0: an image has none\n");
+}
+
 /* How many pages are missing of blocks that have a newest version which no block without a gap has. */
 static uint64_t count_losses(struct look *look)
 {
@@ -193,7 +209,7 @@ static int show(struct look *look, uint32_t endurance)
            look->updates);
     printf("erases        %" PRIu64 "; of a block least %" PRIu32 ", median %" PRIu32 ", most %" PRIu32 "\n", all, erases[0],
            erases[look->numbers.blocks / 2], erases[look->numbers.blocks - 1]);
-    printf("bad blocks    0: an image has none\n");
+    show_bad(look);
     if (endurance)
         show_life(look, endurance);
     printf("pages         %" PRIu64 " versions, %" PRIu64 " erased, %" PRIu64 " set aside, %" PRIu64 " broken\n", look->versions, look->erased, look->aside,
@@ -215,7 +231,7 @@ static int look_at(struct look *look, const char *path, uint32_t endurance)
     struct mintlintel_image_head head;
     struct stat about;
     if (look->fd < 0)
-        return image_refused(MINTLINTEL_NO_FILE);
+        return image_refused(mtl_no_file());
     if (flock(look->fd, LOCK_SH | LOCK_NB) != 0)
         return image_refused(MINTLINTEL_IN_USE);
     uint32_t code = mintlintel_image_look(path, &head);
@@ -232,13 +248,18 @@ static int look_at(struct look *look, const char *path, uint32_t endurance)
     look->gaps = calloc(head.numbers.blocks, sizeof *look->gaps);
     look->sectors = calloc(head.numbers.sectors, sizeof *look->sectors);
     look->sides = calloc(head.numbers.blocks, 1);
-    if (!look->sides || !look->spares || !look->page || !look->erases || !look->gaps || !look->sectors)
+    look->bad = calloc(head.numbers.blocks, 1);
+    if (!look->bad || !look->sides || !look->spares || !look->page || !look->erases || !look->gaps || !look->sectors)
         return image_refused(MINTLINTEL_NO_MEMORY);
     code = find_sides(look);
     if (code != MINTLINTEL_DONE)
         return image_refused(code);
+    int found = mtl_bad_blocks(path, head.numbers.blocks, look->bad, &look->is_worn);
+    look->has_list = found == 1;
+    if (found != 1)
+        memset(look->bad, 0, head.numbers.blocks);
     for (uint32_t block = 0; block < head.numbers.blocks; block++)
-        if (!check_block(look, block))
+        if (!look->bad[block] && !check_block(look, block))
             return image_refused(MINTLINTEL_FILE_FAILED);
     show_device(look, path, head.version);
     return show(look, endurance);
@@ -246,7 +267,7 @@ static int look_at(struct look *look, const char *path, uint32_t endurance)
 
 int check_image(const char *path, uint32_t endurance)
 {
-    struct look look = {.fd = open(path, O_RDONLY | O_CLOEXEC)};
+    struct look look = {.fd = mtl_open_file(path, O_RDONLY)};
     int status = look_at(&look, path, endurance);
     free(look.spares);
     free(look.page);
@@ -254,6 +275,7 @@ int check_image(const char *path, uint32_t endurance)
     free(look.gaps);
     free(look.sectors);
     free(look.sides);
+    free(look.bad);
     if (look.fd >= 0)
         close(look.fd);
     return status;

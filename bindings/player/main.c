@@ -103,13 +103,19 @@ static int open_wear(struct player *player)
     player->wear = -1;
     if (!player->options.wear)
         return DONE;
+    int is_there = access(player->options.wear, F_OK) == 0;
     player->wear = open(player->options.wear, O_WRONLY | O_CREAT | O_CLOEXEC, 0666);
     if (player->wear < 0 || fstat(player->wear, &about) != 0)
         return refuse(STREAM_FAILED, "wear: not opened");
     const char *const others[] = {player->options.image, "/dev/stdin", "/dev/stdout", "/dev/stderr"};
     for (int i = 0; i < 4; i++)
-        if (is_same(&about, others[i]) && (i < 2 || !S_ISFIFO(about.st_mode)))
+        if (is_same(&about, others[i]) && (i < 2 || !S_ISFIFO(about.st_mode))) {
+            char *made = is_there ? NULL : realpath(player->options.wear, NULL);
+            if (made)
+                unlink(made);
+            free(made);
             return refuse(REFUSED, "wear: not a file of its own");
+        }
     return DONE;
 }
 

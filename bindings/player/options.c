@@ -166,6 +166,7 @@ int image_refused(uint32_t code)
         {MINTLINTEL_IN_USE, STREAM_FAILED, "image: in use"}, {MINTLINTEL_NOT_AN_IMAGE, BROKEN, "image: not an image"},
         {MINTLINTEL_OTHER_DEVICE, BROKEN, "image: not an image"}, {MINTLINTEL_CUT_SHORT, BROKEN, "image: cut short"},
         {MINTLINTEL_PAGES_LOST, BROKEN, "image: lost pages"},
+        {MINTLINTEL_BAD_BLOCKS_LISTED, BROKEN, "image: bad blocks are listed beside it, and only a block device opens it"},
         {MINTLINTEL_OTHER_NUMBERS, REFUSED, "image: other numbers"}, {MINTLINTEL_UNREADABLE, BROKEN, "image: unreadable"},
         {MINTLINTEL_BAD_LUNS, REFUSED, "geometry: Luns"}, {MINTLINTEL_BAD_BLOCKS, REFUSED, "geometry: Blocks"},
         {MINTLINTEL_BAD_PAGES, REFUSED, "geometry: Pages"}, {MINTLINTEL_BAD_WORDS, REFUSED, "geometry: Words"},

@@ -19,6 +19,9 @@ const char *mintlintel_durable_code_name(uint32_t code)
     case MINTLINTEL_OTHER_NUMBERS: return "an image with other numbers";
     case MINTLINTEL_CUT_SHORT: return "the image is cut short";
     case MINTLINTEL_FILE_FAILED: return "the file failed";
+    case MINTLINTEL_OTHER_PROCESS: return "another process has opened the image";
+    case MINTLINTEL_BAD_MODE: return "no such mode";
+    case MINTLINTEL_BAD_BLOCKS_LISTED: return "bad blocks are listed beside the image, which only a block device opens";
     default: return mintlintel_code_name(code);
     }
 }

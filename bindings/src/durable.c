@@ -1,8 +1,7 @@
 /* A device that survives power cuts: it performs the commands of the proved core by the caller's functions. This file is plain C, and not proved. */
-#include "mintlintel_durable.h"
+#include "durable.h"
 #include "crc.h"
 #include "flash.h"
-#include "stamp.h"
 #include <stdlib.h>
 #include <string.h>
 
@@ -15,44 +14,9 @@ enum { SAMPLES = 8 };
 enum { MOST_TRIMMED = 4096 };
 /* Of so many blocks one is in reserve, and at least one of a device, if the sectors leave room for it. */
 enum { ONE_RESERVE_IN = 50 };
-/* A block that has failed is marked once nothing in it is needed; so a marked one is not read. Nor is one that failed an erase: it kept nothing, and
- * what is left in it must not be mapped, since an erase may lose pages before others. */
-enum { GOOD, FAILED, FAILED_ERASE, MARKED };
 
-/* A page as its stamp tells it: what a read of the stamp alone returned, and if that is 0 the version. */
-struct noted { uint64_t number; uint32_t sector, count, erases : 24, reading : 2; };
-
-/* What a mount reads first: each page as its stamp tells it, and of each sector twice the newest number, and one more if two pages have it. */
-struct stamps { struct noted *pages; uint64_t *newest; };
-
-/* What a handle keeps beside its core. The core numbers the blocks that are in use, then those in reserve, then the bad ones: `chip_block` gives the
- * chip's number of each. `state` and `erases` go by the chip's numbers. */
-struct mintlintel_flash {
-    struct mintlintel_nand nand;
-    struct mintlintel_durable_numbers numbers;
-    uint32_t *chip_block, *erases;
-    uint8_t *state;
-    uint8_t *has_value; /* a bit for each sector: its newest page has a value. Where it is 0 the page's stamp says so */
-    uint32_t used;
-    uint32_t stranded; /* the first sector that may be in a block that isn't in use */
-    int is_stuck, has_failed; /* such a sector can't be read; a block has failed and isn't marked */
-    struct mintlintel_totals earlier; /* what was done before the last mount */
-    uint64_t losses; /* what the last mount has told */
-    int despite_losses; /* the caller goes on with losses */
-    struct stamps stamps; /* while it mounts */
-    const uint32_t *reason; /* the code in place of 28, if there is one: then the flash is an image, which tells torn pages by itself */
-    uint32_t stopped; /* the code that every call returns since the power went, or a sync or a mount failed, or 0 */
-    uint32_t worn; /* the code of writes and trims since bad blocks have left no room, or 0 */
-    uint8_t *page, *moved;
-    const uint8_t *known; /* pages whose checks are known, or null */
-    const uint32_t *checks;
-    size_t known_pages;
-};
-
-struct update { uint32_t first, count; const uint8_t *bytes; /* null: a trim */ };
-
-/* What an open finds out, and a mount after a failure knows. */
-struct opening { int has_trace; };
+/* A new version of some sectors: its kind, and the bytes of a value. */
+struct update { uint32_t kind, first, count; const uint8_t *bytes; };
 
 /* ---- Commands of the chip ---- */
 
@@ -62,8 +26,7 @@ static uint32_t code_of(int answer)
     return answer == 0 ? MINTLINTEL_DONE : answer == 1 ? MINTLINTEL_FAILED : MINTLINTEL_POWER_GONE;
 }
 
-/* A page's reading: 0 and its stamp's fields, or 1 erased, 2 unreadable, 3 power gone. A page whose check doesn't fit is unreadable. */
-static int read_page(struct mintlintel_flash *flash, uint32_t block, uint32_t page, void *main, struct stamp *stamp)
+int mtl_read_page(struct mintlintel_flash *flash, uint32_t block, uint32_t page, void *main, struct stamp *stamp)
 {
     uint8_t bytes[MINTLINTEL_STAMP_BYTES];
     int answer = flash->nand.read(flash->nand.chip, flash->chip_block[block], page, main, bytes);
@@ -82,29 +45,33 @@ static uint32_t crc_of(const struct mintlintel_flash *flash, const uint8_t *page
     return at / bytes < flash->known_pages && at % bytes == 0 ? flash->checks[at / bytes] : mtl_crc(0, page, bytes);
 }
 
-static uint32_t program(struct mintlintel_flash *flash, const struct mintlintel_command *command, struct update update)
+/* Programs the command's page with an update's version. What is no value is a page of zeros. */
+static uint32_t program(struct mintlintel_flash *flash, const struct mintlintel_command *command, uint64_t number, struct update update)
 {
-    struct stamp stamp = {update.bytes ? STAMP_VALUE : STAMP_TRIM, command->number, update.first, update.count,
-                          flash->erases[flash->chip_block[command->block]]};
+    uint32_t block = flash->chip_block[command->block];
+    struct stamp stamp = {update.kind, number, update.first, update.count, flash->erases[block]};
     uint8_t bytes[MINTLINTEL_STAMP_BYTES];
     if (!update.bytes)
         memset(flash->page, 0, flash->numbers.page_bytes);
     const uint8_t *page = update.bytes ? update.bytes : flash->page;
     mtl_stamp_into(bytes, &stamp, crc_of(flash, page));
-    return code_of(flash->nand.program(flash->nand.chip, flash->chip_block[command->block], command->page, page, bytes));
+    return code_of(flash->nand.program(flash->nand.chip, block, command->page, page, bytes));
 }
 
-/* A copy keeps its stamp with its check, so that a page that has rotted stays one. A copyback is given the stamp alone, and the page isn't read. */
+/* A copy keeps its stamp with its check. A copyback is given the stamp alone, and the page isn't read. In place of a page that can't be read its sector
+ * gets a version that is lost, by the greatest number so far: each older version of the sector has a smaller one, and the next update a greater one. */
 static uint32_t copy(struct mintlintel_flash *flash, const struct mintlintel_command *command)
 {
     const struct mintlintel_nand *nand = &flash->nand;
     uint32_t from = flash->chip_block[command->from_block], to = flash->chip_block[command->block];
-    uint8_t stamp[MINTLINTEL_STAMP_BYTES];
-    int answer = nand->read(nand->chip, from, command->from_page, nand->copyback ? NULL : flash->page, stamp);
-    if (answer != 0)
-        return answer == 1 || answer == 2 ? MINTLINTEL_UNREADABLE : MINTLINTEL_POWER_GONE;
+    uint8_t stamp[MINTLINTEL_STAMP_BYTES], *page = nand->copyback ? NULL : flash->page;
+    int answer = nand->read(nand->chip, from, command->from_page, page, stamp);
+    if (answer < 0 || answer > 2)
+        return MINTLINTEL_POWER_GONE;
+    if (answer != 0 || !mintlintel_stamp_fits(stamp, page, flash->numbers.page_bytes))
+        return program(flash, command, flash->newest, (struct update){STAMP_LOST, command->sector, 1, NULL});
     return code_of(nand->copyback ? nand->copyback(nand->chip, from, command->from_page, to, command->page, stamp)
-                                  : nand->program(nand->chip, to, command->page, flash->page, stamp));
+                                  : nand->program(nand->chip, to, command->page, page, stamp));
 }
 
 static uint32_t erase(struct mintlintel_flash *flash, uint32_t block)
@@ -117,7 +84,7 @@ static uint32_t erase(struct mintlintel_flash *flash, uint32_t block)
 
 static uint32_t perform(struct mintlintel_flash *flash, const struct mintlintel_command *command, struct update update)
 {
-    return command->kind == PROGRAM ? program(flash, command, update)
+    return command->kind == PROGRAM ? program(flash, command, command->number, update)
         : command->kind == COPY ? copy(flash, command) : erase(flash, command->block);
 }
 
@@ -126,7 +93,7 @@ static uint32_t perform(struct mintlintel_flash *flash, const struct mintlintel_
 /* After these codes memory and flash may differ, so that only an open helps. */
 static uint32_t stops(struct mintlintel_flash *flash, uint32_t code)
 {
-    uint32_t reason = flash->reason ? __atomic_load_n(flash->reason, __ATOMIC_ACQUIRE) : MINTLINTEL_DONE;
+    uint32_t reason = flash->reason ? flash->reason->of(flash->reason) : MINTLINTEL_DONE;
     if (code == MINTLINTEL_POWER_GONE && reason)
         code = reason;
     else if (code != MINTLINTEL_POWER_GONE && code != MINTLINTEL_FAILED)
@@ -208,103 +175,9 @@ static void number_all(struct mintlintel_flash *flash)
     flash->used = flash->numbers.blocks;
 }
 
-/* ---- Torn pages ----
- * The stamp of a torn page may be whole. A cut or a failure inside a program tears the last page of its block, since no block is gone on with after a
- * mount. One inside an erase tears any page of a block in which nothing is needed: each version in it has a newer one elsewhere, or the same one stands
- * elsewhere too, until a newer one is there. And only the newest version of a sector counts. So a stamp is believed but in two cases, in which the page
- * is read whole: where it is the last one of its block, and where two pages have the newest version. */
-
-/* Whether a stamp is of this sector. */
-static int covers(const struct stamp *stamp, uint32_t sector)
+int mtl_is_read(const struct mintlintel_flash *flash, uint32_t block)
 {
-    return sector >= stamp->sector && sector - stamp->sector < stamp->count;
-}
-
-/* Notes the newest numbers in a block. */
-static void note_newest(struct stamps *stamps, const struct noted *pages, uint32_t count)
-{
-    for (const struct noted *page = pages; page < pages + count; page++) {
-        if (page->reading != 0)
-            continue;
-        uint64_t number = page->number << 1;
-        for (uint64_t *newest = stamps->newest + page->sector; newest < stamps->newest + page->sector + page->count; newest++)
-            *newest = number > *newest ? number : number == (*newest & ~(uint64_t)1) ? number | 1 : *newest;
-    }
-}
-
-/* Reads the stamps of a block, and its last version whole. */
-static uint32_t stamps_of_block(struct mintlintel_flash *flash, uint32_t block)
-{
-    struct noted *pages = flash->stamps.pages + (size_t)block * flash->numbers.pages, *last = NULL;
-    struct stamp stamp;
-    for (struct noted *page = pages; page < pages + flash->numbers.pages; page++) {
-        int reading = read_page(flash, block, (uint32_t)(page - pages), NULL, &stamp);
-        if (reading == 3)
-            return MINTLINTEL_POWER_GONE;
-        if (reading == 0 && !mtl_stamp_is_of(&stamp, flash->numbers.sectors))
-            return MINTLINTEL_OTHER_DEVICE;
-        page->reading = (unsigned)reading & 3;
-        if (reading != 0)
-            continue;
-        *page = (struct noted){stamp.number, stamp.sector, stamp.count, stamp.erases & STAMP_MOST_ERASES, 0};
-        last = page;
-    }
-    int reading = last ? read_page(flash, block, (uint32_t)(last - pages), flash->page, &stamp) : 0;
-    if (last)
-        last->reading = (unsigned)reading & 3;
-    if (reading != 3)
-        note_newest(&flash->stamps, pages, flash->numbers.pages);
-    return reading == 3 ? MINTLINTEL_POWER_GONE : MINTLINTEL_DONE;
-}
-
-/* Frees what was read first. */
-static void free_stamps(struct mintlintel_flash *flash)
-{
-    free(flash->stamps.pages);
-    free(flash->stamps.newest);
-    flash->stamps = (struct stamps){NULL, NULL};
-}
-
-/* Whether a mount reads a block. */
-static int is_read(const struct mintlintel_flash *flash, uint32_t block)
-{
-    return flash->state[flash->chip_block[block]] < FAILED_ERASE;
-}
-
-/* Reads what the stamps tell, of a flash that doesn't tell torn pages by itself. */
-static uint32_t read_stamps(struct mintlintel_flash *flash)
-{
-    const struct mintlintel_durable_numbers *n = &flash->numbers;
-    if (flash->reason)
-        return MINTLINTEL_DONE;
-    flash->stamps = (struct stamps){calloc((size_t)n->blocks * n->pages, sizeof(struct noted)), calloc(n->sectors, sizeof(uint64_t))};
-    if (!flash->stamps.pages || !flash->stamps.newest)
-        return MINTLINTEL_NO_MEMORY;
-    uint32_t code = MINTLINTEL_DONE;
-    for (uint32_t block = 0; code == MINTLINTEL_DONE && block < n->blocks; block++)
-        code = is_read(flash, block) ? stamps_of_block(flash, block) : MINTLINTEL_DONE;
-    return code;
-}
-
-/* Whether another page too has the version of this one, and it is the newest of a sector. */
-static int is_doubled(const struct stamps *stamps, const struct noted *noted)
-{
-    for (uint32_t i = 0; i < noted->count; i++)
-        if (stamps->newest[noted->sector + i] == (noted->number << 1 | 1))
-            return 1;
-    return 0;
-}
-
-/* A page as a mount has to note it: what `read_page` returns. The kind of a version isn't kept, but that only a trim is of several sectors. */
-static int read_noted(struct mintlintel_flash *flash, uint32_t block, uint32_t page, struct stamp *stamp)
-{
-    if (!flash->stamps.pages)
-        return read_page(flash, block, page, NULL, stamp);
-    const struct noted *noted = &flash->stamps.pages[(size_t)block * flash->numbers.pages + page];
-    if (noted->reading == 0 && is_doubled(&flash->stamps, noted))
-        return read_page(flash, block, page, flash->page, stamp);
-    *stamp = (struct stamp){noted->count == 1 ? STAMP_VALUE : STAMP_TRIM, noted->number, noted->sector, noted->count, noted->erases};
-    return noted->reading;
+    return flash->state[flash->chip_block[block]] != MARKED;
 }
 
 /* Notes the stamps of a block that is read. At an open its erases are those that its newest version tells: the copies in it tell those of
@@ -315,7 +188,7 @@ static uint32_t note_block(struct mintlintel_durable *device, uint32_t block, st
     uint64_t newest = 0;
     for (uint32_t page = 0; page < flash->numbers.pages; page++) {
         struct stamp stamp = {0, 0, 0, 0, 0};
-        int reading = is_read(flash, block) ? read_noted(flash, block, page, &stamp) : 1;
+        int reading = mtl_is_read(flash, block) ? mtl_stamps_reading(flash, block, page, &stamp) : 1;
         if (reading == 3)
             return MINTLINTEL_POWER_GONE;
         if (reading == 0 && !mtl_stamp_is_of(&stamp, flash->numbers.sectors))
@@ -324,9 +197,12 @@ static uint32_t note_block(struct mintlintel_durable *device, uint32_t block, st
         uint32_t code = mintlintel_core_note(&device->core, kind, stamp.sector, stamp.count, stamp.number);
         if (code != MINTLINTEL_DONE)
             return code;
-        if (reading == 0 && opening)
+        if (reading != 0)
+            continue;
+        flash->newest = stamp.number > flash->newest ? stamp.number : flash->newest;
+        flash->stranded = block < flash->used ? flash->stranded : 0;
+        if (opening && stamp.number >= newest) {
             opening->has_trace = 1;
-        if (reading == 0 && opening && stamp.number >= newest) {
             newest = stamp.number;
             flash->erases[flash->chip_block[block]] = stamp.erases;
         }
@@ -334,8 +210,9 @@ static uint32_t note_block(struct mintlintel_durable *device, uint32_t block, st
     return MINTLINTEL_DONE;
 }
 
-/* Reads some versions whole. If none of them fits its check, the flash holds pages of another size. */
-static uint32_t sample(struct mintlintel_durable *device)
+/* The code of a mount by which no page that was read whole has fitted: reads some newest versions whole. If none of these does, the flash holds pages of
+ * another size. So it does if there are none: only the first number may be that of torn pages alone. An image may have dropped its trims. */
+static uint32_t sample(struct mintlintel_durable *device, uint32_t code)
 {
     struct mintlintel_flash *flash = device->flash;
     struct mintlintel_place at;
@@ -344,14 +221,14 @@ static uint32_t sample(struct mintlintel_durable *device)
     for (uint32_t sector = 0; sector < flash->numbers.sectors && read < SAMPLES; sector++) {
         if (mintlintel_core_page(&device->core, sector, &at) != MINTLINTEL_WRITTEN)
             continue;
-        int reading = read_page(flash, at.block, at.page, flash->page, &stamp);
+        int reading = mtl_read_page(flash, at.block, at.page, flash->page, &stamp);
         if (reading == 0)
-            return MINTLINTEL_DONE;
+            return code;
         if (reading == 3)
             return MINTLINTEL_POWER_GONE;
         read++;
     }
-    return read == 0 ? MINTLINTEL_DONE : MINTLINTEL_OTHER_DEVICE;
+    return read == 0 && flash->reason ? code : MINTLINTEL_OTHER_DEVICE;
 }
 
 /* Adds what the core has counted to what was done before. */
@@ -393,14 +270,13 @@ static uint32_t mount_core(struct mintlintel_durable *device, struct opening *op
         flash->earlier = totals;
     }
     mintlintel_core_close(&device->core);
+    flash->stranded = n->sectors;
     uint32_t code = mintlintel_core_open_over(&device->core, n->blocks, flash->used, n->pages, n->sectors);
     if (code == MINTLINTEL_DONE)
-        code = read_stamps(flash);
+        code = mtl_stamps_read(flash, opening);
     for (uint32_t block = 0; code == MINTLINTEL_DONE && block < n->blocks; block++)
         code = note_block(device, block, opening);
-    free_stamps(flash);
-    flash->stranded = 0;
-    flash->is_stuck = 0;
+    mtl_stamps_free(flash);
     if (code == MINTLINTEL_DONE)
         code = mintlintel_core_finish(&device->core);
     if (code != MINTLINTEL_DONE)
@@ -425,15 +301,20 @@ static uint32_t mount(struct mintlintel_durable *device, struct opening *opening
 static uint32_t open_flash(struct mintlintel_durable *device)
 {
     struct mintlintel_flash *flash = device->flash;
-    struct opening opening = {0};
-    for (uint32_t block = 0; block < flash->numbers.blocks; block++)
-        flash->state[block] = flash->nand.is_bad && flash->nand.is_bad(flash->nand.chip, block) ? MARKED : GOOD;
+    struct opening opening = {0, 0};
+    for (uint32_t block = 0; flash->nand.is_bad && block < flash->numbers.blocks; block++) {
+        int answer = flash->nand.is_bad(flash->nand.chip, block);
+        if (answer != 0 && answer != 1)
+            return MINTLINTEL_POWER_GONE;
+        flash->state[block] = answer ? MARKED : GOOD;
+    }
     uint32_t code = mount(device, &opening);
-    return code == MINTLINTEL_DONE && opening.has_trace ? sample(device) : code;
+    int is_mounted = code == MINTLINTEL_DONE || (!flash->reason && (code == MINTLINTEL_PAGES_LOST || code == MINTLINTEL_NO_BLOCK));
+    return is_mounted && opening.has_trace && !opening.has_fit ? sample(device, code) : code;
 }
 
 uint32_t mtl_durable_open(struct mintlintel_durable *device, const struct mintlintel_nand *nand, const struct mintlintel_durable_numbers *numbers,
-                          const uint32_t *reason, uint64_t *losses)
+                          struct mtl_reason *reason, uint64_t *losses)
 {
     if (device->flash)
         return MINTLINTEL_ALREADY_OPEN;
@@ -479,7 +360,9 @@ void mintlintel_durable_close(struct mintlintel_durable *device)
 /* The code that every call of this handle returns, or 0. */
 static uint32_t refusal(const struct mintlintel_durable *device)
 {
-    return device->flash ? device->flash->stopped : MINTLINTEL_CLOSED;
+    const struct mintlintel_flash *flash = device->flash;
+    uint32_t code = !flash ? MINTLINTEL_CLOSED : flash->stopped;
+    return code == MINTLINTEL_DONE && flash->reason ? flash->reason->of(flash->reason) : code;
 }
 
 /* The same, and whether the device has the sector and the buffer is a page. */
@@ -511,22 +394,57 @@ static uint32_t was(struct mintlintel_durable *device, uint32_t sector)
         return MINTLINTEL_WRITTEN;
     if (mintlintel_core_page(&device->core, sector, &at) != MINTLINTEL_WRITTEN)
         return MINTLINTEL_EMPTY;
-    int reading = read_page(device->flash, at.block, at.page, NULL, &stamp);
+    int reading = mtl_read_page(device->flash, at.block, at.page, NULL, &stamp);
     if (reading == 3)
         return stops(device->flash, MINTLINTEL_POWER_GONE);
     note_value(device->flash, sector, reading == 0 && stamp.kind == STAMP_VALUE);
-    return reading != 0 || stamp.kind == STAMP_VALUE ? MINTLINTEL_WRITTEN : MINTLINTEL_EMPTY;
+    return reading != 0 || stamp.kind != STAMP_TRIM ? MINTLINTEL_WRITTEN : MINTLINTEL_EMPTY;
 }
 
-/* The command's block has failed: it is bad from now on, and the layer is mounted anew without it. What a failed command leaves is what a power cut
- * leaves inside it, so the core's proof holds. If there is no room without the block, the device is only read from now on. */
-static uint32_t retire(struct mintlintel_durable *device, const struct mintlintel_command *command)
+/* Marks a block, since nothing in it is needed any more. */
+static uint32_t mark(struct mintlintel_flash *flash, uint32_t block)
+{
+    flash->state[block] = MARKED;
+    return flash->nand.mark_bad && flash->nand.mark_bad(flash->nand.chip, block) != 0 ? stops(flash, MINTLINTEL_POWER_GONE) : MINTLINTEL_DONE;
+}
+
+/* The core goes on with the first block in reserve in place of the command's, which has failed: 0, 7 if there is none, or why each call is refused. It has
+ * to know of a program that failed whether its page can be read: then the sectors have the new version. */
+static uint32_t take_spare(struct mintlintel_durable *device, struct update update, struct mintlintel_command *command)
+{
+    struct mintlintel_flash *flash = device->flash;
+    struct stamp stamp;
+    int reading = command->kind == PROGRAM ? mtl_read_page(flash, command->block, command->page, flash->page, &stamp) : 2;
+    uint32_t failed = flash->chip_block[command->block], code = reading == 3 ? MINTLINTEL_POWER_GONE : MINTLINTEL_NO_BLOCK;
+    for (uint32_t spare = flash->used; code == MINTLINTEL_NO_BLOCK && spare < flash->numbers.blocks; spare++) {
+        if (flash->state[flash->chip_block[spare]] != GOOD)
+            continue;
+        code = mintlintel_core_retire(&device->core, update.first, update.count, command, reading == 0, spare);
+        if (code == MINTLINTEL_DONE) {
+            flash->chip_block[command->block] = flash->chip_block[spare];
+            flash->chip_block[spare] = failed;
+            flash->newest = command->kind == PROGRAM ? command->number : flash->newest;
+            flash->stranded = 0;
+        }
+    }
+    return code;
+}
+
+/* The command's block has failed: it is bad from now on. A block in reserve takes its place. If too few were left then, the layer is mounted anew with
+ * others in reserve: what a failed command leaves is what a power cut leaves inside it, so the core's proof holds. If there is no room without the block,
+ * the device is only read from now on. */
+static uint32_t retire(struct mintlintel_durable *device, struct update update, struct mintlintel_command *command)
 {
     struct mintlintel_flash *flash = device->flash;
     uint32_t block = flash->chip_block[command->block];
-    flash->state[block] = command->kind == ERASE ? FAILED_ERASE : FAILED;
+    flash->state[block] = FAILED;
     flash->has_failed = 1;
-    uint32_t code = mount(device, NULL);
+    if (command->kind == ERASE && mark(flash, block) != MINTLINTEL_DONE)
+        return flash->stopped;
+    uint32_t left = flash->numbers.blocks - flash->used - count_bad(flash); /* in reserve, once one has taken the block's place */
+    uint32_t code = left >= count_reserve(flash) ? take_spare(device, update, command) : MINTLINTEL_NO_BLOCK;
+    if (code == MINTLINTEL_NO_BLOCK)
+        code = mount(device, NULL);
     if (code == MINTLINTEL_NO_ROOM) {
         number_all(flash);
         flash->worn = MINTLINTEL_EXHAUSTED;
@@ -552,33 +470,30 @@ static uint32_t update(struct mintlintel_durable *device, struct update update)
         struct mintlintel_command command;
         uint32_t code = mintlintel_core_next(&device->core, update.first, update.count, &command);
         if (code == MINTLINTEL_DONE)
-            code = perform(device->flash, &command, update);
+            code = command.number < STAMP_MOST_NUMBER ? perform(device->flash, &command, update) : MINTLINTEL_NO_NUMBER;
         int has_failed = code == MINTLINTEL_FAILED;
         if (has_failed)
-            code = retire(device, &command);
+            code = retire(device, update, &command);
         else if (code == MINTLINTEL_DONE)
             code = mintlintel_core_done(&device->core, update.first, update.count, &command);
         if (code != MINTLINTEL_DONE)
             return stops(device->flash, code);
         if (command.kind == PROGRAM && !has_failed) {
+            device->flash->newest = command.number;
             note_values(device->flash, update, update.bytes != NULL);
             return MINTLINTEL_DONE;
         }
     }
 }
 
-/* Marks the blocks that have failed, since nothing in them is needed any more. If none is in reserve now, another mount takes one out of use. */
+/* Marks the blocks that have failed. If none is in reserve now, another mount takes one out of use. */
 static void mark_blocks(struct mintlintel_durable *device)
 {
     struct mintlintel_flash *flash = device->flash;
-    flash->has_failed = 0;
-    for (uint32_t block = 0; block < flash->numbers.blocks && !flash->stopped; block++) {
-        if (flash->state[block] == GOOD || flash->state[block] == MARKED)
-            continue;
-        flash->state[block] = MARKED;
-        if (flash->nand.mark_bad && flash->nand.mark_bad(flash->nand.chip, block) != 0)
-            stops(flash, MINTLINTEL_POWER_GONE);
-    }
+    flash->has_failed = flash->stranded = 0;
+    for (uint32_t block = 0; block < flash->numbers.blocks && !flash->stopped; block++)
+        if (flash->state[block] == FAILED)
+            mark(flash, block);
     if (!flash->stopped && flash->used + count_bad(flash) == flash->numbers.blocks && count_reserve(flash) > 0) {
         uint32_t code = mount(device, NULL);
         if (code != MINTLINTEL_DONE)
@@ -597,41 +512,56 @@ static uint32_t count_at(struct mintlintel_durable *device, uint32_t first, stru
     return sector - first;
 }
 
-/* Moves the next sector whose page is in a block that isn't in use, with those after it that have the same page, and after the last one marks the blocks
- * that have failed. A sector whose page can't be read stays where it is, and no block is marked then. */
-static void move_stranded(struct mintlintel_durable *device)
+/* Whether a stamp is of this sector. */
+static int covers(const struct stamp *stamp, uint32_t sector)
+{
+    return sector >= stamp->sector && sector - stamp->sector < stamp->count;
+}
+
+/* Moves a sector, with those after it that have the same page. Those whose page can't be read are lost from now on. */
+static uint32_t move(struct mintlintel_durable *device, uint32_t sector, struct mintlintel_place at)
+{
+    struct mintlintel_flash *flash = device->flash;
+    struct stamp stamp;
+    int reading = mtl_read_page(flash, at.block, at.page, flash->moved, &stamp);
+    if (reading == 3)
+        return stops(flash, MINTLINTEL_POWER_GONE);
+    struct update moved = {reading == 0 && covers(&stamp, sector) ? stamp.kind : STAMP_LOST, sector, count_at(device, sector, at), NULL};
+    moved.bytes = moved.kind == STAMP_VALUE ? flash->moved : NULL;
+    flash->stranded = sector + moved.count;
+    uint32_t code = update(device, moved);
+    flash->stranded = code == MINTLINTEL_DONE ? flash->stranded : 0;
+    return code;
+}
+
+/* Moves the next sector whose page is in a block that isn't in use; while blocks have failed, in one of them, and after the last one marks them. */
+static uint32_t move_stranded(struct mintlintel_durable *device)
 {
     struct mintlintel_flash *flash = device->flash;
     struct mintlintel_place at;
-    struct stamp stamp;
     for (int looked = 0; flash->stranded < flash->numbers.sectors; looked++) {
-        if (looked == LOOKED_AT)
-            return;
+        if (looked == LOOKED_AT && !flash->has_failed)
+            return MINTLINTEL_DONE;
         uint32_t sector = flash->stranded++;
         if (mintlintel_core_page(&device->core, sector, &at) != MINTLINTEL_WRITTEN || at.block < flash->used)
             continue;
-        int reading = read_page(flash, at.block, at.page, flash->moved, &stamp);
-        if (reading == 3)
-            stops(flash, MINTLINTEL_POWER_GONE);
-        else if (reading != 0 || !covers(&stamp, sector))
-            flash->is_stuck = 1;
-        else {
-            uint32_t count = count_at(device, sector, at);
-            flash->stranded = sector + count;
-            update(device, (struct update){sector, count, stamp.kind == STAMP_VALUE ? flash->moved : NULL});
-        }
-        return;
+        if (!flash->has_failed || flash->state[flash->chip_block[at.block]] != GOOD)
+            return move(device, sector, at);
     }
-    if (flash->has_failed && !flash->is_stuck)
+    if (flash->has_failed)
         mark_blocks(device);
+    return flash->stopped;
 }
 
-/* Gives sectors a new version for a caller, and moves a stranded one then. */
+/* Gives sectors a new version for a caller. If a block has failed then, all that it holds is moved, and it is marked; otherwise one stranded sector is
+ * moved. */
 static uint32_t change(struct mintlintel_durable *device, struct update new)
 {
     uint32_t code = device->flash->worn ? device->flash->worn : update(device, new);
-    if (code == MINTLINTEL_DONE)
-        move_stranded(device);
+    uint32_t moves = code;
+    do
+        moves = moves == MINTLINTEL_DONE ? move_stranded(device) : moves;
+    while (moves == MINTLINTEL_DONE && device->flash->has_failed);
     return code;
 }
 
@@ -646,12 +576,13 @@ void mtl_durable_know(struct mintlintel_durable *device, const uint8_t *pages, c
 
 uint32_t mtl_durable_find(struct mintlintel_durable *device, uint32_t sector, struct mintlintel_place *place)
 {
-    uint32_t code = refusal_of(device, sector, device->flash ? device->flash->numbers.page_bytes : 0);
+    const struct mintlintel_flash *flash = device->flash;
+    uint32_t code = !flash ? MINTLINTEL_CLOSED : flash->stopped ? flash->stopped : sector < flash->numbers.sectors ? MINTLINTEL_DONE : MINTLINTEL_NO_SECTOR;
     if (code != MINTLINTEL_DONE)
         return code;
     code = mintlintel_core_page(&device->core, sector, place);
     if (code == MINTLINTEL_WRITTEN)
-        place->block = device->flash->chip_block[place->block];
+        place->block = flash->chip_block[place->block];
     return code;
 }
 
@@ -664,13 +595,13 @@ uint32_t mintlintel_durable_read(struct mintlintel_durable *device, uint32_t sec
         return code;
     if (mintlintel_core_page(&device->core, sector, &at) != MINTLINTEL_WRITTEN)
         return MINTLINTEL_EMPTY;
-    int reading = read_page(device->flash, at.block, at.page, device->flash->page, &stamp);
+    int reading = mtl_read_page(device->flash, at.block, at.page, device->flash->page, &stamp);
     if (reading == 3)
         return stops(device->flash, MINTLINTEL_POWER_GONE);
     if (reading != 0 || !covers(&stamp, sector))
         return MINTLINTEL_UNREADABLE;
-    if (stamp.kind == STAMP_TRIM)
-        return MINTLINTEL_EMPTY;
+    if (stamp.kind != STAMP_VALUE)
+        return stamp.kind == STAMP_TRIM ? MINTLINTEL_EMPTY : MINTLINTEL_UNREADABLE;
     memcpy(out, device->flash->page, bytes);
     return MINTLINTEL_WRITTEN;
 }
@@ -683,7 +614,7 @@ uint32_t mintlintel_durable_write(struct mintlintel_durable *device, uint32_t se
     uint32_t had = was(device, sector);
     if (had > MINTLINTEL_WRITTEN)
         return had;
-    code = change(device, (struct update){sector, 1, bytes});
+    code = change(device, (struct update){STAMP_VALUE, sector, 1, bytes});
     return code == MINTLINTEL_DONE ? had : code;
 }
 
@@ -693,7 +624,7 @@ uint32_t mintlintel_durable_write_new(struct mintlintel_durable *device, uint32_
     if (code != MINTLINTEL_DONE)
         return code;
     uint32_t had = was(device, sector);
-    return had != MINTLINTEL_EMPTY ? had : change(device, (struct update){sector, 1, bytes});
+    return had != MINTLINTEL_EMPTY ? had : change(device, (struct update){STAMP_VALUE, sector, 1, bytes});
 }
 
 /* Leaves of these sectors those from the first one that is written to the last: 1, or 0 if none is, or 28, or why each call is refused. A page that
@@ -713,7 +644,7 @@ static uint32_t find_written(struct mintlintel_durable *device, struct update *t
         int is_trim = had == MINTLINTEL_EMPTY && mintlintel_core_page(&device->core, sector, &at) == MINTLINTEL_WRITTEN;
         sector += is_trim ? count_at(device, sector, at) : 1;
     }
-    *trim = (struct update){from, to - from, NULL};
+    *trim = (struct update){STAMP_TRIM, from, to - from, NULL};
     return from == end ? MINTLINTEL_EMPTY : MINTLINTEL_WRITTEN;
 }
 
@@ -726,7 +657,7 @@ uint32_t mintlintel_durable_trim(struct mintlintel_durable *device, uint32_t fir
     if (first > sectors || count > sectors - first)
         return MINTLINTEL_NO_SECTOR;
     for (uint32_t done = 0; done < count; done += MOST_TRIMMED) {
-        struct update trim = {first + done, count - done < MOST_TRIMMED ? count - done : MOST_TRIMMED, NULL};
+        struct update trim = {STAMP_TRIM, first + done, count - done < MOST_TRIMMED ? count - done : MOST_TRIMMED, NULL};
         uint32_t had = find_written(device, &trim);
         if (had > MINTLINTEL_WRITTEN)
             return had;

@@ -5,9 +5,12 @@
 #include "mintlintel_durable.h"
 #include "mintlintel_image.h"
 
-/* Opens a device whose calls return `*reason` in place of 28, if it is not 0. With `losses` it opens one that has losses too, and tells them. */
+/* Why an image refuses each call: `of` tells the code, or 0. */
+struct mtl_reason { uint32_t (*of)(struct mtl_reason *reason); };
+
+/* Opens a device whose calls return the code of the reason, if it isn't 0. With `losses` it opens one that has losses too, and tells them. */
 uint32_t mtl_durable_open(struct mintlintel_durable *device, const struct mintlintel_nand *nand, const struct mintlintel_durable_numbers *numbers,
-                          const uint32_t *reason, uint64_t *losses);
+                          struct mtl_reason *reason, uint64_t *losses);
 
 /* How many pages a block may have; and the first fault of a device's numbers, or 0. */
 enum { MTL_MOST_PAGES = 16384 };
@@ -21,6 +24,22 @@ const uint32_t *mtl_durable_erases(const struct mintlintel_durable *device);
 
 /* Tells the CRC-32C of these pages, one behind another, up to another call, by which there may be none: then writes of them don't compute it. */
 void mtl_durable_know(struct mintlintel_durable *device, const uint8_t *pages, const uint32_t *checks, size_t count);
+
+/* ---- An image under a block device ---- */
+
+/* mintlintel_image_open, also of an image beside which a block device has listed bad blocks. With `losses` it opens one that has losses too. */
+uint32_t mtl_image_open(struct mintlintel_image *image, const char *path, enum mintlintel_image_mode mode, const struct mintlintel_durable_numbers *numbers,
+                        uint64_t *losses);
+
+/* The process that calls this has the image from now on, in place of the one that opened it: a server in the background is a child. */
+void mtl_image_take_over(struct mintlintel_image *image);
+
+/* Syncs what was done, as a flush does. Beside it only sectors may be looked up and read: 0, or the code that each call returns from then on. */
+uint32_t mtl_image_sync(struct mintlintel_image *image);
+
+/* Reads the list of bad blocks that a block device has kept beside an image. `bad` gets a 1 for each of them, if it isn't null; `is_worn` tells whether the
+ * device can only be read. 1; 0 if there is no list, or nothing in it; -1 if the file can't be read or isn't one. */
+int mtl_bad_blocks(const char *image, uint32_t blocks, uint8_t *bad, int *is_worn);
 
 /* ---- Many pages of an image at once ---- */
 

@@ -21,8 +21,8 @@
 enum { BLOCKS_AHEAD = 16 };
 /* Larger images aren't mapped, since the system keeps 8 bytes for each page of 4 KiB. */
 #define MOST_MAPPED ((off_t)1 << 32)
-/* No block. */
-enum { NOWHERE = -1 };
+/* So much of the image's name is in the one under which it is made. */
+enum { MOST_OF_A_NAME = 200 };
 
 static const uint8_t magic[8] = {0x89, 'M', 'N', 'T', 'L', '\r', '\n', 0x1a};
 
@@ -43,43 +43,13 @@ int mtl_file_failed(struct mintlintel_image_file *file, int error)
     return 3;
 }
 
-int mtl_read_all(int fd, void *bytes, size_t count, off_t at)
+/* Why each call is refused, or 0. */
+static uint32_t refusal(struct mtl_reason *why)
 {
-    for (size_t done = 0; done < count;) {
-        ssize_t n = pread(fd, (char *)bytes + done, count - done, at + (off_t)done);
-        if (n == 0 || (n < 0 && errno != EINTR))
-            return n == 0 ? EIO : errno;
-        done += n > 0 ? (size_t)n : 0;
-    }
-    return 0;
-}
-
-/* The same for a write. */
-static int write_all(int fd, const void *bytes, size_t count, off_t at)
-{
-    for (size_t done = 0; done < count;) {
-        ssize_t n = pwrite(fd, (const char *)bytes + done, count - done, at + (off_t)done);
-        if (n == 0 || (n < 0 && errno != EINTR))
-            return n == 0 ? ENOSPC : errno;
-        done += n > 0 ? (size_t)n : 0;
-    }
-    return 0;
-}
-
-static int write_all_parts(int fd, struct iovec *parts, uint32_t count, off_t at)
-{
-    while (count > 0) {
-        ssize_t n = pwritev(fd, parts, (int)count, at);
-        if (n == 0 || (n < 0 && errno != EINTR))
-            return n == 0 ? ENOSPC : errno;
-        size_t done = n > 0 ? (size_t)n : 0;
-        at += (off_t)done;
-        for (; count > 0 && done >= parts->iov_len; parts++, count--)
-            done -= parts->iov_len;
-        if (done > 0)
-            *parts = (struct iovec){(char *)parts->iov_base + done, parts->iov_len - done};
-    }
-    return 0;
+    struct mintlintel_image_file *file = (struct mintlintel_image_file *)why;
+    if (!is_own(file))
+        __atomic_store_n(&file->reason, MINTLINTEL_OTHER_PROCESS, __ATOMIC_SEQ_CST);
+    return __atomic_load_n(&file->reason, __ATOMIC_ACQUIRE);
 }
 
 int mtl_file_get(struct mintlintel_image_file *file, void *bytes, size_t count, off_t at)
@@ -90,14 +60,14 @@ int mtl_file_get(struct mintlintel_image_file *file, void *bytes, size_t count, 
 
 int mtl_file_set(struct mintlintel_image_file *file, const void *bytes, size_t count, off_t at)
 {
-    int error = write_all(file->fd, bytes, count, at);
+    int error = mtl_write_all(file->fd, bytes, count, at);
     file->is_dirty = 1;
     return error ? mtl_file_failed(file, error) : 0;
 }
 
 int mtl_file_set_parts(struct mintlintel_image_file *file, struct iovec *parts, uint32_t count, off_t at)
 {
-    int error = write_all_parts(file->fd, parts, count, at);
+    int error = mtl_write_all_parts(file->fd, parts, count, at);
     file->is_dirty = 1;
     return error ? mtl_file_failed(file, error == EFAULT ? EIO : error) : 0;
 }
@@ -295,12 +265,19 @@ uint32_t mtl_image_commit(struct mintlintel_image *image, uint64_t ticket)
     return mtl_queue_commit(image->file, ticket) == 0 ? MINTLINTEL_DONE : MINTLINTEL_FILE_FAILED;
 }
 
+uint32_t mtl_image_sync(struct mintlintel_image *image)
+{
+    return image_sync(image->file) == 0 ? MINTLINTEL_DONE : MINTLINTEL_FILE_FAILED;
+}
+
 /* ---- Reads beside other calls ---- */
 
 uint32_t mtl_image_find(struct mintlintel_image *image, uint32_t sector, uint32_t count, struct mtl_run *run)
 {
     struct mintlintel_place at, next;
-    uint32_t code = has_failed(image->file) ? MINTLINTEL_FILE_FAILED : mtl_durable_find(&image->device, sector, &at);
+    uint32_t code = refusal(&image->file->why);
+    if (code == MINTLINTEL_DONE)
+        code = mtl_durable_find(&image->device, sector, &at);
     *run = (struct mtl_run){.sector = sector, .count = 1};
     if (code > MINTLINTEL_WRITTEN)
         return code;
@@ -329,8 +306,9 @@ int mtl_image_read_run(const struct mintlintel_image *image, const struct mtl_ru
         return 0;
     for (uint32_t i = 0; i < run->count; i++) {
         const uint8_t *spare = spares + (size_t)i * SPARE_BYTES;
-        if (mtl_image_reading(spare) != IS_VERSION || !mintlintel_stamp_fits(spare, page + i * bytes, bytes) ||
-            mtl_stamp_from(spare).sector != run->sector + i)
+        struct stamp stamp = mtl_stamp_from(spare);
+        if (mtl_image_reading(spare) != IS_VERSION || !mintlintel_stamp_fits(spare, page + i * bytes, bytes) || stamp.kind == STAMP_LOST ||
+            stamp.sector != run->sector + i)
             return 0;
     }
     __atomic_thread_fence(__ATOMIC_SEQ_CST);
@@ -383,9 +361,9 @@ static uint32_t read_head(int fd, struct mintlintel_image_head *head)
 uint32_t mintlintel_image_look(const char *path, struct mintlintel_image_head *head)
 {
     memset(head, 0, sizeof *head);
-    int fd = open(path, O_RDONLY | O_CLOEXEC);
+    int fd = mtl_open_file(path, O_RDONLY);
     if (fd < 0)
-        return MINTLINTEL_NO_FILE;
+        return mtl_no_file();
     uint32_t code = read_head(fd, head);
     close(fd);
     return code == MINTLINTEL_OTHER_VERSION ? MINTLINTEL_DONE : code;
@@ -483,9 +461,12 @@ static int check_pages(struct mintlintel_image_file *file, uint32_t mode)
 
 /* ---- Opening and closing ---- */
 
+/* A child that is left keeps the descriptor open, so the lock is given back by itself; and a child has none to give back. */
 static void free_file(struct mintlintel_image_file *file)
 {
     if (file) {
+        if (file->fd >= 0 && is_own(file))
+            flock(file->fd, LOCK_UN);
         if (file->fd >= 0)
             close(file->fd);
         free(file->sides.of_blocks);
@@ -533,7 +514,7 @@ static void lay_out(struct mintlintel_image_file *file, uint32_t version, const 
 static uint32_t lock_file(struct mintlintel_image_file *file)
 {
     if (file->fd < 0)
-        return MINTLINTEL_NO_FILE;
+        return mtl_no_file();
     if (flock(file->fd, LOCK_EX | LOCK_NB) != 0)
         return errno == EWOULDBLOCK ? MINTLINTEL_IN_USE : MINTLINTEL_NO_FILE;
     return MINTLINTEL_DONE;
@@ -549,6 +530,15 @@ static int sync_name(const char *path)
         close(fd);
     free(copy);
     return code;
+}
+
+/* Why a name that had no file has one now: another process has made it, or it is a symbolic link that leads nowhere. */
+static uint32_t who_has(const char *path)
+{
+    struct stat about;
+    int leads_nowhere = lstat(path, &about) == 0 && S_ISLNK(about.st_mode);
+    errno = leads_nowhere ? ENOENT : EEXIST;
+    return leads_nowhere ? MINTLINTEL_NO_FILE : MINTLINTEL_IN_USE;
 }
 
 /* Makes an image under another name, and gives it its own once it is whole. So a file with this name is an image, whenever the process ends. */
@@ -568,23 +558,32 @@ static uint32_t make_image(struct mintlintel_image_file *file, const char *path,
     if (write_session(file, IN_USE) != 0 || fsync(file->fd) != 0)
         return mtl_file_failed(file, errno), MINTLINTEL_FILE_FAILED;
     if (link(other, path) != 0)
-        return errno == EEXIST ? MINTLINTEL_IN_USE : MINTLINTEL_NO_FILE;
+        return errno == EEXIST ? who_has(path) : MINTLINTEL_NO_FILE;
     return sync_name(path) == 0 ? MINTLINTEL_DONE : MINTLINTEL_FILE_FAILED;
+}
+
+/* Another name in the folder of a file. A part of the file's own name is in it, as far as a name may be long. */
+static char *other_name(const char *path)
+{
+    const char *slash = strrchr(path, '/'), *name = slash ? slash + 1 : path;
+    int length = (int)(name - path + (strlen(name) < MOST_OF_A_NAME ? strlen(name) : MOST_OF_A_NAME));
+    struct timespec now;
+    char *other = malloc((size_t)length + 64);
+    clock_gettime(CLOCK_REALTIME, &now);
+    if (other)
+        snprintf(other, (size_t)length + 64, "%.*s.new-%ld-%ld", length, path, (long)getpid(), (long)now.tv_nsec);
+    return other;
 }
 
 /* Opens and locks the file, and makes it if there is none and the numbers say of what kind. */
 static uint32_t open_file(struct mintlintel_image_file *file, const char *path, const struct mintlintel_durable_numbers *numbers)
 {
-    file->fd = open(path, O_RDWR | O_CLOEXEC);
+    file->fd = mtl_open_file(path, O_RDWR);
     if (file->fd >= 0 || errno != ENOENT || are_zero(numbers))
         return lock_file(file);
-    struct timespec now;
-    size_t room = strlen(path) + 64;
-    char *other = malloc(room);
+    char *other = other_name(path);
     if (!other)
         return MINTLINTEL_NO_MEMORY;
-    clock_gettime(CLOCK_REALTIME, &now);
-    snprintf(other, room, "%s.new-%ld-%ld", path, (long)getpid(), (long)now.tv_nsec);
     lay_out(file, VERSION, numbers);
     uint32_t code = make_image(file, path, other);
     unlink(other);
@@ -641,20 +640,22 @@ static uint32_t open_image(struct mintlintel_image_file *file, const char *path,
     return code == MINTLINTEL_DONE ? take_image(file, numbers) : code;
 }
 
-static uint32_t open_device(struct mintlintel_image *image, const char *path, enum mintlintel_image_mode mode,
-                            const struct mintlintel_durable_numbers *numbers, uint64_t *losses)
+uint32_t mtl_image_open(struct mintlintel_image *image, const char *path, enum mintlintel_image_mode mode, const struct mintlintel_durable_numbers *numbers,
+                        uint64_t *losses)
 {
     struct mintlintel_image_file *file = image->file ? NULL : calloc(1, sizeof *file);
     if (!file)
         return image->file ? MINTLINTEL_ALREADY_OPEN : MINTLINTEL_NO_MEMORY;
     struct mintlintel_nand nand = {file, image_read, image_program, image_copyback, image_erase, NULL, NULL, image_sync};
+    file->why.of = refusal;
+    file->opener = getpid();
     file->fd = -1;
     file->mode = mode;
     file->is_mounting = 1;
     mtl_read_boot(file->boot);
     uint32_t code = open_image(file, path, numbers);
     if (code == MINTLINTEL_DONE)
-        code = mtl_durable_open(&image->device, &nand, &file->numbers, &file->reason, losses);
+        code = mtl_durable_open(&image->device, &nand, &file->numbers, &file->why, losses);
     file->is_mounting = 0;
     file->cached = UINT32_MAX;
     if (code == MINTLINTEL_DONE) {
@@ -665,6 +666,23 @@ static uint32_t open_device(struct mintlintel_image *image, const char *path, en
     free_file(file);
     errno = error;
     return code;
+}
+
+void mtl_image_take_over(struct mintlintel_image *image)
+{
+    image->file->opener = getpid();
+}
+
+/* What only the block device knows of, nothing else may open: it would give old pages, and use blocks that aren't read later. */
+static uint32_t open_device(struct mintlintel_image *image, const char *path, enum mintlintel_image_mode mode,
+                            const struct mintlintel_durable_numbers *numbers, uint64_t *losses)
+{
+    int is_worn;
+    if (mode < MINTLINTEL_ALWAYS || mode > MINTLINTEL_NEVER)
+        return MINTLINTEL_BAD_MODE;
+    if (!image->file && mtl_bad_blocks(path, 0, NULL, &is_worn) == 1)
+        return MINTLINTEL_BAD_BLOCKS_LISTED;
+    return mtl_image_open(image, path, mode, numbers, losses);
 }
 
 uint32_t mintlintel_image_open(struct mintlintel_image *image, const char *path, enum mintlintel_image_mode mode, uint32_t luns, uint32_t blocks,
@@ -681,22 +699,27 @@ uint32_t mintlintel_image_open_despite_losses(struct mintlintel_image *image, co
     return open_device(image, path, mode, &numbers, losses);
 }
 
+/* In mode `never` nothing says that the pages are on the disk, so the session stays in use until its machine ends. */
+static uint32_t end_session(struct mintlintel_image_file *file)
+{
+    file->is_closing = 1;
+    if (file->mode != MINTLINTEL_NEVER && (mtl_file_sync(file) != 0 || write_session(file, CLOSED) != 0))
+        return MINTLINTEL_FILE_FAILED;
+    mtl_sides_punch(file);
+    return MINTLINTEL_DONE;
+}
+
+/* A child that closes its copy of the handle leaves the file as it is. */
 uint32_t mintlintel_image_close(struct mintlintel_image *image)
 {
     struct mintlintel_image_file *file = image->file;
-    uint32_t code = MINTLINTEL_DONE;
     mintlintel_durable_close(&image->device);
     image->file = NULL;
-    if (file)
-        file->is_closing = 1;
-    /* In mode `never` nothing says that the pages are on the disk, so the session stays in use until its machine ends. */
-    if (file && !file->reason && file->mode != MINTLINTEL_NEVER && (mtl_file_sync(file) != 0 || write_session(file, CLOSED) != 0)) {
-        code = MINTLINTEL_FILE_FAILED;
-        errno = file->error;
-    }
-    if (file && !file->reason)
-        mtl_sides_punch(file);
+    uint32_t code = file && refusal(&file->why) == MINTLINTEL_DONE ? end_session(file) : MINTLINTEL_DONE;
+    int error = file ? file->error : 0;
     free_file(file);
+    if (code != MINTLINTEL_DONE)
+        errno = error;
     return code;
 }
 
@@ -707,51 +730,15 @@ int mintlintel_image_errno(const struct mintlintel_image *image)
 
 /* ---- Copies ---- */
 
-/* Copies one run of data. */
-static int copy_run(struct mintlintel_image_file *file, int to, off_t at, off_t end)
-{
-    static const size_t MOST = 1 << 20;
-    uint8_t *bytes = malloc(MOST);
-    int error = bytes ? 0 : ENOMEM;
-    while (error == 0 && at < end) {
-        size_t count = (size_t)(end - at) < MOST ? (size_t)(end - at) : MOST;
-        error = mtl_read_all(file->fd, bytes, count, at);
-        if (error == 0)
-            error = write_all(to, bytes, count, at);
-        at += (off_t)count;
-    }
-    free(bytes);
-    return error;
-}
-
-/* Copies what is data, and leaves the holes: 0, or an errno. */
-static int copy_data(struct mintlintel_image_file *file, int to)
-{
-    off_t at = 0, length = (off_t)file->layout.length;
-    int error = ftruncate(to, length) == 0 ? 0 : errno;
-    while (error == 0 && at < length) {
-        off_t data = lseek(file->fd, at, SEEK_DATA);
-        off_t hole = data < 0 ? -1 : lseek(file->fd, data, SEEK_HOLE);
-        if (data < 0)
-            return errno == ENXIO ? 0 : errno;
-        if (hole < 0)
-            return errno;
-        hole = hole < length ? hole : length;
-        error = data < hole ? copy_run(file, to, data, hole) : 0;
-        at = hole;
-    }
-    return error;
-}
-
 uint32_t mintlintel_image_copy(struct mintlintel_image *image, const char *path)
 {
-    if (!image->file)
-        return MINTLINTEL_CLOSED;
+    if (!image->file || !is_own(image->file))
+        return image->file ? MINTLINTEL_OTHER_PROCESS : MINTLINTEL_CLOSED;
     int to = open(path, O_RDWR | O_CREAT | O_EXCL | O_CLOEXEC, 0666);
     if (to < 0)
         return MINTLINTEL_NO_FILE;
     int is_synced = has_failed(image->file) || image->file->mode != MINTLINTEL_FLUSH || image_sync(image->file) == 0;
-    int error = is_synced ? copy_data(image->file, to) : image->file->error;
+    int error = is_synced ? mtl_copy_data(image->file->fd, to, (off_t)image->file->layout.length) : image->file->error;
     if (error == 0 && image->file->mode != MINTLINTEL_NEVER)
         error = fsync(to) == 0 ? 0 : errno;
     close(to);

@@ -5,6 +5,7 @@
 #include "flash.h"
 #include "image_format.h"
 #include <sys/uio.h>
+#include <unistd.h>
 
 /* How many commands wait at most, of how many pages one call of the system writes the main bytes or the spare bytes, how many turns the threads share
  * that wait for a command, and how many counters of erases the blocks share. */
@@ -45,8 +46,10 @@ struct sides {
 enum { HAS_MOVED = 2 };
 
 struct mintlintel_image_file {
+    struct mtl_reason why;   /* first, so that it is found by it */
+    pid_t opener;            /* the process that has it: a child by fork has the descriptor, the lock and this memory too */
     int fd, error;           /* the errno of the first failure, or 0 */
-    uint32_t reason;         /* MINTLINTEL_FILE_FAILED after one. Atomic */
+    uint32_t reason;         /* MINTLINTEL_FILE_FAILED after one, and MINTLINTEL_OTHER_PROCESS in a child. Atomic */
     enum mintlintel_image_mode mode;
     uint8_t boot[BOOT_BYTES]; /* the name of this run of the machine, or zeros */
     struct mintlintel_durable_numbers numbers;
@@ -72,6 +75,12 @@ int mtl_file_sync(struct mintlintel_image_file *file);
 static inline int has_failed(const struct mintlintel_image_file *file)
 {
     return __atomic_load_n(&file->reason, __ATOMIC_ACQUIRE) != 0;
+}
+
+/* Whether this process has the image. A child has not: another process writes to the file, and threads that lead or hold a lock are gone. */
+static inline int is_own(const struct mintlintel_image_file *file)
+{
+    return file->opener == getpid();
 }
 
 /* ---- Sides: 0 or 3 ---- */

@@ -3,7 +3,9 @@
 #define IMAGE_FORMAT_H
 
 #include "mintlintel_durable.h"
+#include <errno.h>
 #include <sys/types.h>
+#include <sys/uio.h>
 
 /* The version of new images, the one whose checkpoints list nothing, and the one whose blocks have one side. */
 enum { VERSION = 3, VERSION_WITHOUT_LISTS = 2, VERSION_OF_ONE_SIDE = 1 };
@@ -37,8 +39,24 @@ static inline uint32_t mtl_get32(const uint8_t *at)
     return at[0] | (uint32_t)at[1] << 8 | (uint32_t)at[2] << 16 | (uint32_t)at[3] << 24;
 }
 
+/* Opens a regular file that is there, and waits for nobody: the descriptor, or -1. Of anything else the errno is EINVAL. */
+int mtl_open_file(const char *path, int flags);
+
+/* The code of a file that this couldn't open. */
+static inline uint32_t mtl_no_file(void)
+{
+    return errno == EINVAL ? MINTLINTEL_NOT_AN_IMAGE : MINTLINTEL_NO_FILE;
+}
+
 /* Reads all of these bytes: 0, or the errno of what failed. The end of the file counts as EIO. */
 int mtl_read_all(int fd, void *bytes, size_t count, off_t at);
+
+/* The same for writes. The parts are used up. */
+int mtl_write_all(int fd, const void *bytes, size_t count, off_t at);
+int mtl_write_all_parts(int fd, struct iovec *parts, uint32_t count, off_t at);
+
+/* Copies a file's data, and leaves its holes: 0, or an errno. */
+int mtl_copy_data(int from, int to, off_t length);
 
 struct image_layout mtl_image_layout(uint32_t version, const struct mintlintel_durable_numbers *numbers);
 

@@ -41,7 +41,7 @@ struct stamp mtl_stamp_from(const uint8_t *bytes)
 
 int mtl_stamp_is_of(const struct stamp *stamp, uint32_t sectors)
 {
-    int is_known = stamp->kind == STAMP_VALUE ? stamp->count == 1 : stamp->kind == STAMP_TRIM && stamp->count > 0;
+    int is_known = stamp->kind == STAMP_VALUE ? stamp->count == 1 : (stamp->kind == STAMP_TRIM || stamp->kind == STAMP_LOST) && stamp->count > 0;
     return is_known && stamp->sector < sectors && stamp->count <= sectors - stamp->sector;
 }
 

@@ -5,7 +5,7 @@
 #include <stddef.h>
 #include <stdint.h>
 
-enum { STAMP_VALUE = 1, STAMP_TRIM = 2 };
+enum { STAMP_VALUE = 1, STAMP_TRIM = 2, STAMP_LOST = 3 };
 #define STAMP_MOST_ERASES 0xffffffu
 #define STAMP_MOST_NUMBER ((uint64_t)1 << 56)
 

@@ -70,7 +70,8 @@ static inline int fails(struct cut_chip *chip, uint32_t block)
 static inline void tear(struct cut_chip *chip, struct chip_page *p)
 {
     p->has_stamp = chip->hides_torn && (p->contents == VERSION || (p->contents == TORN && p->has_stamp)) && drawn(&chip->state) % 4 > 0;
-    p->main[drawn(&chip->state) % CHIP_PAGE_BYTES] ^= (uint8_t)(1 + drawn(&chip->state) % 255);
+    if (p->contents != TORN) /* what tears it again doesn't mend it */
+        p->main[drawn(&chip->state) % CHIP_PAGE_BYTES] ^= (uint8_t)(1 + drawn(&chip->state) % 255);
     p->contents = TORN;
 }
 

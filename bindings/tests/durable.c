@@ -285,40 +285,42 @@ static void fail_often(void)
     }
 }
 
-/* A block is not marked while it has a page that is needed and can't be read. */
-static void lose_pages(void)
+/* Opens the device as it is, and blocks that have failed before count as failed still. */
+static void open_again(void)
 {
-    struct mintlintel_block block;
-    long found = 0;
+    mintlintel_durable_close(&device);
+    CHECK(mintlintel_durable_open(&device, &nand, 1, CHIP_BLOCKS, CHIP_PAGES, CHIP_PAGE_BYTES, sectors) == MINTLINTEL_DONE);
+}
+
+/* Whether each block that has failed is marked. */
+static int are_marked(void)
+{
+    for (uint32_t b = 0; b < CHIP_BLOCKS; b++)
+        if (chip.failed[b] && !chip.bad[b])
+            return 0;
+    return 1;
+}
+
+/* A block that has failed is marked once the call returns, also if others fail in it, and gets no command after another open; but for a call that has
+ * found no room without the block, which the next one tells. */
+static void mark_at_once(void)
+{
+    long marked = 0;
     for (int round = 0; round < 300; round++) {
         begin_sound();
+        sectors = CHIP_PAGES;
         CHECK(open_device());
-        write_some(200);
-        chip.fail_at = chip.commands + 1 + drawn(&state) % 8;
-        while (chip.fails == 0)
-            write_some(1);
-        for (uint32_t b = 0; b < CHIP_BLOCKS; b++) {
-            CHECK(mintlintel_durable_block(&device, b, &block) == MINTLINTEL_DONE);
-            if (!block.retired || block.live == 0)
-                continue;
-            for (uint32_t page = 0; page < CHIP_PAGES; page++)
-                chip.pages[b][page].contents = TORN;
-            for (uint32_t sector = 0, lost = 0; sector < sectors; sector++) {
-                uint8_t page[CHIP_PAGE_BYTES];
-                lost += mintlintel_durable_read(&device, sector, page, sizeof page) == MINTLINTEL_UNREADABLE;
-                CHECK(sector + 1 < sectors || lost == block.live);
-            }
-            uint8_t page[CHIP_PAGE_BYTES];
-            for (int i = 0; i < 60; i++) {
-                uint32_t sector = drawn(&state) % sectors, code = mintlintel_durable_read(&device, sector, page, sizeof page);
-                CHECK(code == MINTLINTEL_UNREADABLE || mintlintel_durable_write(&device, sector, page, sizeof page) <= MINTLINTEL_WRITTEN);
-            }
-            CHECK(!chip.bad[b]);
-            found++;
+        chip.one_fail_in = 4 + drawn(&state) % 30;
+        for (int is_marked = 1; write_one(drawn(&state) % sectors, 0) != MINTLINTEL_EXHAUSTED;) {
+            CHECK(is_marked);
+            is_marked = are_marked();
+            marked += chip.fails * is_marked;
+            if (is_marked && drawn(&state) % 8 == 0)
+                open_again();
         }
         mintlintel_durable_close(&device);
     }
-    CHECK(found > 10);
+    CHECK(marked > 1000);
 }
 
 /* Whether another block has the version of a page. */
@@ -329,6 +331,54 @@ static int has_twin(uint32_t block, uint32_t page)
         if (other->contents == VERSION && (other < chip.pages[block] || other >= chip.pages[block + 1]) && memcmp(other->stamp, p->stamp, sizeof p->stamp) == 0)
             return 1;
     return 0;
+}
+
+/* Where a program fails, a page of its block can't be read any more, but by its stamp: one with a version that no other block has. */
+static int program_and_rot(void *at, uint32_t block, uint32_t page, const void *main, const void *stamp)
+{
+    int answer = chip_program(at, block, page, main, stamp);
+    for (uint32_t p = 0; answer == 1 && p + 1 < page; p++)
+        if (!has_twin(block, p)) {
+            chip.pages[block][p].contents = TORN;
+            chip.pages[block][p].has_stamp = 1;
+            chip.pages[block][p].main[0] ^= 1;
+            return answer;
+        }
+    return answer;
+}
+
+/* A sector whose page can't be read in a block that has failed is lost, also after each later open, until it is written. The block is marked. */
+static void lose_pages(void)
+{
+    uint8_t page[CHIP_PAGE_BYTES];
+    long found = 0;
+    for (int round = 0; round < 300; round++) {
+        begin_sound();
+        sectors = 2 * CHIP_PAGES;
+        nand.program = program_and_rot;
+        CHECK(open_device());
+        write_some(200);
+        chip.fail_at = chip.commands + 1 + drawn(&state) % 8;
+        while (chip.fails == 0)
+            write_some(1);
+        CHECK(are_marked());
+        uint32_t lost = sectors;
+        for (uint32_t sector = 0; sector < sectors && lost == sectors; sector++)
+            lost = mintlintel_durable_read(&device, sector, page, sizeof page) == MINTLINTEL_UNREADABLE ? sector : lost;
+        for (int opened = 0; opened < 20; opened++) {
+            for (uint32_t sector = 0; sector < sectors; sector++)
+                if (sector != lost)
+                    check_sector(sector);
+            CHECK(lost == sectors || mintlintel_durable_read(&device, lost, page, sizeof page) == MINTLINTEL_UNREADABLE);
+            open_again();
+            CHECK(write_one((lost + 1 + drawn(&state) % (sectors - 1)) % sectors, 0) <= MINTLINTEL_WRITTEN);
+        }
+        found += lost < sectors;
+        CHECK(lost == sectors || write_one(lost, 0) == MINTLINTEL_WRITTEN);
+        CHECK(open_device());
+        mintlintel_durable_close(&device);
+    }
+    CHECK(found > 10);
 }
 
 /* A block that needs no page is torn in each page whose version another block has too, as in an erase, and its stamps stay whole. With few sectors it
@@ -615,6 +665,7 @@ int main(int argc, char **argv)
     check_closed();
     fails = fail_each();
     fail_often();
+    mark_at_once();
     add_reserve();
     lose_pages();
     tear_twins();

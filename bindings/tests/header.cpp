@@ -1,4 +1,5 @@
 // Includes the headers from C++, and uses a device for one thread, by the calls of C and by the class of LINKING.md.
+#include "mintlintel_answering.h"
 #include "mintlintel_image.h"
 #include "mintlintel_locked.h"
 #include <cstdio>

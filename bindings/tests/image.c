@@ -154,6 +154,92 @@ static void refusals(void)
     CHECK(mintlintel_image_open(&image, path, MINTLINTEL_NEVER, NUMBERS) == MINTLINTEL_NOT_AN_IMAGE);
 }
 
+static int is_over;
+
+static void end_wait(int number)
+{
+    (void)number;
+    is_over = 1;
+}
+
+/* What isn't a regular file is no image, which an open says at once: a pipe of which nobody has the other end, a device, a folder and a symbolic link that
+ * leads nowhere. */
+static void odd_files(const char *folder)
+{
+    static const char *const odd[] = {"/dev/zero", "/dev/tty", "/"};
+    struct mintlintel_image image = {0};
+    struct mintlintel_image_head head;
+    struct sigaction action = {.sa_handler = end_wait};
+    CHECK(sigaction(SIGALRM, &action, NULL) == 0); /* which ends a call that waits */
+    unlink(path);
+    CHECK(mkfifo(path, 0600) == 0);
+    alarm(10);
+    uint32_t looked = mintlintel_image_look(path, &head), opened = mintlintel_image_open(&image, path, MINTLINTEL_NEVER, NUMBERS);
+    CHECK(alarm(0) > 0 && !is_over);
+    CHECK(looked == MINTLINTEL_NOT_AN_IMAGE && opened == MINTLINTEL_NOT_AN_IMAGE);
+    unlink(path);
+    for (size_t i = 0; i < sizeof odd / sizeof *odd; i++) {
+        uint32_t code = mintlintel_image_look(odd[i], &head);
+        CHECK(code == MINTLINTEL_NOT_AN_IMAGE || (i == 1 && code == MINTLINTEL_NO_FILE));
+    }
+    CHECK(mintlintel_image_open(&image, folder, MINTLINTEL_NEVER, NUMBERS) != MINTLINTEL_DONE);
+    CHECK(symlink("nowhere", path) == 0);
+    CHECK(mintlintel_image_open(&image, path, MINTLINTEL_NEVER, NUMBERS) == MINTLINTEL_NO_FILE && errno == ENOENT);
+    unlink(path);
+}
+
+/* A name may be as long as the system takes one, and a mode is one of three. */
+static void names_and_modes(const char *folder)
+{
+    static const int modes[] = {0, 4, 8, -1};
+    struct mintlintel_image image = {0};
+    char name[251] = {0}, is_long[sizeof path + sizeof name];
+    uint64_t losses;
+    for (size_t length = 190; length < sizeof name; length += 10) {
+        memset(name, 'n', length);
+        snprintf(is_long, sizeof is_long, "%s/%s", folder, name);
+        CHECK(mintlintel_image_open(&image, is_long, MINTLINTEL_NEVER, NUMBERS) == MINTLINTEL_DONE);
+        CHECK(mintlintel_image_close(&image) == MINTLINTEL_DONE && unlink(is_long) == 0);
+    }
+    for (size_t i = 0; i < sizeof modes / sizeof *modes; i++) {
+        enum mintlintel_image_mode mode = (enum mintlintel_image_mode)modes[i];
+        CHECK(mintlintel_image_open(&image, path, mode, NUMBERS) == MINTLINTEL_BAD_MODE);
+        CHECK(mintlintel_image_open_despite_losses(&image, path, mode, NUMBERS, &losses) == MINTLINTEL_BAD_MODE);
+        CHECK(access(path, F_OK) != 0);
+    }
+}
+
+/* An image beside which a block device has listed bad blocks is opened by a block device alone. A file of this name that is no such list is nobody's. */
+static void bad_blocks_beside(void)
+{
+    static const struct { const char *text; int result, is_worn; } lists[] = {{"3\n1\n", 1, 0}, {"1\nworn\n", 1, 1}, {"worn\n", 1, 1}, {"", 0, 0},
+                                                                             {"8\n", -1, 0}, {"-1\n", -1, 0}, {"1 x\n", -1, 0}, {"\x89MNTL", -1, 0}};
+    struct mintlintel_image image = {0};
+    char list[sizeof path + 4];
+    uint8_t bad[BLOCKS];
+    uint64_t losses;
+    int is_worn;
+    snprintf(list, sizeof list, "%s.bad", path);
+    CHECK(mtl_bad_blocks(path, BLOCKS, bad, &is_worn) == 0);
+    for (size_t i = 0; i < sizeof lists / sizeof *lists; i++) {
+        FILE *file = fopen(list, "w");
+        CHECK(file && fputs(lists[i].text, file) >= 0 && fclose(file) == 0);
+        memset(bad, 0, sizeof bad);
+        CHECK(mtl_bad_blocks(path, BLOCKS, bad, &is_worn) == lists[i].result && is_worn == lists[i].is_worn);
+        CHECK(i > 0 || (bad[1] && bad[3] && !bad[0] && !bad[2]));
+        int is_list = mtl_bad_blocks(path, 0, NULL, &is_worn) == 1;
+        uint32_t wanted = is_list ? MINTLINTEL_BAD_BLOCKS_LISTED : MINTLINTEL_DONE;
+        CHECK(is_list == (lists[i].result == 1 || i == 4)); /* without the number of blocks each number is one */
+        CHECK(mintlintel_image_open(&image, path, MINTLINTEL_NEVER, NUMBERS) == wanted);
+        mintlintel_image_close(&image);
+        CHECK(mintlintel_image_open_despite_losses(&image, path, MINTLINTEL_NEVER, NUMBERS, &losses) == wanted);
+        mintlintel_image_close(&image);
+        CHECK(mtl_image_open(&image, path, MINTLINTEL_NEVER, &(struct mintlintel_durable_numbers){NUMBERS}, NULL) == MINTLINTEL_DONE);
+        mintlintel_image_close(&image);
+    }
+    unlink(list);
+}
+
 /* The byte behind this one, of those that are flipped: all of the head, of the entries and of the checkpoints, of which the last one lists so many bytes. */
 static off_t next_byte(off_t at, off_t listed)
 {
@@ -290,6 +376,12 @@ static void copies(void)
     mintlintel_image_close(&image);
     CHECK(mintlintel_image_copy(&image, other) == MINTLINTEL_CLOSED);
     unlink(other);
+    for (off_t length = 0; length <= LENGTH - 4096; length += 4096) {
+        begin(&image, MINTLINTEL_NEVER);
+        CHECK(truncate(path, length) == 0);
+        CHECK(mintlintel_image_copy(&image, other) == MINTLINTEL_FILE_FAILED && errno == EIO && access(other, F_OK) != 0);
+        mintlintel_image_close(&image);
+    }
 }
 
 /* Few sectors on few blocks, so that a block is often collected twice with no other collection between. */
@@ -541,10 +633,15 @@ int main(int argc, char **argv)
 {
     const char *folder = argc > 1 ? argv[1] : "out";
     snprintf(path, sizeof path, "%s/test.image", folder);
+    snprintf(other, sizeof other, "%s/test.image.bad", folder); /* which a test that failed may have left */
+    unlink(other);
     snprintf(other, sizeof other, "%s/copy.image", folder);
     unlink(other);
     sessions();
     refusals();
+    odd_files(folder);
+    names_and_modes(folder);
+    bad_blocks_beside();
     flipped_heads();
     flipped_pages();
     swapped();

@@ -14,7 +14,7 @@ static const char *const codes_of[CALLS] = {
 
 int main(void)
 {
-    int is_right = returns_each_code("random_durable", codes_of, 100);
+    int is_right = returns_each_code("random_durable", codes_of, 110);
     printf("random_durable: %llu power cuts were among them\n", (unsigned long long)power_cuts);
     return !is_right || power_cuts < 10000;
 }

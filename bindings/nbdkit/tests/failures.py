@@ -4,7 +4,7 @@ import re
 
 import faults
 from images import cut_behind, has_ended, history, new_image
-from running import Server, kill, want
+from running import HERE, Server, kill, want
 
 HEAD, SPARE, ENTRY, BLOCKS = 8192, 32, 16, 100
 # 1024 sectors on 100 blocks of 16 pages, 4 of which are bad: the sectors need 66.
@@ -86,6 +86,22 @@ def worn(shop, word, error):
     return f"worn={word}: {writes} writes, {left} blocks good"
 
 
+def brought_back(shop, *stops):
+    """A worn disk has after a start what it had before: no page of a block that was marked bad comes back behind a trim."""
+    for seed, stop in enumerate(stops, 1):
+        image, words = new_failing(shop), ["fail-programs=0.2%", "fail-erases=1%", f"seed={seed}"]
+        for numbers in (["size=1M", "spare=100%", "pages=8"], []):
+            server = Server(shop, *numbers, *words, image=image)
+            shop.run(["/usr/bin/python3", HERE / "tests/worn.py", server.uri, shop.folder / "state", seed])
+            want(server.report()["is_readonly"], "the disk isn't worn out")
+            if numbers and stop == "kill":
+                kill(server.process)
+                shop.started.remove(server.process)
+            else:
+                server.stop()
+    return f"{len(stops)} worn disks are after a start as before it"
+
+
 def by_seed(shop):
     """The same requests and seed make the same blocks bad, and another seed others."""
     found = []
@@ -115,6 +131,7 @@ def failing_image(shop):
     cut_behind(shop, "h.pwrite(page * 1024, 0)\nh.flush()\nfor i in range(3000): h.pwrite(page, 4096 * (389 * i % 1024))",
                "size=4M", "spare=100", "pages=16", "fail-erases=5%", make=new_failing)
     told = [goes_on(shop), *(worn(shop, word, error) for word, error in (("enospc", "ENOSPC"), ("eio", "EIO"), ("readonly", "EPERM")))]
+    told.append(brought_back(shop, "stop", "kill"))
     by_seed(shop)
     unreadable(shop, None)
     unreadable(shop, new_failing(shop))
@@ -124,6 +141,8 @@ def failing_image(shop):
         (["bad=3"], "bad= is of a device in an image"),
         ([f"image={image}", "fail-erases=101%"], "fail-erases=101%: it is a rate from 0 to 1"),
         ([f"image={image}", "fail-programs="], "fail-programs=: it is a rate from 0 to 1"),
+        ([f"image={image}", "fail-programs=1"], "fail-programs=1: is it one of a hundred, or each one? Give fail-programs=1%, or fail-programs=100%"),
+        ([f"image={image}", "fail-erases=1.0"], "Give fail-erases=1%, or fail-erases=100%"),
         ([f"image={image}", "bad=3,"], "bad=3,: it is numbers"),
         ([f"image={image}", "bad=9-3"], "bad=9-3: it is numbers"),
         ([f"image={image}", "size=4M", "bad=400"], "bad=400: the chip has the blocks 0 to"),

@@ -45,7 +45,7 @@ REFUSED = [
     (["age=1001"], "age=1001: it is 0 to 1000"),
     (["seed=x"], "seed"),
     (["nonsense=1"], "unknown parameter 'nonsense'"),
-    (["stats=/dev/null/counts"], "/dev/null/counts.new: Not a directory"),
+    (["stats=/dev/null/counts"], "/dev/null/counts: Not a directory"),
 ]
 
 
@@ -89,7 +89,21 @@ def refused_in_turn(shop, name, texts):
     raise Failure(f"{name}: the server never starts")
 
 
+def counts_beside_a_link(shop):
+    """Counts are written to a file of a name of its own: where somebody has led another name, nothing is written. The file's name may be long."""
+    victim, stats = shop.folder / "victim", shop.folder / "c"
+    victim.write_text("as it was")
+    (shop.folder / "c.new").symlink_to(victim)
+    for path in (stats, shop.folder / ("c" * 240)):
+        status, told = start(shop, ["size=4M", f"stats={path}"])
+        want(status is None and path.read_text().startswith("name,number"), f"no counts were written: {told}")
+    want(victim.read_text() == "as it was", "counts were written through a link")
+    left = [path.name[:20] for path in shop.folder.iterdir() if ".new" in path.name and path.name != "c.new"]
+    want(not left, f"files are left: {left}")
+
+
 def refused_resources(shop):
+    counts_beside_a_link(shop)
     memory = refused_in_turn(shop, "REFUSE_ALLOCATION", ("no memory", "Cannot allocate memory"))
     threads = refused_in_turn(shop, "REFUSE_THREAD", ("no thread for",))
     signalled, told = start(shop, ["size=4M", f"stats={shop.folder}/counts"], {"LD_PRELOAD": str(shop.client("refuse.so")), "SIGNAL_AT_RENAME": "1"})

@@ -1,6 +1,7 @@
 """The disk in an image: what is there after the end of its server, and after power cuts."""
 
 import json
+import os
 import random
 import re
 import signal
@@ -97,6 +98,7 @@ def by_fio(shop):
 def power_cuts(shop):
     """Cuts at a write, and by SIGUSR2. What was flushed is there, with a beginning of what came after it; by sync=always all that was answered."""
     told = []
+    beside = f"{cut_in_a_mount(shop)}, {cut_into_sectors(shop)}"
     cut_by_seed(shop)
     cut_behind(shop, "h.pwrite(page * 1024, 0, nbd.CMD_FLAG_FUA)")
     cut_behind(shop, "h.pwrite(page * 1024, 0)\nh.flush()\nfor i in range(400): h.pwrite(page, 4096 * (389 * i % 1024))")
@@ -105,7 +107,7 @@ def power_cuts(shop):
             told.append(cut_over_and_over(shop, sync, numbers, new_image(shop)))
     lost = sum(lost for _, lost in told)
     want(lost > 0, "no cut has lost what wasn't flushed, so a missing flush isn't seen")
-    return f"{sum(rounds for rounds, _ in told)} cuts, by which {lost} steps were lost that weren't flushed"
+    return f"{sum(rounds for rounds, _ in told)} cuts, by which {lost} steps were lost that weren't flushed; {beside}"
 
 
 def cut_by_seed(shop):
@@ -125,12 +127,77 @@ def cut_behind(shop, requests, *words, make=new_image):
     for seed in (1, 2):
         image = make(shop)
         server = Server(shop, *(words or SMALL), "cut=0", f"seed={seed}", image=image)
-        shop.run(["/usr/bin/python3", "-c", f"import nbd\nh = nbd.NBD()\nh.connect_uri({server.uri!r})\npage = b'\\x11' * 4096\n{requests}"])
+        requested(shop, server, requests)
         server.process.send_signal(signal.SIGUSR2)
         gone(shop, server, STATUS_OF_A_CUT)
         server = Server(shop, image=image)
         shop.run(["qemu-io", "-f", "raw", "-r", "-c", "read -P 0x11 0 4M", server.uri])
         server.stop()
+
+
+def cut_in_a_mount(shop):
+    """The writes of a start count: each of them can be cut, while an image is made and while one is mounted that has lost its power before. What was
+    flushed is there behind it."""
+    told, image = {}, new_image(shop)
+    for kind in (None, 4, 5):  # a new image, and seeds of those that have lost their power
+        kept, cuts, at = kind and cut_with_doubts(shop, new_image(shop), kind), 0, 1
+        while at < 10_000:
+            image = new_image(shop)
+            if kept:
+                image.write_bytes(kept)
+            status, text = faults.start(shop, [f"image={image}", *SMALL, f"cut={at}", f"seed={at}"])
+            if status is None:
+                break
+            want(status == STATUS_OF_A_CUT and f"the power is cut at write {at} to the image" in text, f"cut={at}: status {status}: {text}")
+            server = Server(shop, *SMALL, image=image)
+            shop.run(["qemu-io", "-f", "raw", "-r", "-c", f"read -P {0x11 if kept else 0} 0 2M", server.uri])
+            server.stop()
+            cuts, at = cuts + 1, at + 1 + at // 2
+        want(cuts > 2, f"{cuts} writes of a start were cut")
+        told[kind] = cuts
+    return f"{told[None]} writes of a new image and {told[4] + told[5]} of mounts cut"
+
+
+def cut_with_doubts(shop, image, seed):
+    """The bytes of an image that has lost its power: 2 MiB of it were flushed, and others weren't."""
+    server = Server(shop, *SMALL, "cut=0", f"seed={seed}", image=image)
+    requested(shop, server, "h.pwrite(page * 1024, 0)\nh.flush()\nh.pwrite(b'\\x12' * 2097152, 2097152)")
+    server.process.send_signal(signal.SIGUSR2)
+    gone(shop, server, STATUS_OF_A_CUT)
+    return image.read_bytes()
+
+
+def requested(shop, server, requests):
+    """Makes these requests of `h`, with a page of bytes 0x11. QEMU's clients would flush at their end."""
+    shop.run(["/usr/bin/python3", "-c", f"import nbd\nh = nbd.NBD()\nh.connect_uri({server.uri!r})\npage = b'\\x11' * 4096\n{requests}"])
+
+
+def cut_into_sectors(shop):
+    """A write that wasn't synced is also torn: of its sectors of 512 bytes any are there, not only first ones."""
+    torn = 0
+    for seed in range(1, 5):
+        image = new_image(shop)
+        server = Server(shop, *SMALL, "cut=0", f"seed={seed}", image=image)
+        requested(shop, server, "h.pwrite(page * 1024, 0)")
+        server.process.send_signal(signal.SIGUSR2)
+        gone(shop, server, STATUS_OF_A_CUT)
+        data = image.read_bytes()
+        for at in range(8192, len(data) - 4095, 4096):
+            sectors = [data[begin:begin + 512] for begin in range(at, at + 4096, 512)]
+            has = [sector == b"\x11" * 512 for sector in sectors]
+            torn += any(has) and not any(any(sector) for sector, its in zip(sectors, has) if not its) and has != sorted(has, reverse=True)
+    want(torn > 0, "no write that wasn't synced is torn sector by sector")
+    return f"{torn} pages torn"
+
+
+def started(shop, *words, **more):
+    """A server, or None if its power was cut before it was up."""
+    try:
+        return Server(shop, *words, **more)
+    except Failure as failure:
+        if "the power is cut at write" not in str(failure) or f"ended with status {STATUS_OF_A_CUT}" not in str(failure):
+            raise
+        return None
 
 
 def cut_over_and_over(shop, sync, numbers, image, layers=1):
@@ -140,7 +207,9 @@ def cut_over_and_over(shop, sync, numbers, image, layers=1):
     for turn in range(rounds):
         by_signal = turn % 5 == 4
         at = 0 if by_signal else draw.randrange(1, 20 if turn % 5 == 3 else 2500)
-        server = Server(shop, *numbers, f"sync={sync}", f"cut={at}", f"seed={turn}", image=image)
+        server = started(shop, *numbers, f"sync={sync}", f"cut={at}", f"seed={turn}", image=image)
+        if not server:
+            continue
         client = history(shop, server, turn, 1_000_000, since, layers)
         if by_signal:
             time.sleep(draw.uniform(0.1, 0.6))
@@ -184,8 +253,22 @@ def image_file(shop):
     refused(shop, ["image=/dev/null/image"], "image=/dev/null/image: Not a directory")
     refused(shop, [f"image={image}", "sync=often"], "sync=often: it is always, flush or never")
     refused(shop, [f"image={HERE}/check"], "not an image, or its head is damaged")
+    pipes(shop, image)
     default_blocks(shop)
     return large(shop)
+
+
+def pipes(shop, image):
+    """A pipe of which nobody has the other end is refused at once, in place of an image, of its list of bad blocks and of a part's times."""
+    pipe, bad = shop.folder / "pipe", shop.folder / f"{image.name}.bad"
+    os.mkfifo(pipe)
+    os.mkfifo(bad)
+    refused(shop, [f"image={pipe}"], "not an image, or its head is damaged")
+    refused(shop, [f"image={image}"], f"{bad}: it can't be read, or it isn't a list of blocks")
+    for name in (pipe, "/dev/zero", shop.folder):
+        refused(shop, ["size=4M", f"part={name}"], f"part={name}: not a regular file")
+    pipe.unlink()
+    bad.unlink()
 
 
 def default_blocks(shop):
@@ -228,6 +311,33 @@ def reads_beside_writes(shop):
     reads, erases = (after[name] - before[name] for name in ("host_reads", "erases"))
     want(reads > 10_000 and erases > 100, f"{reads} pages were read beside {erases} erases")
     return f"{reads:,} pages read beside {erases:,} erases"
+
+
+def reads_beside_flushes(shop):
+    """A read, a map of holes and a report don't wait for a sync of the file, which is held here until all of them are answered."""
+    hold, held, image = shop.folder / "hold", shop.folder / "hold.held", new_image(shop)
+    server = Server(shop, "size=8M", image=image, before=("env", f"LD_PRELOAD={shop.client('refuse.so')}", f"HOLD_SYNC={hold}"))
+    shop.run(["qemu-io", "-f", "raw", "-c", "write -P 1 0 4M", "-c", "flush", server.uri])
+    hold.touch()
+    flush = shop.start(["qemu-io", "-f", "raw", "-c", "write -P 2 2M 64k", "-c", "flush", server.uri], shop.folder / "flush")
+    server.wait_until(held.exists, 30, "begin to sync")
+    reads = "".join(f"assert h.pread(65536, {at}) == b'\\x01' * 65536\n" for at in range(0, 2 << 20, 65536)) + "h.pread(100, 4097)\n"
+    code = f"import nbd\nh = nbd.NBD()\nh.connect_uri({server.uri!r})\n{reads}"
+    beside = [shop.start(words, shop.folder / f"beside-{number}") for number, words in enumerate(
+        (["/usr/bin/python3", "-c", code], ["nbdinfo", "--map", server.uri], ["nbdcopy", f"nbd+unix:///stats?socket={server.socket}", "-"]))]
+    began = time.monotonic()
+    while any(process.poll() is None for process in beside) and time.monotonic() < began + shop.patience(10):
+        time.sleep(0.02)
+    waits, is_flushing = [process.args[0] for process in beside if process.poll() is None], flush.poll() is None
+    hold.unlink()
+    want(not waits, f"these wait for another client's sync: {waits}")
+    want(is_flushing and all(process.returncode == 0 for process in beside), f"a request beside a flush has failed: {beside}")
+    want(flush.wait(shop.patience(30)) == 0, (shop.folder / "flush").read_text())
+    for process in (*beside, flush):
+        shop.started.remove(process)
+    shop.run(["qemu-io", "-f", "raw", "-r", "-c", "read -P 2 2M 64k", server.uri])
+    server.stop()
+    return "32 reads, a map and a report beside a sync"
 
 
 def large(shop):

@@ -489,7 +489,8 @@ REFUSING = {part.__name__: part for part in (
     overlaps, handles, resting_brooms, worn_out, by_qemu_io, a_map_of_holes, mixed_sizes, there_and_back, stock_by_itself, requests_by_themselves,
     refusals_at_the_end, trims_at_the_end, cold_data, lives, trims_inwards, told_by_the_protocol, worn_choices, marks_out_of_reach,
     faults.refused_resources, reports.statistics, reports.aged_at_start, images.image_file, images.killed, images.reads_beside_writes,
-    images.power_cuts, layers.in_layers, guests.files_and_a_database, failures.failing_image, times.of_commands, times.under_collection)}
+    images.reads_beside_flushes, images.power_cuts, layers.in_layers, guests.files_and_a_database, failures.failing_image,
+    times.of_commands, times.under_collection)}
 REFUSING |= {f"{kind}_sanitizer": functools.partial(sanitized, kind=kind) for kind in ("address", "thread")}
 REFUSING["image_thread_sanitizer"] = functools.partial(images.image_sanitized, kind="thread")
 
@@ -555,6 +556,7 @@ def chosen(options):
         "use before the first client": reports.aged_at_start,
         "an image": images.image_file,
         "an image, and reads beside writes": images.reads_beside_writes,
+        "an image, and reads beside flushes": images.reads_beside_flushes,
         "an image, and kill -9": images.killed,
         "an image, and power cuts": images.power_cuts,
         "an image in layers": layers.in_layers,

@@ -1,14 +1,16 @@
 // Stands between the plugin and the C library (LD_PRELOAD), and refuses the K-th allocation, or start of a thread, that the
 // plugin asks for by itself: REFUSE_ALLOCATION=K, REFUSE_THREAD=K. What the server asks for isn't counted. SIGNAL_AT_RENAME=1 sends
-// the process SIGUSR1 as soon as a file is in its place.
+// the process SIGUSR1 as soon as a file is in its place. HOLD_SYNC=FILE lets each fdatasync make FILE.held, and wait while FILE is there.
 #define _GNU_SOURCE
 #include <dlfcn.h>
 #include <errno.h>
+#include <fcntl.h>
 #include <pthread.h>
 #include <signal.h>
 #include <stdio.h>
 #include <stdlib.h>
 #include <string.h>
+#include <unistd.h>
 
 extern void *__libc_malloc(size_t size);
 extern void *__libc_calloc(size_t count, size_t size);
@@ -56,6 +58,20 @@ int rename(const char *old, const char *new) {
     if (getenv("SIGNAL_AT_RENAME"))
         raise(SIGUSR1);
     return result;
+}
+
+int fdatasync(int fd) {
+    static int (*real)(int);
+    const char *hold = getenv("HOLD_SYNC");
+    char held[4096];
+    if (!real)
+        real = (int (*)(int)) dlsym(RTLD_NEXT, "fdatasync");
+    while (hold && access(hold, F_OK) == 0) {
+        snprintf(held, sizeof held, "%s.held", hold);
+        close(open(held, O_WRONLY | O_CREAT | O_CLOEXEC, 0666));
+        usleep(5000);
+    }
+    return real(fd);
 }
 
 int pthread_create(pthread_t *thread, const pthread_attr_t *how, void *(*start)(void *), void *argument) {

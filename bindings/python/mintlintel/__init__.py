@@ -1,4 +1,4 @@
-"""A proved flash translation layer: `Device` for one thread, `SharedDevice` for many, and `Image`, a device in a file that survives power cuts.
+"""A flash translation layer with proofs: `Device` for one thread, `SharedDevice` for many, and `Image`, a device in a file that survives power cuts.
 
 >>> import mintlintel
 >>> with mintlintel.Device(blocks=24, pages=64, words=64, sectors=1000, endurance=1000) as device:
@@ -14,18 +14,19 @@ from .codes import Code
 from .device import Block, Counts, Device
 from .durable import Chip, ChipDevice, CommandFailed, DurableDevice, DurableNumbers, Image, PageLost, PowerLost
 from .faults import (
-    BadNumbers, Closed, CutShort, FileFailed, FlashFailed, InUse, MintlintelError, NoBlock, NoRoom, NoSuchBlock, NoSuchSector, NoSuchWord, NotAPage,
-    NotAnImage, OtherDevice, OtherNumbers, OtherVersion, OutOfMemory, OutOfNumbers, PagesLost, PowerGone, Released, Unreadable, WornOut, WrongKind,
+    BadBlocksListed, BadNumbers, Busy, Closed, CutShort, FileFailed, FlashFailed, InUse, MintlintelError, NoBlock, NoRoom, NoSuchBlock, NoSuchSector,
+    NoSuchWord, NotAPage, NotAnImage, OtherDevice, OtherNumbers, OtherProcess, OtherVersion, OutOfMemory, OutOfNumbers, PagesLost, PowerGone, Released,
+    Unreadable, WornOut, WrongKind,
 )
 from .numbers import Numbers, nearest
 from .replaying import Request, replay
 from .shared import BlockCounts, Broom, Collect, Collected, Drain, Drained, Erase, Held, Host, Page, Phase, SharedDevice, State, Tally
 
 __all__ = [
-    "BadNumbers", "Block", "BlockCounts", "Broom", "Buffer", "Chip", "ChipDevice", "Closed", "Code", "Collect", "Collected",
+    "BadBlocksListed", "BadNumbers", "Block", "BlockCounts", "Broom", "Buffer", "Busy", "Chip", "ChipDevice", "Closed", "Code", "Collect", "Collected",
     "CommandFailed", "Counts", "CutShort", "Device", "Drain", "Drained", "DurableDevice", "DurableNumbers", "Erase",
     "FileFailed", "FlashFailed", "Held", "Host", "Image", "InUse", "MintlintelError", "NoBlock", "NoRoom", "NoSuchBlock",
-    "NoSuchSector", "NoSuchWord", "NotAPage", "NotAnImage", "Numbers", "OtherDevice", "OtherNumbers", "OtherVersion",
+    "NoSuchSector", "NoSuchWord", "NotAPage", "NotAnImage", "Numbers", "OtherDevice", "OtherNumbers", "OtherProcess", "OtherVersion",
     "OutOfMemory", "OutOfNumbers", "Page", "PageLost", "PagesLost", "Phase", "PowerGone", "PowerLost", "Released", "Request", "SharedDevice",
     "State", "Tally", "Unreadable", "WornOut", "WritableBuffer", "WrongKind", "__version__", "nearest", "replay",
 ]

@@ -71,19 +71,28 @@ class ImageHead(ctypes.Structure):
 
 
 def _of_chip(*arguments: Any) -> Any:
-    return ctypes.CFUNCTYPE(ctypes.c_int, ctypes.c_void_p, *arguments)
+    """A function that puts its answer where the last argument points. ctypes returns anything for one that raises before its first statement."""
+    return ctypes.CFUNCTYPE(None, ctypes.c_void_p, *arguments, ctypes.POINTER(ctypes.c_int))
 
 
 _BLOCK, _AT = [ctypes.c_uint32], [ctypes.c_uint32, ctypes.c_uint32]
-NAND_TYPES = {
+ANSWERING_TYPES = {
     "read": _of_chip(*_AT, ctypes.c_void_p, ctypes.c_void_p), "program": _of_chip(*_AT, ctypes.c_void_p, ctypes.c_void_p),
     "copyback": _of_chip(*_AT, *_AT, ctypes.c_void_p), "erase": _of_chip(*_BLOCK),
     "is_bad": _of_chip(*_BLOCK), "mark_bad": _of_chip(*_BLOCK), "sync": _of_chip(),
 }
 
 
+class Answering(ctypes.Structure):
+    """Flash whose functions put their answers in place of 3, power gone."""
+
+    _fields_ = [("chip", ctypes.c_void_p), *ANSWERING_TYPES.items()]
+
+
 class Nand(ctypes.Structure):
-    _fields_ = [("chip", ctypes.c_void_p), *NAND_TYPES.items()]
+    """Flash for an open, which C fills."""
+
+    _fields_ = [(name, ctypes.c_void_p) for name in ("chip", *ANSWERING_TYPES)]
 
 
 _HANDLE, _U32, _SIZE, _BYTES = ctypes.POINTER(Handle), ctypes.c_uint32, ctypes.c_size_t, ctypes.c_void_p
@@ -121,6 +130,7 @@ _CALLS = {
     "broom_block": [_HANDLE, _U32, ctypes.POINTER(State)],
     "broom_counts": [_HANDLE, ctypes.POINTER(BlockCounts)],
     "broom_tally": [_HANDLE, ctypes.POINTER(Tally)],
+    "answering_nand": [ctypes.POINTER(Nand), ctypes.POINTER(Answering)],
     "durable_open": [_DURABLE, ctypes.POINTER(Nand), *[_U32] * 5],
     "durable_open_despite_losses": [_DURABLE, ctypes.POINTER(Nand), *[_U32] * 5, ctypes.POINTER(ctypes.c_uint64)],
     "durable_close": [_DURABLE],
@@ -145,10 +155,12 @@ _CALLS = {
     "write_within": [_HANDLE, _U32, _BYTES, _SIZE, _U32],
 }
 
+_WITHOUT_CODE = ("one_close", "seat_close", "durable_close", "answering_nand", "explain", "nearest")
+
 for _name, _arguments in _CALLS.items():
     _call = getattr(LIBRARY, f"mintlintel_{_name}")
     _call.argtypes = _arguments
-    _call.restype = None if _name.endswith(("_close", "explain", "nearest")) else _U32
+    _call.restype = None if _name in _WITHOUT_CODE else _U32
 
 LIBRARY.mintlintel_version.restype = ctypes.c_char_p
 VERSION: str = LIBRARY.mintlintel_version().decode()

@@ -40,6 +40,9 @@ class Code(enum.IntEnum):
     OTHER_NUMBERS = 44
     CUT_SHORT = 45
     FILE_FAILED = 46
+    OTHER_PROCESS = 47
+    BAD_MODE = 48
+    BAD_BLOCKS_LISTED = 49
     BAD_LUNS = 101
     BAD_BLOCKS = 102
     BAD_PAGES = 103

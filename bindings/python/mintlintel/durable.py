@@ -3,15 +3,17 @@
 from __future__ import annotations
 
 import ctypes
+import operator
 import os
-from typing import Any, Dict, NamedTuple, NoReturn, Optional, Tuple, Union
+import reprlib
+from typing import Any, Callable, ClassVar, Dict, NamedTuple, NoReturn, Optional, Tuple, Type, Union
 
 from . import _library
 from ._library import LIBRARY
 from .buffers import Buffer, WritableBuffer, bytes_of, new_bytes
 from .codes import Code
 from .device import Block, Counts
-from .faults import BadNumbers, FileFailed, MintlintelError, OtherNumbers, OtherVersion, checked, refuse
+from .faults import BadNumbers, Busy, FileFailed, MintlintelError, OtherNumbers, OtherVersion, PowerGone, checked, refuse
 from .numbers import number
 from .owning import Owner
 
@@ -52,7 +54,17 @@ def _refuse_file(code: int, error: int, path: str) -> None:
     if code == Code.NO_FILE:
         raise OSError(error, os.strerror(error), path)
     if code == Code.FILE_FAILED:
-        raise FileFailed(error, os.strerror(error), path)
+        raised = FileFailed(error, os.strerror(error), path)
+        raised.code = code
+        raise raised
+
+
+def _name_of_file(path: Union[str, os.PathLike[str]]) -> bytes:
+    """A path for C, which would take only what is before a NUL byte."""
+    name = os.fsencode(path)
+    if b"\0" in name:
+        raise ValueError(f"embedded null byte in the path {os.fspath(path)!r}")
+    return name
 
 
 class DurableDevice(Owner):
@@ -62,6 +74,11 @@ class DurableDevice(Owner):
     def __init__(self, handle: ctypes.Structure, device: _library.Durable) -> None:
         super().__init__(handle)
         self._device = device
+
+    def _called(self, call: Callable[..., int], *arguments: object) -> int:
+        """Makes a call of C on the device."""
+        with self._lock:
+            return call(self._device, *arguments)
 
     def _learn(self) -> None:
         self._numbers = self.numbers()
@@ -79,63 +96,53 @@ class DurableDevice(Owner):
     def read(self, sector: int) -> Optional[bytes]:
         """The page of a sector, or None for an empty one. `Unreadable` if its page can't be read: no older one is given for it."""
         page, start = new_bytes(self.page_bytes)
-        place = number(sector)
-        with self._lock:
-            code = LIBRARY.mintlintel_durable_read(self._device, place, start, self.page_bytes)
+        code = self._called(LIBRARY.mintlintel_durable_read, number(sector), start, self.page_bytes)
         return page if self._checked(code, sector) else None
 
     def read_into(self, sector: int, buffer: WritableBuffer) -> bool:
         """Reads a sector into a writable buffer of one page. An empty sector leaves the buffer unchanged; then it returns False."""
-        place = number(sector)
-        with bytes_of(buffer, writable=True) as (start, length), self._lock:
-            code = LIBRARY.mintlintel_durable_read(self._device, place, start, length)
+        with bytes_of(buffer, writable=True) as (start, length):
+            code = self._called(LIBRARY.mintlintel_durable_read, number(sector), start, length)
         return self._checked(code, sector, length)
 
     def write(self, sector: int, page: Buffer) -> bool:
         """Writes a page, any buffer of its bytes. Returns whether the sector was written."""
-        place = number(sector)
-        with bytes_of(page) as (start, length), self._lock:
-            code = LIBRARY.mintlintel_durable_write(self._device, place, start, length)
+        with bytes_of(page) as (start, length):
+            code = self._called(LIBRARY.mintlintel_durable_write, number(sector), start, length)
         return self._checked(code, sector, length)
 
     def write_new(self, sector: int, page: Buffer) -> bool:
         """Writes a page to a sector if it is empty. Returns whether the sector was written before and so is unchanged."""
-        place = number(sector)
-        with bytes_of(page) as (start, length), self._lock:
-            code = LIBRARY.mintlintel_durable_write_new(self._device, place, start, length)
+        with bytes_of(page) as (start, length):
+            code = self._called(LIBRARY.mintlintel_durable_write_new, number(sector), start, length)
         return self._checked(code, sector, length)
 
     def trim(self, first: int, count: int = 1) -> bool:
         """Empties sectors. Returns whether any of them was written."""
-        place, many = number(first), number(count)
-        with self._lock:
-            code = LIBRARY.mintlintel_durable_trim(self._device, place, many)
-        return self._checked(code, first + count - 1)
+        place, many = operator.index(first), operator.index(count)
+        code = self._called(LIBRARY.mintlintel_durable_trim, number(place), number(many))
+        return self._checked(code, place + many - 1)
 
     def flush(self) -> None:
         """Returns once what was acknowledged is durable."""
-        with self._lock:
-            self._checked(LIBRARY.mintlintel_durable_flush(self._device))
+        self._checked(self._called(LIBRARY.mintlintel_durable_flush))
 
     def counts(self) -> Counts:
         """What was programmed, copied and erased since the open."""
         totals = _library.Totals()
-        with self._lock:
-            self._checked(LIBRARY.mintlintel_durable_counts(self._device, totals))
+        self._checked(self._called(LIBRARY.mintlintel_durable_counts, totals))
         return Counts(totals.programs, totals.copies, totals.erases)
 
     def losses(self) -> int:
         """How many pages had become unreadable at the last mount, as far as the flash shows it: 0 unless it was opened with `despite_losses`."""
         losses = ctypes.c_uint64()
-        with self._lock:
-            self._checked(LIBRARY.mintlintel_durable_losses(self._device, losses))
+        self._checked(self._called(LIBRARY.mintlintel_durable_losses, losses))
         return losses.value
 
     def block(self, block: int) -> Block:
         """A block's erases as far as its stamps told them, its live pages, and whether it is bad."""
-        report, place = _library.Block(), number(block)
-        with self._lock:
-            code = LIBRARY.mintlintel_durable_block(self._device, place, report)
+        report = _library.Block()
+        code = self._called(LIBRARY.mintlintel_durable_block, number(block), report)
         if code == Code.NO_SUCH_BLOCK:
             refuse(code, f"{block} given, and it is 0 to {self.blocks - 1}")
         self._checked(code)
@@ -144,8 +151,7 @@ class DurableDevice(Owner):
     def numbers(self) -> DurableNumbers:
         """The numbers that the device was opened with."""
         report = _library.DurableNumbers()
-        with self._lock:
-            checked(LIBRARY.mintlintel_durable_numbers(self._device, report))
+        checked(self._called(LIBRARY.mintlintel_durable_numbers, report))
         return DurableNumbers.of(report)
 
 
@@ -168,7 +174,7 @@ class Image(DurableDevice):
     >>> folder.cleanup()
     """
 
-    _close_handle = LIBRARY.mintlintel_image_close
+    _close_handle: ClassVar[Callable[[Any], int]] = LIBRARY.mintlintel_image_close
 
     def __init__(self, path: Union[str, os.PathLike[str]], *, blocks: int = 0, pages: int = 0, page_bytes: int = 0, sectors: int = 0,
                  luns: int = 0, mode: str = "flush", despite_losses: bool = False) -> None:
@@ -176,20 +182,21 @@ class Image(DurableDevice):
         super().__init__(handle, handle.device)
         if mode not in MODES:
             raise ValueError(f"a mode is one of {', '.join(MODES)}, and not {mode}")
-        self._path = os.fspath(path)
+        self._path, name = os.fspath(path), _name_of_file(path)
         given = DurableNumbers(luns or int(blocks > 0), blocks, pages, page_bytes, sectors)
         if despite_losses:
-            code = LIBRARY.mintlintel_image_open_despite_losses(handle, os.fsencode(path), MODES[mode], *map(number, given), ctypes.c_uint64())
+            code = LIBRARY.mintlintel_image_open_despite_losses(handle, name, MODES[mode], *map(number, given), ctypes.c_uint64())
         else:
-            code = LIBRARY.mintlintel_image_open(handle, os.fsencode(path), MODES[mode], *map(number, given))
+            code = LIBRARY.mintlintel_image_open(handle, name, MODES[mode], *map(number, given))
         if code:
             self._refuse(code, given)
         self._learn()
 
+    _path = ""
+
     def _refuse(self, code: int, given: DurableNumbers) -> NoReturn:
-        head = _library.ImageHead()
-        error = ctypes.get_errno()
-        if code in (Code.OTHER_NUMBERS, Code.OTHER_VERSION) and LIBRARY.mintlintel_image_look(os.fsencode(self._path), head) == 0:
+        error, head = ctypes.get_errno(), _library.ImageHead()
+        if code in (Code.OTHER_NUMBERS, Code.OTHER_VERSION) and LIBRARY.mintlintel_image_look(_name_of_file(self._path), head) == 0:
             there, asked = (DurableNumbers.of(head.numbers), given) if code == Code.OTHER_NUMBERS else (f"version {head.version}", "version 1 to 3")
             raised: MintlintelError = (OtherNumbers if code == Code.OTHER_NUMBERS else OtherVersion)(f"{self._path} has {there}, and it was opened for {asked}")
             raised.code = code
@@ -197,14 +204,24 @@ class Image(DurableDevice):
         _refuse_file(code, error, self._path)
         _refuse_open(code, given)
 
-    def _checked(self, code: int, sector: int = 0, length: Optional[int] = None) -> bool:
-        _refuse_file(code, LIBRARY.mintlintel_image_errno(self._handle), self._path)
-        return super()._checked(code, sector, length)
+    def _called(self, call: Callable[..., int], *arguments: object) -> int:
+        with self._lock:
+            code = call(self._device, *arguments)
+            if code == Code.FILE_FAILED:
+                _refuse_file(code, LIBRARY.mintlintel_image_errno(self._handle), self._path)
+            return code
+
+    def _give_up(self) -> None:
+        """Closes the image. `FileFailed` if its last sync failed; then too it is closed."""
+        code = type(self)._close_handle(self._handle)
+        if code:
+            _refuse_file(code, ctypes.get_errno(), self._path)
 
     def copy(self, path: Union[str, os.PathLike[str]]) -> None:
         """Copies the image as it stands into a new file, an image of its own: a snapshot."""
+        name = _name_of_file(path)
         with self._lock:
-            code = LIBRARY.mintlintel_image_copy(self._handle, os.fsencode(path))
+            code = LIBRARY.mintlintel_image_copy(self._handle, name)
             error = ctypes.get_errno()
         _refuse_file(code, error, os.fspath(path))
         self._checked(code)
@@ -224,17 +241,20 @@ class CommandFailed(Exception):
 
 class Chip:
     """Flash that the caller brings: a class to be subclassed. A stamp has STAMP_BYTES bytes, and is programmed with its page. The methods raise PageLost,
-    CommandFailed or PowerLost; any other exception counts as PowerLost, and is raised by the call."""
+    CommandFailed or PowerLost; any other exception counts as PowerLost, and is raised by the call. So does an answer that isn't one of the method's, which
+    is raised as a TypeError or a ValueError. A method makes no call on its device: that raises `Busy`."""
 
     def read(self, block: int, page: int, main: bool) -> Optional[Tuple[bytes, bytes]]:
-        """The bytes of a page and its stamp; None for an erased one. If not `main`, the stamp alone is asked for, and the bytes may be empty."""
+        """The bytes of a page and its stamp; None for an erased one. If not `main`, the stamp alone is asked for, and the bytes may be empty. It may raise
+        PageLost."""
         raise NotImplementedError
 
     def program(self, block: int, page: int, main: bytes, stamp: bytes) -> None:
-        """Programs an erased page; the pages of a block come in order."""
+        """Programs an erased page; the pages of a block come in order. It may raise CommandFailed."""
         raise NotImplementedError
 
     def erase(self, block: int) -> None:
+        """Erases a block. It may raise CommandFailed."""
         raise NotImplementedError
 
     def is_bad(self, block: int) -> bool:
@@ -244,68 +264,125 @@ class Chip:
         """The block must not be used any more."""
 
     def sync(self) -> None:
-        """Returns once each command that has succeeded is durable."""
+        """Returns once each command that has succeeded is durable. It may raise CommandFailed."""
+
+
+def _fill(start: int, length: int, found: object, name: str) -> None:
+    """Copies what a chip has read to where C wants it."""
+    try:
+        view = memoryview(found)  # type: ignore[arg-type]
+    except TypeError:
+        raise TypeError(f"Chip.read returned {reprlib.repr(found)} for {name}, and {length} bytes are wanted") from None
+    if view.nbytes != length:
+        raise ValueError(f"Chip.read returned {view.nbytes} bytes for {name}, and {length} are wanted")
+    ctypes.memmove(start, view.tobytes(), length)
 
 
 class ChipDevice(DurableDevice):
-    """A device that survives power cuts, on a `Chip`. It raises `PagesLost` as an `Image` does, unless `despite_losses`."""
+    """A device that survives power cuts, on a `Chip`. It raises `PagesLost` as an `Image` does, unless `despite_losses`. What its chip raises a call raises,
+    and then the power counts as gone: close the device, and open it again. A call from within a call raises `Busy`."""
 
     _close_handle = LIBRARY.mintlintel_durable_close
+    # Whether C runs, and may call the chip's methods; and what one of them has raised in this call.
+    _is_calling = False
+    _raised: Optional[BaseException] = None
 
     def __init__(self, chip: Chip, *, blocks: int, pages: int, page_bytes: int, sectors: int, luns: int = 1,
                  despite_losses: bool = False) -> None:
         handle = _library.Durable()
         super().__init__(handle, handle)
-        self._chip, self._chip_bytes, self._raised = chip, page_bytes, None
-        self._nand = _library.Nand(None, **self._functions())
         given = DurableNumbers(luns, blocks, pages, page_bytes, sectors)
-        if despite_losses:
-            code = LIBRARY.mintlintel_durable_open_despite_losses(handle, self._nand, *map(number, given), ctypes.c_uint64())
-        else:
-            code = LIBRARY.mintlintel_durable_open(handle, self._nand, *map(number, given))
-        self._raise_again()
+        self._chip, self._chip_bytes = chip, number(page_bytes)
+        # C calls these functions up to the close.
+        self._answering, nand = _library.Answering(None, **self._functions()), _library.Nand()
+        LIBRARY.mintlintel_answering_nand(nand, self._answering)
+        try:
+            if despite_losses:
+                code = self._called(LIBRARY.mintlintel_durable_open_despite_losses, nand, *map(number, given), ctypes.c_uint64())
+            else:
+                code = self._called(LIBRARY.mintlintel_durable_open, nand, *map(number, given))
+        except BaseException:
+            self.close()
+            raise
         if code:
             _refuse_open(code, given)
         self._learn()
 
-    _raised: Optional[BaseException]
+    def close(self) -> None:
+        """Gives the handle up. A second close does nothing."""
+        if self._handle is not None:
+            with self._lock:
+                self._refuse_within()
+                super().close()
 
-    def _raise_again(self) -> None:
-        raised, self._raised = self._raised, None
+    def _refuse_within(self) -> None:
+        if self._is_calling:
+            raise Busy("this call came from within another one on the device: from a method of its chip, or from a signal's handler")
+
+    def _called(self, call: Callable[..., int], *arguments: object) -> int:
+        with self._lock:
+            self._refuse_within()
+            self._raised = None
+            try:
+                self._is_calling = True
+                code = call(self._device, *arguments)
+            finally:
+                self._is_calling = False
+            raised, self._raised = self._raised, None
+        if isinstance(raised, (CommandFailed, PageLost, PowerLost)):
+            gone = PowerGone("the power is gone")
+            gone.code = Code.POWER_GONE
+            raise gone from raised
         if raised is not None:
             raise raised
+        return code
 
-    def _checked(self, code: int, sector: int = 0, length: Optional[int] = None) -> bool:
-        self._raise_again()
-        return super()._checked(code, sector, length)
+    def _answered(self, call: Callable[..., int], fault: Union[Type[Exception], Tuple[()]] = (), code: int = 3) -> Callable[..., None]:
+        """A function of C that calls a method of the chip. Its answer stays 3, power gone, until the method has ended well or raised its own fault: an
+        exception of a signal's handler may leave it at any point, also before its first statement. After a fault the chip gets no other command."""
+        def answer(_chip: object, *arguments: Any) -> None:
+            try:
+                if self._raised is None:
+                    arguments[-1][0] = call(*arguments[:-1])
+            except fault:
+                arguments[-1][0] = code
+            except BaseException as raised:  # noqa: BLE001, since it can't pass through C; the call raises it
+                self._raised = raised
+        return answer
 
     def _functions(self) -> Dict[str, Any]:
         """The functions of C that call the chip's methods."""
-        chip = self._chip
-
-        def answered(call: Any) -> Any:
-            def answer(_chip: Any, *arguments: Any) -> int:
-                try:
-                    return int(call(*arguments) or 0)
-                except (CommandFailed, PageLost, PowerLost) as fault:
-                    return {CommandFailed: 1, PageLost: 2, PowerLost: 3}[type(fault)]
-                except BaseException as fault:  # noqa: BLE001, since it can't pass through C; the call raises it
-                    self._raised = fault
-                    return 3
-            return answer
+        chip, length = self._chip, self._chip_bytes
 
         def read(block: int, page: int, main: Optional[int], stamp: int) -> int:
             found = chip.read(block, page, main is not None)
             if found is None:
                 return 1
+            if not isinstance(found, (tuple, list)) or len(found) != 2:
+                raise TypeError(f"Chip.read returned {reprlib.repr(found)}, and None or the bytes of a page and of its stamp are wanted")
             if main is not None:
-                ctypes.memmove(main, found[0], self._chip_bytes)
-            ctypes.memmove(stamp, found[1], STAMP_BYTES)
+                _fill(main, length, found[0], "the page")
+            _fill(stamp, STAMP_BYTES, found[1], "the stamp")
             return 0
 
-        def program(block: int, page: int, main: int, stamp: int) -> None:
-            chip.program(block, page, ctypes.string_at(main, self._chip_bytes), ctypes.string_at(stamp, STAMP_BYTES))
+        def is_bad(block: int) -> int:
+            found = chip.is_bad(block)
+            if found not in (False, True):
+                raise TypeError(f"Chip.is_bad returned {reprlib.repr(found)}, and True or False is wanted")
+            return int(found)
 
-        calls = {"read": read, "program": program, "erase": chip.erase, "is_bad": chip.is_bad, "mark_bad": chip.mark_bad,
-                 "sync": chip.sync}
-        return {name: _library.NAND_TYPES[name](answered(call)) for name, call in calls.items()}
+        def done(name: str, *arguments: Any) -> int:
+            found = getattr(chip, name)(*arguments)
+            if found is not None:
+                raise TypeError(f"Chip.{name} returned {reprlib.repr(found)}, and None is wanted: what fails raises CommandFailed")
+            return 0
+
+        def program(block: int, page: int, main: int, stamp: int) -> int:
+            return done("program", block, page, ctypes.string_at(main, length), ctypes.string_at(stamp, STAMP_BYTES))
+
+        calls = {
+            "read": self._answered(read, PageLost, 2), "program": self._answered(program, CommandFailed, 1),
+            "erase": self._answered(lambda block: done("erase", block), CommandFailed, 1), "is_bad": self._answered(is_bad),
+            "mark_bad": self._answered(lambda block: done("mark_bad", block)), "sync": self._answered(lambda: done("sync"), CommandFailed, 1),
+        }
+        return {name: _library.ANSWERING_TYPES[name](call) for name, call in calls.items()}

@@ -59,6 +59,10 @@ class NoRoom(MintlintelError):
     gave it."""
 
 
+class Busy(MintlintelError):
+    """A call on a `ChipDevice` from within one: from a method of its chip, or from a signal's handler that runs in one. Make it after that call."""
+
+
 class PowerGone(MintlintelError):
     """The chip's power is gone. Close the device, and open it again."""
 
@@ -108,6 +112,14 @@ class FileFailed(MintlintelError, OSError):
     sync failed."""
 
 
+class OtherProcess(MintlintelError):
+    """Another process has opened the image: this one is its child. A close gives up the child's copy of the handle, and leaves the file as it is."""
+
+
+class BadBlocksListed(MintlintelError):
+    """A block device has listed bad blocks beside the image, and only a block device opens it."""
+
+
 class BadNumbers(MintlintelError, ValueError):
     """The numbers of a new device are refused: `given`; a device of the numbers `nearest` would open."""
 
@@ -135,6 +147,8 @@ _FAULTS: Dict[int, Tuple[Type[MintlintelError], str]] = {
     Code.IN_USE: (InUse, "the image is in use"),
     Code.NOT_AN_IMAGE: (NotAnImage, "not an image, or its head is damaged"),
     Code.CUT_SHORT: (CutShort, "the image is cut short"),
+    Code.OTHER_PROCESS: (OtherProcess, "another process has opened the image"),
+    Code.BAD_BLOCKS_LISTED: (BadBlocksListed, "bad blocks are listed beside the image, which only a block device opens"),
 }
 
 

@@ -2,8 +2,11 @@
 
 import doctest
 import errno
+import os
 import pathlib
 import random
+import subprocess
+import sys
 import tempfile
 import types
 import unittest
@@ -16,6 +19,45 @@ NUMBERS = {"blocks": 12, "pages": 8, "page_bytes": 64, "sectors": 60}
 
 def page(number):
     return number.to_bytes(8, "little") * 8
+
+
+CLOSED_BEYOND_A_LIMIT = """
+import resource, sys, mintlintel
+path, mode, calls = sys.argv[1:]
+def tell(fault):
+    print(type(fault).__name__, fault.errno, fault.code, fault.filename)
+sys.unraisablehook = lambda told: tell(told.exc_value)
+image = mintlintel.Image(path, mode=mode, blocks=12, pages=8, page_bytes=64, sectors=60)
+image.write(3, (3).to_bytes(8, "little") * 8)
+image.flush()
+resource.setrlimit(resource.RLIMIT_FSIZE, (0, resource.RLIM_INFINITY))
+try:
+    if calls == "with":
+        with image:
+            pass
+    elif calls == "close":
+        image.close()
+    else:
+        del image
+except mintlintel.FileFailed as fault:
+    tell(fault)
+    try:
+        image.read(3)
+    except mintlintel.Closed:
+        image.close()
+print("closed")
+"""
+
+WRITTEN_BEYOND_A_LIMIT = """
+import resource, sys, mintlintel
+image = mintlintel.Image(sys.argv[1], mode="always", blocks=12, pages=8, page_bytes=64, sectors=60)
+resource.setrlimit(resource.RLIMIT_FSIZE, (0, resource.RLIM_INFINITY))
+for call in (lambda: image.write(3, bytes(64)), lambda: image.read(3)):
+    try:
+        call()
+    except mintlintel.FileFailed as fault:
+        print(fault.errno, fault.code)
+"""
 
 
 class Images(unittest.TestCase):
@@ -96,6 +138,27 @@ class Images(unittest.TestCase):
             data[place] ^= 6
         self.path.write_bytes(data[:-1])
         self.assertRaises(mintlintel.CutShort, mintlintel.Image, self.path)
+
+    def test_a_path_with_a_null_byte_is_refused(self):
+        with self.assertRaisesRegex(ValueError, "embedded null byte in the path '.*secret"):
+            mintlintel.Image(f"{self.folder.name}/secret\0.img", **NUMBERS)
+        with mintlintel.Image(self.path, **NUMBERS) as image:
+            for name in (f"{self.folder.name}/copy\0.img", os.fsencode(self.folder.name) + b"/copy\0"):
+                with self.assertRaisesRegex(ValueError, "embedded null byte"):
+                    image.copy(name)
+        self.assertEqual(os.listdir(self.folder.name), [self.path.name])
+
+    def test_a_close_tells_that_its_sync_failed(self):
+        """A file may not grow or be written beyond a limit of its process. The last write of a session is then refused."""
+        for mode, calls in (("flush", "with"), ("always", "close"), ("flush", "del")):
+            told = subprocess.run([sys.executable, "-c", CLOSED_BEYOND_A_LIMIT, self.path, mode, calls], capture_output=True, text=True, check=True)
+            self.assertEqual(told.stdout, f"FileFailed {errno.EFBIG} 46 {self.path}\nclosed\n")
+            with mintlintel.Image(self.path) as image:
+                self.assertEqual(image.read(3), page(3))
+
+    def test_a_failure_of_the_file_has_its_code(self):
+        told = subprocess.run([sys.executable, "-c", WRITTEN_BEYOND_A_LIMIT, self.path], capture_output=True, text=True, check=True)
+        self.assertEqual(told.stdout, f"{errno.EFBIG} 46\n" * 2)
 
     def test_a_folder_is_no_image(self):
         with self.assertRaises(OSError) as raised:

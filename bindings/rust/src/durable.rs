@@ -1,6 +1,7 @@
 //! Devices that survive power cuts: over flash that the caller brings, and in an image file.
 use crate::raw::{self, Totals};
 use crate::{Block, Counts, Was};
+use std::any::Any;
 use std::cell::UnsafeCell;
 use std::error::Error;
 use std::ffi::{c_void, CString};
@@ -8,6 +9,7 @@ use std::fmt::{self, Display, Formatter};
 use std::io;
 use std::os::raw::c_int;
 use std::os::unix::ffi::OsStrExt;
+use std::panic::{catch_unwind, resume_unwind, AssertUnwindSafe};
 use std::path::Path;
 use std::slice;
 
@@ -34,9 +36,10 @@ pub enum ChipFault {
 
 /// Flash that the caller brings. It tells a page whose program or erase was cut from one that has a version.
 ///
-/// A panic in one of these functions ends the process, since it would pass through C.
+/// A panic in one of these functions doesn't pass through C: there the power counts as gone, and the call on the device panics once C has returned. Drop
+/// the device then, and open it again.
 pub trait Nand {
-    /// Reads a page and its stamp, or with no `main` the stamp alone.
+    /// Reads a page and its stamp, or with no `main` the stamp alone. Both are zeros before.
     fn read(&mut self, block: u32, page: u32, main: Option<&mut [u8]>, stamp: &mut [u8; STAMP_BYTES]) -> Result<Reading, ChipFault>;
     /// Programs an erased page; the pages of a block come in order.
     fn program(&mut self, block: u32, page: u32, main: &[u8], stamp: &[u8; STAMP_BYTES]) -> Result<(), ChipFault>;
@@ -97,6 +100,10 @@ pub enum DurableFault {
     OtherVersion,
     OtherNumbers,
     CutShort,
+    /// Another process has opened the image: this one is its child.
+    OtherProcess,
+    /// A block device has listed bad blocks beside the image, and only a block device opens it.
+    BadBlocksListed,
     /// The file can't be opened or made, or it failed. After a call on an open image drop it, and open it again; nothing that was acknowledged is lost,
     /// unless a sync failed.
     File(io::Error),
@@ -125,6 +132,8 @@ impl DurableFault {
             43 => DurableFault::OtherVersion,
             44 => DurableFault::OtherNumbers,
             45 => DurableFault::CutShort,
+            47 => DurableFault::OtherProcess,
+            49 => DurableFault::BadBlocksListed,
             101 => DurableFault::Numbers("luns"),
             102 => DurableFault::Numbers("blocks"),
             103 => DurableFault::Numbers("pages"),
@@ -158,6 +167,8 @@ impl Display for DurableFault {
             DurableFault::OtherVersion => "an image of another version",
             DurableFault::OtherNumbers => "an image with other numbers",
             DurableFault::CutShort => "the image is cut short",
+            DurableFault::OtherProcess => "another process has opened the image",
+            DurableFault::BadBlocksListed => "bad blocks are listed beside the image, which only a block device opens",
             DurableFault::File(error) => return error.fmt(f),
             DurableFault::Unknown(code) => return write!(f, "unknown code {code}"),
         })
@@ -237,6 +248,7 @@ macro_rules! calls {
         }
 
         fn was(&self, code: u32) -> Result<Was, DurableFault> {
+            self.go_on();
             match code {
                 0 => Ok(Was::Empty),
                 1 => Ok(Was::Written),
@@ -249,6 +261,8 @@ macro_rules! calls {
 struct Chip<N> {
     nand: N,
     page_bytes: usize,
+    // The panic of a function of the chip, while C returns.
+    panic: Option<Box<dyn Any + Send>>,
 }
 
 /// A device that survives power cuts, over the caller's flash. It is closed when it is dropped.
@@ -273,7 +287,7 @@ impl<N: Nand> Durable<N> {
     }
 
     fn open_with(nand: N, shape: Shape, despite_losses: bool) -> Result<Durable<N>, DurableFault> {
-        let chip = Box::into_raw(Box::new(Chip { nand, page_bytes: shape.page_bytes as usize }));
+        let chip = Box::into_raw(Box::new(Chip { nand, page_bytes: shape.page_bytes as usize, panic: None }));
         let device = Durable { handle: UnsafeCell::new(raw::Durable::CLOSED), chip };
         let functions = raw::Nand {
             chip: chip.cast(),
@@ -308,6 +322,13 @@ impl<N: Nand> Durable<N> {
         io::Error::from_raw_os_error(0)
     }
 
+    /// Goes on with a panic of the chip.
+    fn go_on(&self) {
+        if let Some(panic) = unsafe { (*self.chip).panic.take() } {
+            resume_unwind(panic);
+        }
+    }
+
     /// The flash.
     pub fn into_nand(self) -> N {
         unsafe { raw::mintlintel_durable_close(self.at()) };
@@ -326,44 +347,65 @@ impl<N: Nand> Drop for Durable<N> {
     }
 }
 
-fn answer(done: Result<(), ChipFault>) -> c_int {
+const POWER_GONE: c_int = 3;
+
+/// Calls the chip for C, through which no panic may pass. After a panic the chip gets no other command.
+unsafe fn answer<N: Nand>(chip: *mut c_void, call: impl FnOnce(&mut Chip<N>) -> c_int) -> c_int {
+    let chip = &mut *chip.cast::<Chip<N>>();
+    if chip.panic.is_some() {
+        return POWER_GONE;
+    }
+    catch_unwind(AssertUnwindSafe(|| call(chip))).unwrap_or_else(|panic| {
+        chip.panic = Some(panic);
+        POWER_GONE
+    })
+}
+
+fn code(done: Result<(), ChipFault>) -> c_int {
     match done {
         Ok(()) => 0,
         Err(ChipFault::Failed) => 1,
-        Err(ChipFault::PowerGone) => 3,
+        Err(ChipFault::PowerGone) => POWER_GONE,
     }
+}
+
+/// Memory of C as bytes. They may have been nothing before, or of another part of the program.
+unsafe fn zeros<'a>(at: *mut c_void, bytes: usize) -> &'a mut [u8] {
+    at.cast::<u8>().write_bytes(0, bytes);
+    slice::from_raw_parts_mut(at.cast(), bytes)
 }
 
 unsafe extern "C" fn read<N: Nand>(chip: *mut c_void, block: u32, page: u32, main: *mut c_void, stamp: *mut c_void) -> c_int {
-    let chip = &mut *chip.cast::<Chip<N>>();
-    let main = (!main.is_null()).then(|| slice::from_raw_parts_mut(main.cast::<u8>(), chip.page_bytes));
-    match chip.nand.read(block, page, main, &mut *stamp.cast()) {
-        Ok(Reading::Version) => 0,
-        Ok(Reading::Erased) => 1,
-        Ok(Reading::Unreadable) => 2,
-        Err(_) => 3,
-    }
+    answer::<N>(chip, |chip| {
+        zeros(stamp, STAMP_BYTES);
+        let main = (!main.is_null()).then(|| zeros(main, chip.page_bytes));
+        match chip.nand.read(block, page, main, &mut *stamp.cast()) {
+            Ok(Reading::Version) => 0,
+            Ok(Reading::Erased) => 1,
+            Ok(Reading::Unreadable) => 2,
+            Err(_) => POWER_GONE,
+        }
+    })
 }
 
 unsafe extern "C" fn program<N: Nand>(chip: *mut c_void, block: u32, page: u32, main: *const c_void, stamp: *const c_void) -> c_int {
-    let chip = &mut *chip.cast::<Chip<N>>();
-    answer(chip.nand.program(block, page, slice::from_raw_parts(main.cast(), chip.page_bytes), &*stamp.cast()))
+    answer::<N>(chip, |chip| code(chip.nand.program(block, page, slice::from_raw_parts(main.cast(), chip.page_bytes), &*stamp.cast())))
 }
 
 unsafe extern "C" fn erase<N: Nand>(chip: *mut c_void, block: u32) -> c_int {
-    answer((*chip.cast::<Chip<N>>()).nand.erase(block))
+    answer::<N>(chip, |chip| code(chip.nand.erase(block)))
 }
 
 unsafe extern "C" fn is_bad<N: Nand>(chip: *mut c_void, block: u32) -> c_int {
-    (*chip.cast::<Chip<N>>()).nand.is_bad(block).into()
+    answer::<N>(chip, |chip| chip.nand.is_bad(block).into())
 }
 
 unsafe extern "C" fn mark_bad<N: Nand>(chip: *mut c_void, block: u32) -> c_int {
-    answer((*chip.cast::<Chip<N>>()).nand.mark_bad(block))
+    answer::<N>(chip, |chip| code(chip.nand.mark_bad(block)))
 }
 
 unsafe extern "C" fn sync<N: Nand>(chip: *mut c_void) -> c_int {
-    answer((*chip.cast::<Chip<N>>()).nand.sync())
+    answer::<N>(chip, |chip| code(chip.nand.sync()))
 }
 
 /// What survives a power cut of the machine. All of them survive the end of the process, kill -9 too.
@@ -449,6 +491,8 @@ impl Image {
     fn file_error(&self) -> io::Error {
         io::Error::from_raw_os_error(unsafe { raw::mintlintel_image_errno(self.handle.get()) })
     }
+
+    fn go_on(&self) {}
 
     /// Copies the image as it stands into a new file, an image of its own.
     pub fn copy(&mut self, path: impl AsRef<Path>) -> Result<(), DurableFault> {

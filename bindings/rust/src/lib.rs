@@ -1,4 +1,4 @@
-//! A proved flash translation layer: [`Device`] for one thread, [`SharedDevice`] for many, and [`Image`], a device in a file that survives power cuts,
+//! A flash translation layer with proofs: [`Device`] for one thread, [`SharedDevice`] for many, and [`Image`], a device in a file that survives power cuts,
 //! or [`Durable`] over the caller's flash.
 //!
 //! ```

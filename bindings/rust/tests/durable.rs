@@ -1,5 +1,6 @@
-//! A device over a chip whose power goes, and an image, against plain arrays.
+//! A device over a chip whose power goes, or that panics, and an image, against plain arrays.
 use mintlintel::{ChipFault, Durable, DurableFault, Image, Mode, Nand, Reading, Shape, Was, STAMP_BYTES};
+use std::panic::{catch_unwind, AssertUnwindSafe};
 
 const SHAPE: Shape = Shape { luns: 1, blocks: 12, pages: 8, page_bytes: 16, sectors: 60 };
 
@@ -26,6 +27,8 @@ impl Chip {
 
 impl Nand for Chip {
     fn read(&mut self, block: u32, page: u32, main: Option<&mut [u8]>, stamp: &mut [u8; STAMP_BYTES]) -> Result<Reading, ChipFault> {
+        // It is shown no memory of another part of the program.
+        assert!(stamp.iter().chain(main.iter().flat_map(|bytes| bytes.iter())).all(|byte| *byte == 0));
         match &self.pages[(8 * block + page) as usize] {
             Page::Erased => Ok(Reading::Erased),
             Page::Torn => Ok(Reading::Unreadable),
@@ -130,6 +133,119 @@ fn a_lost_page_is_told() -> Result<(), DurableFault> {
     let mut page = [0; 16];
     let found: Vec<Was> = (0..4).map(|sector| device.read(sector, &mut page)).collect::<Result<_, _>>()?;
     assert_eq!(found, [Was::Written, Was::Empty, Was::Written, Was::Written]);
+    Ok(())
+}
+
+/// A chip that panics in the last of so many calls of its functions. Its block 2 fails.
+struct Panics {
+    chip: Chip,
+    left: u32,
+    marked: Vec<u32>,
+}
+
+impl Panics {
+    fn count(&mut self, function: &'static str) {
+        self.left = self.left.wrapping_sub(1);
+        if self.left == 0 {
+            std::panic::panic_any(function);
+        }
+    }
+}
+
+impl Nand for Panics {
+    fn read(&mut self, block: u32, page: u32, main: Option<&mut [u8]>, stamp: &mut [u8; STAMP_BYTES]) -> Result<Reading, ChipFault> {
+        self.count("read");
+        self.chip.read(block, page, main, stamp)
+    }
+
+    fn program(&mut self, block: u32, page: u32, main: &[u8], stamp: &[u8; STAMP_BYTES]) -> Result<(), ChipFault> {
+        self.count("program");
+        if block == 2 {
+            return Err(ChipFault::Failed);
+        }
+        self.chip.program(block, page, main, stamp)
+    }
+
+    fn erase(&mut self, block: u32) -> Result<(), ChipFault> {
+        self.count("erase");
+        self.chip.erase(block)
+    }
+
+    fn is_bad(&mut self, block: u32) -> bool {
+        self.count("is_bad");
+        self.marked.contains(&block)
+    }
+
+    fn mark_bad(&mut self, block: u32) -> Result<(), ChipFault> {
+        self.count("mark_bad");
+        self.marked.push(block);
+        Ok(())
+    }
+
+    fn sync(&mut self) -> Result<(), ChipFault> {
+        self.count("sync");
+        Ok(())
+    }
+}
+
+/// Writes sectors until the chip panics in the given call, or to the end. What the writes were of, and the function that panicked.
+fn written_until_panic(device: &mut Durable<Panics>, values: &mut [u8; 60]) -> Option<(u32, u8, String)> {
+    for number in 0..200u32 {
+        let (sector, value) = (number * 7 % 60, number as u8 + 1);
+        let written = catch_unwind(AssertUnwindSafe(|| {
+            device.write(sector, &[value; 16])?;
+            device.flush()
+        }));
+        match written {
+            Ok(done) => done.expect("the chip has done what it was told"),
+            Err(panic) => return Some((sector, value, panic.downcast_ref::<&str>().expect("its name").to_string())),
+        }
+        values[sector as usize] = value;
+    }
+    None
+}
+
+#[test]
+fn a_panic_of_the_chip_goes_on_and_loses_nothing() -> Result<(), DurableFault> {
+    let mut seen = std::collections::BTreeSet::new();
+    for left in 1.. {
+        let chip = Panics { chip: Chip { pages: vec![Page::Erased; 96], left: u32::MAX, good: 12 }, left, marked: Vec::new() };
+        let opened = catch_unwind(AssertUnwindSafe(|| Durable::open(chip, SHAPE)));
+        let mut device = match opened {
+            Ok(device) => device?,
+            Err(panic) => {
+                seen.insert(panic.downcast_ref::<&str>().expect("its name").to_string());
+                continue;
+            }
+        };
+        let mut values = [0; 60];
+        let (sector, value, function) = match written_until_panic(&mut device, &mut values) {
+            None => break,
+            Some(panicked) => panicked,
+        };
+        seen.insert(function);
+        assert!(matches!(device.write(sector, &[9; 16]), Err(DurableFault::PowerGone)));
+        assert!(matches!(device.read(sector, &mut [9; 16]), Err(DurableFault::PowerGone)));
+        let mut device = Durable::open(device.into_nand(), SHAPE)?;
+        for at in 0..60 {
+            let (mut page, held) = ([0; 16], values[at as usize]);
+            device.read(at, &mut page)?;
+            assert!(page == [held; 16] || (at == sector && page == [value; 16]));
+        }
+    }
+    assert_eq!(seen.into_iter().collect::<Vec<_>>(), ["erase", "is_bad", "mark_bad", "program", "read", "sync"]);
+    Ok(())
+}
+
+#[test]
+fn a_path_with_a_null_byte_is_refused() -> Result<(), Box<dyn std::error::Error>> {
+    let path = std::env::temp_dir().join(format!("mintlintel-null-{}", std::process::id()));
+    let with_null = path.join("a\0b");
+    let is_refused = |fault| matches!(fault, DurableFault::File(error) if error.kind() == std::io::ErrorKind::InvalidInput);
+    assert!(Image::open(&with_null, Mode::Never, SHAPE).map_or_else(is_refused, |_| false));
+    let mut image = Image::open(&path, Mode::Never, SHAPE)?;
+    assert!(image.copy(&with_null).map_or_else(is_refused, |_| false));
+    std::fs::remove_file(&path)?;
     Ok(())
 }
 

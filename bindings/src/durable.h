@@ -1,0 +1,59 @@
+/* The parts of a device that survives power cuts: durable.c and torn.c. Plain C, and not proved. */
+#ifndef DURABLE_H
+#define DURABLE_H
+
+#include "mintlintel_durable.h"
+#include "stamp.h"
+
+/* A block that has failed is marked once nothing in it is needed; so a marked one is not read. One that fails an erase is marked at once: it kept nothing,
+ * and what is left in it must not be mapped, since an erase may lose pages before others. */
+enum { GOOD, FAILED, MARKED };
+
+/* A page as its stamp tells it: what a read of the stamp alone returned, and if that is 0 the version. */
+struct noted { uint64_t number; uint32_t sector, count, erases : 24, reading : 2; };
+
+/* What a mount reads first: each page as its stamp tells it, and of each sector twice the newest number, and one more if two pages have it. */
+struct stamps { struct noted *pages; uint64_t *newest; };
+
+/* What a handle keeps beside its core. The core numbers the blocks that are in use, then those in reserve, then the bad ones: `chip_block` gives the
+ * chip's number of each. `state` and `erases` go by the chip's numbers. */
+struct mintlintel_flash {
+    struct mintlintel_nand nand;
+    struct mintlintel_durable_numbers numbers;
+    uint32_t *chip_block, *erases;
+    uint8_t *state;
+    uint8_t *has_value; /* a bit for each sector: its newest page has a value. Where it is 0 the page's stamp says so */
+    uint32_t used;
+    uint32_t stranded; /* the first sector that may be in a block that isn't in use */
+    int has_failed; /* a block has failed and isn't marked */
+    uint64_t newest; /* the greatest number of a version */
+    struct mintlintel_totals earlier; /* what was done before the last mount */
+    uint64_t losses; /* what the last mount has told */
+    int despite_losses; /* the caller goes on with losses */
+    struct stamps stamps; /* while it mounts */
+    struct mtl_reason *reason; /* if there is one, the flash is an image, which tells torn pages by itself */
+    uint32_t stopped; /* the code that every call returns since the power went, or a sync or a mount failed, or 0 */
+    uint32_t worn; /* the code of writes and trims since bad blocks have left no room, or 0 */
+    uint8_t *page, *moved;
+    const uint8_t *known; /* pages whose checks are known, or null */
+    const uint32_t *checks;
+    size_t known_pages;
+};
+
+/* What an open finds out, and a mount after a failure knows: there is a version other than the first; a page that was read whole fits its check. */
+struct opening { int has_trace, has_fit; };
+
+/* A page's reading: 0 and its stamp's fields, or 1 erased, 2 unreadable, 3 power gone. A page whose check doesn't fit is unreadable. */
+int mtl_read_page(struct mintlintel_flash *flash, uint32_t block, uint32_t page, void *main, struct stamp *stamp);
+
+/* Whether a mount reads a block. */
+int mtl_is_read(const struct mintlintel_flash *flash, uint32_t block);
+
+/* Reads what the stamps tell, of a flash that doesn't tell torn pages by itself: 0, 6, 28 or 30. And frees it. */
+uint32_t mtl_stamps_read(struct mintlintel_flash *flash, struct opening *opening);
+void mtl_stamps_free(struct mintlintel_flash *flash);
+
+/* A page as a mount has to note it: what `mtl_read_page` returns. The kind of a version isn't kept, but that only a trim is of several sectors. */
+int mtl_stamps_reading(struct mintlintel_flash *flash, uint32_t block, uint32_t page, struct stamp *stamp);
+
+#endif
