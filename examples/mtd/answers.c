@@ -164,6 +164,8 @@ static void bad_blocks(const char *path, enum flash_place place)
             wrong("block %u is %s, and the driver says that it isn't", block, bad[block] ? "bad" : "good");
     if (!flash.nand.mark_bad)
         return;
+    if (flash.nand.is_bad(flash.nand.chip, flash.blocks) != 3)
+        wrong("block %u isn't there, and the driver answers for it", flash.blocks);
     uint32_t block = good_block(3);
     if (flash.nand.mark_bad(flash.nand.chip, block) != 0)
         wrong("block %u can't be marked", block);

@@ -147,7 +147,8 @@ static int is_bad(void *at, uint32_t block)
 {
     struct chip *chip = at;
     __kernel_loff_t place = (__kernel_loff_t)place_of(chip, block, 0);
-    return ioctl(chip->fd, MEMGETBADBLOCK, &place) != 0;
+    int answer = ioctl(chip->fd, MEMGETBADBLOCK, &place);
+    return answer < 0 ? GONE : answer > 0;
 }
 
 static int mark_bad(void *at, uint32_t block)

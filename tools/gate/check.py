@@ -1,7 +1,7 @@
 """check: proves, tests and tries everything that has to hold before a merge: the sources and pages (BEFORE), all proofs and tests, the wrong bodies of
 each crate without an entry in .ci/refused, its twins and wrong definitions, the program and the library (AFTER), and what is built from them (ROWS). If
-CI=true it installs what the checks need, and ends with the package on a system without the toolchain. Otherwise what is missing is named, and nothing
-is begun. The last line is `rt ci`'s count of what passed and failed."""
+CI=true it installs what the checks need, and ends with the package on a system without the toolchain. Otherwise root installs what is missing, after it
+was named; for other users nothing is begun then. The last line is `rt ci`'s count of what passed and failed."""
 
 import os
 import re
@@ -24,7 +24,7 @@ AFTER = (".ci/twins --missing", ".ci/wrong-definitions --missing", "./flashplay 
 ROWS = (
     (".ci/uncompiled", "bench/run --try", "bench/power_cuts/check", "tools/check", "examples/launcher --quick"),
     ("examples/check", "examples/sessions", "examples/hostile", "examples/short_of_memory", "examples/launcher", "bindings/check",
-     "bench/designs/measure --try", "bindings/nbdkit/check", "examples/mtd/check", "bindings/tests/machines"),
+     "bench/designs/measure --try", "examples/firmware/check --quick", "bindings/nbdkit/check", "examples/mtd/check", "bindings/tests/machines"),
 )  # fmt: skip
 # How a script lists the packages of Debian that it needs.
 PACKAGES = re.compile(r"^ *(?:\.\./)?\.ci/needs (.*)|^PACKAGES = \(([^)]*)", re.M)
@@ -32,7 +32,8 @@ PACKAGES = re.compile(r"^ *(?:\.\./)?\.ci/needs (.*)|^PACKAGES = \(([^)]*)", re.
 
 def packages(is_ci):
     """The packages that the checks need. Each script lists its own; cargo may also come from elsewhere."""
-    files = ["bindings/check", "bindings/nbdkit/check", "examples/mtd/check", "bindings/tests/machines", *["packaging/installed", "packaging/package"] * is_ci]
+    files = ["bindings/check", "bindings/nbdkit/check", "examples/mtd/check", "examples/firmware/check", "bindings/tests/machines",
+             *["packaging/installed", "packaging/package"] * is_ci]
     lists = ["".join(its) for file in files for its in PACKAGES.findall((tree.TOP / file).read_text())]
     words = {*" ".join(lists).replace('"', " ").split(), *of_tools.ALL}
     return sorted(words - ({"cargo", "rustc"} if shutil.which("cargo") and not is_ci else set()))

@@ -5,7 +5,7 @@ import pathlib
 from dataclasses import dataclass
 from html import escape
 
-from . import device, html, latency, life, pictures
+from . import device, html, latency, life, pictures, summary
 from .html import Section
 from .run import Run
 
@@ -16,6 +16,7 @@ UNITS = ((1e12, "TB"), (1e9, "GB"), (1e6, "MB"))
 COLUMNS = (
     "over_provisioning", "over_provisioning_of_blocks", "blocks", "lines", "pages_written", "pages_copied", "erases", "refused_writes", "write_amplification",
     "write_p50_us", "write_p99_us", "write_p999_us", "load", "endurance_used_mean", "endurance_used_worst", "bytes_left", "bytes_at_end",
+    "read_p50_us", "read_p99_us", "read_p999_us",
 )  # fmt: skip
 
 
@@ -35,10 +36,10 @@ class Compared:
     def row(self) -> list:
         """The cells of the CSV file; what isn't known is empty."""
         told, responses, lived = self.run.summary, self.run.responses, life.as_object(self.run.life)
-        waits = [responses.get(f"response_writes_{name}_us") for name in ("median", "p99", "p999")]
+        waits, of_reads = ([responses.get(f"response_{group}_{name}_us") for name in ("median", "p99", "p999")] for group in ("writes", "reads"))
         counts = [told.lines, told.programs, told.copies, told.erases, told.writes_refused, told.write_amplification]
         lives = [lived[f"life_{name}"] for name in ("used_mean", "used_worst", "bytes_left", "bytes_at_end")]
-        cells = [self.wanted, self.over_provisioning, self.numbers["blocks"], *counts, *waits, responses.get("load"), *lives]
+        cells = [self.wanted, self.over_provisioning, self.numbers["blocks"], *counts, *waits, responses.get("load"), *lives, *of_reads]
         return ["" if cell is None else f"{cell:.9g}" if isinstance(cell, float) else cell for cell in cells]
 
     def texts(self) -> list:
@@ -76,8 +77,10 @@ def text_of(compared: list) -> str:
     return "\n".join("  ".join(cell.ljust(width) for cell, width in zip(row, widths)).rstrip() for row in rows)
 
 
-def overloads(compared: list) -> list:
-    told = ((each, latency.overload(each.run.responses)) for each in compared if each.run.responses)
+def warnings(compared: list) -> list:
+    """What is said of devices that can't carry their load, and of those that were never full."""
+    told = [(each, latency.overload(each.run.responses)) for each in compared if each.run.responses]
+    told += [(each, summary.NEVER_FULL) for each in compared if summary.was_never_full(each.run.summary)]
     return [f"{each.over_provisioning:.3g} %: {text}" for each, text in told if text]
 
 
@@ -91,7 +94,7 @@ def write_page(title: str, compared: list, before: int, manifest: str, path):
     links = "".join(f'<li><a href="{escape(each.page)}">{each.over_provisioning:.3g} %, {each.numbers["blocks"]:,} blocks</a></li>' for each in compared)
     parts = [
         f'<p{" class=alarm" if "REFUSED" in head else ""}>{escape(head)}</p>',
-        *(f"<p class=alarm>{escape(text)}</p>" for text in overloads(compared)),
+        *(f"<p class=alarm>{escape(text)}</p>" for text in warnings(compared)),
         html.table("compared", "Side by side", NAMES, [each.texts() for each in compared]),
         html.sections(sections(compared)),
         f'<h2 id="devices">Each device</h2><ul>{links}</ul>',
@@ -103,20 +106,21 @@ def write_page(title: str, compared: list, before: int, manifest: str, path):
 def sections(compared: list):
     """Pictures over the over-provisioning, of what is known."""
     yield _section(compared, "amplification", "Write amplification", pictures.AMPLIFICATION, lambda each: each.run.summary.write_amplification)
-    waits = {"p99": "p99", "p99.9": "p999"}
-    series = [
-        (name, _points(compared, lambda each, key=key: _ms(each.run.responses.get(f"response_writes_{key}_us")))) for name, key in waits.items()
-    ]
-    if series[0][1]:
-        yield _drawn("latency", "Latency of writes", "latency of writes (ms)", series)
+    for key, group in (("latency", "writes"), ("latency-of-reads", "reads")):
+        series = [
+            (name, _points(compared, lambda each, key=f"response_{group}_{share}_us": _ms(each.run.responses.get(key))))
+            for name, share in (("p99", "p99"), ("p99.9", "p999"))
+        ]
+        if series[0][1]:
+            yield _drawn(key, f"Latency of {group}", f"latency of {group} (ms)", series, " ms")
     unit, name = _unit(compared)
     up = f"written at the end ({name}, extrapolated)"
-    yield _section(compared, "life", "Bytes written until the end of life (TBW)", up, lambda each: _at_end(each, unit))
+    yield _section(compared, "life", "Bytes written until the end of life (TBW)", up, lambda each: _at_end(each, unit), f" {name}")
 
 
-def _section(compared, key, head, up, value):
+def _section(compared, key, head, up, value, unit=""):
     points = _points(compared, value)
-    return _drawn(key, head, up, [("", points)]) if points else Section(key, head, "Not known of these runs.", None)
+    return _drawn(key, head, up, [("", points)], unit) if points else Section(key, head, "Not known of these runs.", None)
 
 
 def _points(compared, value) -> list:
@@ -139,8 +143,8 @@ def _unit(compared: list):
     return next((row for row in UNITS if most >= row[0]), UNITS[-1])
 
 
-def _drawn(key, head, up, series) -> Section:
-    told = "; ".join(f"{name + ': ' if name else ''}{', '.join(f'{y:.4g} at {x:.3g} %' for x, y in points)}" for name, points in series)
+def _drawn(key, head, up, series, unit="") -> Section:
+    told = "; ".join(f"{name + ': ' if name else ''}{', '.join(f'{y:.4g}{unit} at {x:.3g} %' for x, y in points)}" for name, points in series)
 
     def draw(sink):
         pictures.lines_of_a_sweep(series, AXIS, up, sink, size=SIZE)

@@ -3,7 +3,9 @@
 import contextlib
 import gzip
 import io
+import os
 import shutil
+import stat
 import subprocess
 import sys
 import threading
@@ -31,8 +33,18 @@ def standard_input():
 def opened(path):
     """The bytes of a file, or of standard input for `-`, as they were before they were compressed."""
     with contextlib.ExitStack() as stack:
-        source = standard_input() if path == "-" else stack.enter_context(open(path, "rb"))
+        source = standard_input() if path == "-" else stack.enter_context(with_an_end(path))
         yield stack.enter_context(_plain(source, name_of(path)))
+
+
+def with_an_end(path):
+    """A file that was opened to read, unless it is a device that may never end; /dev/null is empty."""
+    source = open(path, "rb")
+    about = os.fstat(source.fileno())
+    if stat.S_ISCHR(about.st_mode) and about.st_rdev != os.stat(os.devnull).st_rdev and not source.isatty():
+        source.close()
+        raise Fault(f"{name_of(path)}: a device, which may have no end")
+    return source
 
 
 def read(path, reader):

@@ -1,7 +1,10 @@
 """What a report says of response times: one flat object, and lines of text."""
 
+import math
+
 from . import answers as kinds
 from .faults import BROKEN, Fault
+from .numbers import SPEED
 from .response import Response
 
 MICROSECOND, SECOND = 1_000, 1_000_000_000
@@ -31,12 +34,20 @@ def summarise(responses: Response, page_bytes) -> dict:
     division = _division(responses, page_bytes)
     overloaded = division["load"] is not None and division["load"] >= 1
     response, out = responses.response(), {"response_timed": responses.timed, "response_by": "request" if responses.by_request else "page"}
+    out["response_clients"] = responses.clients
     for group in GROUPS:
         numbers = figures(numpy, response[responses.of(group)])
         if overloaded:
             numbers |= dict.fromkeys(FIGURES)
         out |= {f"response_{group}_{_unit(name)}": number for name, number in numbers.items()}
-    return {**out, **_waits(responses, overloaded), **division, "overloaded": overloaded}
+    fits = _fitting_speed(responses.speed / division["load"]) if overloaded else None
+    return {**out, **_waits(responses, overloaded), **division, "overloaded": overloaded, "fitting_speed": fits}
+
+
+def _fitting_speed(speed: float) -> float:
+    """The greatest speed of two digits at which the device has a twentieth of its time left."""
+    digits = 1 - math.floor(math.log10(0.95 * speed))
+    return math.floor(0.95 * speed * 10**digits) / 10**digits
 
 
 def _unit(name: str) -> str:
@@ -107,12 +118,15 @@ def overload(numbers: dict) -> str | None:
     """What is said of a device that can't carry its load; None if it can."""
     if not numbers["overloaded"]:
         return None
-    return f"the device cannot carry this load: {numbers['load']:.3f} of it; the queue grows as long as the run lasts, and no latency can be given"
+    cure = f"--speed {numbers['fitting_speed']:g} slows the arrivals to what it carries" if numbers["fitting_speed"] in SPEED else "a faster part is needed"
+    return f"the device cannot carry this load: {numbers['load']:.3f} of it; the queue grows as long as the run lasts, and no latency can be given; {cure}"
 
 
 def as_rows(numbers: dict, name: str) -> list:
     """Names and texts for a report."""
     timed = "waiting and service, one queue, first come first served" if numbers["response_timed"] else "service alone: no arrivals are given"
+    if clients := numbers["response_clients"]:
+        timed = f"waiting and service, one queue, {clients:,} client{'s' * (clients > 1)}, each with one request at a time"
     by = "by request" if numbers["response_by"] == "request" else "by page, since no requests are given"
     rows = [("part", name), ("times", f"{timed}; {by}")]
     if told := overload(numbers):

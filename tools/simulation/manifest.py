@@ -6,9 +6,9 @@ import pathlib
 import tomllib
 from dataclasses import dataclass, field, replace
 
-from . import convert, device, image, part
+from . import convert, device, image, inputs, model, part
 from .faults import ARGUMENTS, BROKEN, Fault
-from .numbers import PAGE_BYTES, SPEED, Number
+from .numbers import CLIENTS, PAGE_BYTES, SPEED, Number
 from .titles import printable
 
 NAME = "run.toml"
@@ -49,6 +49,8 @@ class Manifest:
     action: str = "D"
     precondition: str = NONE
     speed: float = 1.0
+    clients: int = 0
+    victims: str = model.POLICIES[0]
     part: dict = field(default_factory=dict)
     image: str | None = None
     sums: list = field(default_factory=list)
@@ -73,7 +75,7 @@ class Manifest:
 
 def sum_of(path) -> str:
     """The SHA-256 sum of a file."""
-    with open(path, "rb") as source:
+    with inputs.with_an_end(path) as source:
         return hashlib.file_digest(source, "sha256").hexdigest()
 
 
@@ -103,6 +105,10 @@ def _check(manifest: Manifest):
             raise ValueError(f"{name} isn't a {'table' if kind is dict else 'list' if kind is list else 'text'}")
     PAGE_BYTES.check(manifest.page_bytes, "page_bytes")
     SPEED.check(manifest.speed, "speed")
+    if manifest.clients:
+        CLIENTS.check(manifest.clients, "clients")
+        if not manifest.part or manifest.speed != 1:
+            raise ValueError("clients need the times of a part, and no speed")
     for percent in manifest.over_provisioning:
         OVER_PROVISIONING.check(percent, "over_provisioning")
     if manifest.image:
@@ -111,7 +117,7 @@ def _check(manifest: Manifest):
         raise ValueError(f"over_provisioning has 1 to {MOST_DEVICES} percentages, each once")
     for name in OF_DEVICE:
         device.RANGES[name].check(manifest.device.get(name), name)
-    words = {"format": convert.FORMATS, "numbering": NUMBERINGS, "action": convert.ACTIONS}
+    words = {"format": convert.FORMATS, "numbering": NUMBERINGS, "action": convert.ACTIONS, "victims": model.POLICIES}
     for name, known in words.items():
         if getattr(manifest, name) not in known:
             raise ValueError(f"{name} {getattr(manifest, name)!r} is none of {', '.join(known)}")
@@ -123,6 +129,7 @@ def _check(manifest: Manifest):
 def _check_image(manifest: Manifest):
     """An image has its numbers, and was aged before; and its runs have no log of collections, of which latencies are made."""
     others = {"over_provisioning": manifest.over_provisioning, "precondition": manifest.precondition != NONE, "part": manifest.part}
+    others["victims"] = manifest.victims != model.POLICIES[0]
     for name, is_there in others.items():
         if is_there:
             raise ValueError(f"{name} isn't for a device that starts from an image")
@@ -183,6 +190,8 @@ def text_of(manifest: Manifest, folder) -> str:
         "precondition": relative[len(logs)] if is_file(manifest.precondition) else manifest.precondition,
         "image": relative[-1] if manifest.image else None,
         "speed": manifest.speed,
+        "clients": manifest.clients or None,
+        "victims": manifest.victims if manifest.victims != model.POLICIES[0] else None,
         "over_provisioning": manifest.over_provisioning,
     }
     lines = ["# flashplay-simulate run.toml --out FOLDER plays this again. Each number of the devices stands here once."]

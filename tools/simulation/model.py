@@ -1,5 +1,6 @@
 """A model of the layer for one thread, written from its description and not from the program: blocks are taken from the lowest,
-the last block is the spare, and if no block is left the closed block with the fewest live pages is copied into the spare."""
+the last block is the spare, and if no block is left the closed block with the fewest live pages is copied into the spare. By another policy than
+that of the layer, `greedy`, another block is the victim."""
 
 import csv
 import io
@@ -12,6 +13,7 @@ from .numbers import TRACE_BYTES, Number
 
 # What docs/FORMATS.md says of traces and devices.
 WORKERS = 500
+POLICIES = ("greedy", "oldest", "cost-benefit")
 OPS = ("read", "write", "new", "trim", "meet")
 # What the program reads as a number of a device, before it says that no device has it.
 ARGUMENT = Number(0, 4_294_967_295)
@@ -26,6 +28,8 @@ class Block:
     live: int = 0
     erases: int = 0
     retired: bool = False
+    closed: int = 0
+    changed: int = 0
 
 
 @dataclass
@@ -39,7 +43,7 @@ class Collection:
 
 
 class Model:
-    def __init__(self, luns, blocks, pages, words, sectors, endurance):
+    def __init__(self, luns, blocks, pages, words, sectors, endurance, victims="greedy"):
         self.pages, self.words, self.sectors, self.endurance = pages, words, sectors, endurance
         self.blocks_of_a_lun = blocks // luns
         self.blocks = [Block() for _ in range(blocks)]
@@ -49,7 +53,8 @@ class Model:
         self.closed = set()
         self.places = [None] * sectors
         self.data = {}
-        self.programs = self.copies = 0
+        self.programs = self.copies = self.clock = 0
+        self.worth = {"greedy": self._fewest_live, "oldest": self._oldest, "cost-benefit": self._cost_benefit}[victims]
         self.collections = []
 
     def answer(self, line, op, sector, data):
@@ -70,13 +75,16 @@ class Model:
         self.programs += 1
         self.data[sector] = data
         if len(self.blocks[self.open].written) == self.pages:
+            self.blocks[self.open].closed = self.clock
             self.closed.add(self.open)
             self.open = None
         return was
 
     def _forget(self, sector):
         if self.places[sector] is not None:
-            self.blocks[self.places[sector][0]].live -= 1
+            block = self.blocks[self.places[sector][0]]
+            block.live -= 1
+            block.changed = self.clock
         self.places[sector] = None
 
     def _program(self, block, sector):
@@ -84,6 +92,22 @@ class Model:
         self.places[sector] = block, len(self.blocks[block].written)
         self.blocks[block].written.append(sector)
         self.blocks[block].live += 1
+        self.clock += 1
+        self.blocks[block].changed = self.clock
+
+    def _fewest_live(self, number):
+        return self.blocks[number].live, number
+
+    def _oldest(self, number):
+        """The block that was filled first, of those with a dead page."""
+        return self.blocks[number].live == self.pages, self.blocks[number].closed
+
+    def _cost_benefit(self, number):
+        """The greatest gain, times the age since its last change, for what it costs to read and copy (Kawaguchi, Nishioka and Motoda, 1995)."""
+        block = self.blocks[number]
+        used = block.live / self.pages
+        gain = (self.clock - block.changed) * (1 - used) / (2 * used) if used else float("inf")
+        return used == 1, -gain, number
 
     def _finds_a_page(self, line):
         if self.open is None and self.unused:
@@ -93,7 +117,7 @@ class Model:
         return self.open is not None
 
     def _collect(self, line):
-        victim = min(self.closed, key=lambda number: (self.blocks[number].live, number))
+        victim = min(self.closed, key=self.worth)
         block, into = self.blocks[victim], self.spare
         alive = [sector for page, sector in enumerate(block.written) if self.places[sector] == (victim, page)]
         for sector in alive:

@@ -5,7 +5,7 @@ import argparse
 from . import collected, device, names, over_time, part, pictures, response_shapes
 from .faults import ARGUMENTS, Fault
 from .latency import overload
-from .numbers import LINE, PAGE_BYTES, PIECES, SPEED
+from .numbers import CLIENTS, LINE, PAGE_BYTES, PIECES, SPEED
 from .run import Run
 
 # Each picture, the file that it needs, and what it shows.
@@ -37,6 +37,7 @@ def new_parser(about: str):
     part.add_options(timed)
     timed.add_argument("--arrivals", metavar="FILE", help=names.of_tools("the arrival of each line, as tools/trace writes it"))
     timed.add_argument("--requests", metavar="FILE", help=names.of_tools("the request of each line, as tools/trace writes it"))
+    timed.add_argument("--clients", type=CLIENTS, metavar="N", help="without arrivals: N clients, each with its next request when its last one is done")
     timed.add_argument("--speed", type=SPEED, default=1.0, metavar="X", help="make the arrivals X times as fast (1)")
     parser.add_argument("--page", metavar="HTML", help="write one HTML page with everything that is known of the run")
     made_by = "a command line for the page, such as the trace's; may be repeated"
@@ -70,9 +71,11 @@ def parse(about: str, words: list):
         parser.error("--wear-before needs --wear, and is of a whole run")
     if part.is_named(options) and not options.collections:
         parser.error("response times need --collections")
-    for name in ("arrivals", "requests"):
+    for name in ("arrivals", "requests", "clients"):
         if getattr(options, name) and not part.is_named(options):
             parser.error(f"--{name} needs the times of a part")
+    if options.clients and (options.arrivals or options.speed != 1):
+        parser.error("--clients make their requests without --arrivals and --speed")
     if device.is_named(options):
         device.check(device.numbers_of(options), shared=True)
     return options

@@ -4,7 +4,7 @@ The layer has no clock. A line's service follows from what it did, which the ans
 of a part. All commands go over one channel, one after the other, first come first served: a line begins when it has arrived and the
 line in front of it is done. A request of several lines is done with its last line. Times are whole nanoseconds, so that sums are exact."""
 
-from dataclasses import dataclass
+from dataclasses import dataclass, replace
 
 from . import answers as kinds
 from . import arrivals, part
@@ -48,6 +48,8 @@ class Response:
     copied: int
     copybacks: int
     collections: int
+    speed: float = 1.0
+    clients: int | None = None
 
     @property
     def by_request(self) -> bool:
@@ -74,9 +76,9 @@ class Response:
         return kind != kinds.MEET
 
 
-def respond(answers, log, of_part, times=None, speed=1.0, first_line=1, requests=None) -> Response:
+def respond(answers, log, of_part, times=None, speed=1.0, first_line=1, requests=None, clients=None) -> Response:
     """The response of each request from `first_line` on; the lines before it are played too, but not reported. The answers and the log
-    are those of the whole run."""
+    are those of the whole run. Instead of arrivals there may be clients: each makes its next request when its last one is done."""
     import numpy
 
     if answers.quiet:
@@ -85,8 +87,11 @@ def respond(answers, log, of_part, times=None, speed=1.0, first_line=1, requests
     lines = _lines(numpy, kind, log, of_part, times, speed).from_line(first_line)
     later = log.from_line(first_line)
     first, last, of_bytes = _units(numpy, len(lines), first_line, requests)
+    if clients:
+        collection = _collection_times(numpy, len(kind), log, of_part)[first_line - 1 :]
+        lines = _closed_loop(numpy, lines, collection, first, last, clients)
     totals = sum(later.copied), sum(later.copybacks), len(later)
-    return Response(of_part, times is not None, lines, first, last, of_bytes, *totals)
+    return Response(of_part, times is not None, lines, first, last, of_bytes, *totals, speed, clients)
 
 
 def _units(numpy, count, first_line, requests):
@@ -110,6 +115,18 @@ def _lines(numpy, kind, log, of_part, times, speed) -> Lines:
         begin, done = _queue(numpy, arrival, service)
     before, after = _collected_within(numpy, arrival, begin, collection)
     return Lines(kind, arrival, service, before, after, collection > 0, begin, done)
+
+
+def _closed_loop(numpy, lines, collection, first, last, clients) -> Lines:
+    """The lines as so many clients make their requests, the first ones at once. The device never rests, so each line begins when the one before it
+    is done, and the request after `clients` others arrives when the first of these is done."""
+    arrival = lines.begin.copy()
+    if len(first):
+        begun = lines.begin[first[0]]
+        came = numpy.concatenate([numpy.full(min(clients, len(first)), begun), lines.done[last[: max(len(last) - clients, 0)]]])
+        arrival[first[0] : last[-1] + 1] = numpy.repeat(came, last - first + 1)
+    before, after = _collected_within(numpy, arrival, lines.begin, collection)
+    return replace(lines, arrival=arrival, collected_before=before, collected_after=after)
 
 
 def _own_times(numpy, kind, of_part):

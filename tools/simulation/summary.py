@@ -166,7 +166,15 @@ def _counted(s):
 def _amplification(s):
     if s.write_amplification is None:
         return "nothing was written"
-    return f"{s.write_amplification:.3f} ({s.programs:,} pages written, {s.copies:,} copied)"
+    return f"{s.write_amplification:.3f} ({s.programs:,} pages written, {s.copies:,} copied)" + (f"; {NEVER_FULL}" if was_never_full(s) else "")
+
+
+# What is said of a run in which no block had to be collected.
+NEVER_FULL = "the device was never full and nothing was collected, so this is no steady state: age it first by a precondition, or write more"
+
+
+def was_never_full(s) -> bool:
+    return bool(s.programs) and s.erases == 0 and s.copies == 0
 
 
 def _per_gigabyte(s):

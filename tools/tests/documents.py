@@ -15,7 +15,9 @@ PROGRAMS = ("./flashplay", "flashplay --", "tools/", "apt-get", "make", "rt ", "
 LIBRARY = "make -C bindings && make -C bindings/nbdkit\n"
 # The blocks that aren't run here, by the page and the beginning of their lines, each with the reason and who runs it, if anybody does.
 NOT_RUN = {
-    ("README.md", "apt-get install ./mintlintel"): "it installs our own package: packaging/installed runs it in a root of Debian",
+    **{("README.md", begin): "it installs packages: packaging/first_lines runs it in a root of Debian" for begin in (
+        "apt-get install fio", "apt-get install binutils", "apt-get install libnbd-bin", "apt-get install ./mintlintel")},
+    ("README.md", "disk="): "it needs the plugin: packaging/first_lines runs it in a root of Debian",
     ("docs/BLOCK_DEVICE.md", f"{LIBRARY}mkdir /tmp/flash &&"): "bindings/nbdkit/check runs the lines behind make",
     ("docs/BLOCK_DEVICE.md", f"{LIBRARY}mkdir -p /tmp/flash/disk"): "bindings/nbdkit/check runs the lines behind make",
     ("docs/BLOCK_DEVICE.md", "nbdkit -f"): "it runs until the power is cut: bindings/nbdkit/check tries that",

@@ -71,7 +71,7 @@ class Pages(unittest.TestCase):
         for block in documents.blocks_of_pages():
             if block.listed(documents.NOT_RUN) is None:
                 pages.setdefault(block.page, []).append(block)
-        self.assertLessEqual({"README.md", "docs/RESPONSE.md", "docs/SIMULATING.md"}, set(pages))
+        self.assertLessEqual({"docs/RESPONSE.md", "docs/SIMULATING.md"}, set(pages))
         with concurrent.futures.ThreadPoolExecutor() as pool, tempfile.TemporaryDirectory() as folder:
             folders = {page: pathlib.Path(folder) / page.replace("/", "_") for page in pages}
             for path in folders.values():

@@ -5,7 +5,7 @@ import subprocess
 import tempfile
 import unittest
 
-from tests.tools import TOOLS
+from tests.tools import TOOLS, TOP
 
 STAND_IN = """#!/bin/sh
 [ "$*" != --version ] || { echo "flashplay 1.2.3"; exit 0; }
@@ -51,3 +51,18 @@ class Installed(unittest.TestCase):
     def test_calls_of_cuts_go_to_its_program_without_that_word(self):
         self.assertEqual(self.run_it("cuts", "--seed", "1", given="a trace"), (5, "2: --seed 1\na trace", ""))
         self.assertEqual(self.run_it("cuts"), (5, "0: \n", ""))
+
+    def test_refuses_arguments_of_cuts_that_are_not_text(self):
+        for words in ((b"\xff",), (b"--seed", b"1", b"--pages=\xc3")):
+            self.assertEqual(self.run_it("cuts", *words), (2, "", "flashplay: cuts: an argument isn't UTF-8\n"))
+            self.assertEqual(subprocess.run([TOP / "flashplay", "cuts", *words], capture_output=True, text=True).returncode, 2)
+        self.assertEqual(self.run_it("cuts", "--pages=é"), (5, "1: --pages=é\n", ""))
+
+    def test_the_tools_are_words_of_it(self):
+        tool = self.folder / "bin/flashplay-simulate"
+        tool.write_text(STAND_IN)
+        tool.chmod(0o755)
+        self.assertEqual(self.run_it("simulate", "a log", "--out", "", given="lines"), (3, "3: a log --out \nlines", ""))
+        (self.folder / "flashplay").symlink_to(self.folder / "bin/flashplay")
+        done = subprocess.run([self.folder / "flashplay", "simulate", "--help"], capture_output=True, text=True)
+        self.assertEqual((done.returncode, done.stdout), (3, "1: --help\n"))

@@ -163,6 +163,14 @@ class Launcher(unittest.TestCase):
         made = self.state / "made"
         return done.returncode, done.stdout, done.stderr.splitlines(), made.read_text().count("made") if made.exists() else 0
 
+    def test_the_tools_are_words_of_it(self):
+        (self.top / "tools").mkdir()
+        for name in ("simulate", "trace", "report", "sweep", "model"):
+            tool = self.top / "tools" / name
+            tool.write_text('#!/bin/sh\necho "${0##*/} $# $*"; exit 7\n')
+            tool.chmod(0o755)
+            self.assertEqual(self.play(name, "a file", "--out", ""), (7, f"{name} 3 a file --out \n", [], 0))
+
     def test_builds_the_program_of_images_without_proof_if_it_is_older_than_a_source(self):
         sources = self.top / "bindings/src"
         for folder in (sources, self.top / "bindings/player", self.top / "bindings/include"):

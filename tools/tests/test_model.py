@@ -1,5 +1,6 @@
 """The model against rows by hand, and against the program: the same answers, the same wear, the same log, the same faults."""
 
+import math
 import pathlib
 import random
 import subprocess
@@ -49,6 +50,53 @@ class HandComputedRows(unittest.TestCase):
 
     def test_failed_erase_retires_victim_and_is_last(self):
         self.check_log("--blocks 3 --pages 2 --words 1 --sectors 3 --endurance 1", LONG, "5,0,1,1,1,retired\n")
+
+
+class Policies(unittest.TestCase):
+    """Other victims than those of the layer."""
+
+    numbers = {"luns": 1, "blocks": 64, "pages": 32, "words": 1, "sectors": 1420, "endurance": 1_000_000}
+
+    def amplification(self, victims, hot):
+        """Of writes behind a fill and as many writes as settle: to random sectors, or nine of ten to a tenth of them."""
+        seeded, sectors, counted = random.Random(5), self.numbers["sectors"], model.Model(**self.numbers, victims=victims)
+        writes = [*range(sectors), *(seeded.randrange(sectors // 10 if hot and seeded.random() < 0.9 else sectors) for _ in range(24_000))]
+        for line, sector in enumerate(writes, 1):
+            self.assertIn(counted.answer(line, "write", sector, ""), ("empty", "written"))
+            if line == sectors + 12_000:
+                before = counted.programs, counted.copies
+        programs, copies = counted.programs - before[0], counted.copies - before[1]
+        live = sum(block.live for block in counted.blocks)
+        self.assertEqual(live, sectors)
+        return (programs + copies) / programs
+
+    def test_the_oldest_block_costs_what_theory_says(self):
+        # The live part f of the oldest block solves f = exp(-a (1 - f)), for a pages for each sector (Desnoyers 2012).
+        pages, live = 63 * 32 / self.numbers["sectors"], 0.5
+        for _ in range(1000):
+            live = math.exp(-pages * (1 - live))
+        self.assertAlmostEqual(self.amplification("oldest", hot=False) * (1 - live), 1, delta=0.03)
+
+    def test_greedy_is_the_best_where_all_writes_go_to_one_block(self):
+        for hot, worst in ((False, "cost-benefit"), (True, "oldest")):
+            found = {name: self.amplification(name, hot) for name in model.POLICIES}
+            self.assertEqual((min(found, key=found.get), max(found, key=found.get)), ("greedy", worst))
+
+    def test_only_refusals_depend_on_the_policy(self):
+        seeded = random.Random(23)
+        for _ in range(30):
+            numbers, trace = random_run(seeded)
+            numbers["endurance"] = 1_000_000
+            played = {tuple(model.Model(**numbers, victims=name).play(trace.encode()))[:-1] for name in model.POLICIES}
+            self.assertEqual(len(played), 1)
+
+    def test_is_an_option_of_the_tool(self):
+        seeded = random.Random(2)
+        trace = "".join(f"0,write,{seeded.randrange(15)},\n" for _ in range(200)).encode()
+        words = ("--blocks", 6, "--pages", 4, "--words", 1, "--sectors", 15)
+        done = [Run("model", *words, *more, given=trace).text for more in ((), ("--victims", "greedy"), ("--victims", "oldest"))]
+        self.assertEqual(done[0], done[1])
+        self.assertNotEqual(done[0], done[2])
 
 
 class ModelAgainstProgram(unittest.TestCase):

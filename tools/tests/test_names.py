@@ -109,6 +109,7 @@ class Names(unittest.TestCase):
                 (("flashplay", "--i"), "--image"),
                 (("flashplay", "im"), "image"),
                 (("flashplay", "cu"), "cuts"),
+                (("flashplay", "si"), "simulate"),
                 (("flashplay", "--cu"), "--cut-every"),
                 (("flashplay", "--sync", "n"), "never"),
                 (("/usr/bin/flashplay-trace", ""), "make convert join --help --version"),

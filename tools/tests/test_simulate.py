@@ -3,6 +3,7 @@ that was aged first. Each number is counted by awk over the files of the runs.""
 
 import csv
 import random
+import re
 import tomllib
 import unittest
 
@@ -110,22 +111,81 @@ class ThreeJobs(SimulateTest):
                     service = collection[$1] + ($2 == "write" ? 405.9 : $2 == "read" && $4 != "empty" ? 130.9 : 0)
                     begin = time[$1] > done ? time[$1] : done
                     done = begin + service
-                    if (request[$1] != last && $2 == "write") order[++n] = request[$1]
+                    if (request[$1] != last && $2 == op) order[++n] = request[$1]
                     last = request[$1]
-                    if ($2 == "write") took[last] = done - time[$1]
+                    if ($2 == op) took[last] = done - time[$1]
                 }
                 END { for (i = 1; i <= n; i++) print took[order[i]] }
             """
             files = [folder / "collections.csv", self.out / "job.requests", self.out / "job.arrivals", folder / "answers.csv"]
-            times = sorted(awk(program, *files, before=before))
-            for name, share in (("p50", 50), ("p99", 99), ("p999", 99.9)):
-                self.assertAlmostEqual(float(row[f"write_{name}_us"]), times[-int(-len(times) * share // 100) - 1], places=2)
+            for op in ("write", "read"):
+                times = sorted(awk(program, *files, before=before, op=op))
+                for name, share in (("p50", 50), ("p99", 99), ("p999", 99.9)):
+                    self.assertAlmostEqual(float(row[f"{op}_{name}_us"]), times[-int(-len(times) * share // 100) - 1], places=2)
             page = (folder / "index.html").read_text()
             self.assertIn(f"lines {before + 1:,} to", page)
         self.assertEqual((self.out / "trace.mark").read_text(), f"{before}\n")
         index = (self.out / "index.html").read_text()
         self.assertIn("behind 1,600 of precondition", index)
-        self.assertIn("latency of writes (ms)</text>", index)
+        for op in ("writes", "reads"):
+            self.assertIn(f"latency of {op} (ms)</text>", index)
+
+    def test_clients_make_their_requests_when_their_last_ones_are_done(self):
+        """A loop of clients over one device, step by step: it serves what was asked first, and who was served asks next."""
+        self.simulate(*self.words, "--over-provisioning", "15", "--precondition", "fill", "--part", PART, "--clients", 3)
+        folder = self.out / "op-15"
+        services = awk("""
+            FILENAME ~ /collections/ { if (FNR > 1) collection[$1] = 2000 + $3 * (130.9 + 405.9); next }
+            FILENAME ~ /requests/ { request[FNR + before] = $1; next }
+            $1 == "end" || $1 <= before { next }
+            {
+                n = request[$1]
+                took[n] += collection[$1] + ($2 == "write" ? 405.9 : $2 == "read" && $4 != "empty" ? 130.9 : 0)
+                op[n] = $2
+            }
+            END { for (i = 1; i <= n; i++) print took[i], op[i] == "write" }
+        """, folder / "collections.csv", self.out / "job.requests", folder / "answers.csv", before=SECTORS)  # fmt: skip
+        waiting, clock, writes = [(0.0, client) for client in range(3)], 0.0, []
+        for took, is_write in zip(services[::2], services[1::2]):
+            waiting.sort()
+            asked, client = waiting.pop(0)
+            clock = max(clock, asked) + took
+            writes += [clock - asked] if is_write else []
+            waiting.append((clock, client))
+        writes.sort()
+        (row,) = self.rows()
+        for name, share in (("p50", 50), ("p99", 99), ("p999", 99.9)):
+            self.assertAlmostEqual(float(row[f"write_{name}_us"]), writes[-int(-len(writes) * share // 100) - 1], places=2)
+        self.assertEqual(row["load"], "")
+        self.assertIn("clients = 3\n", (self.out / "run.toml").read_text())
+        self.assertIn("3 clients, each with one request at a time", (folder / "index.html").read_text())
+        for words in (("--clients", 3), ("--clients", 3, "--part", PART, "--speed", 2)):
+            self.assertIn("clients need the times of a part, and no speed", self.simulate(*self.words, "--over-provisioning", "15", *words, status=2).errors)
+
+    def test_other_victims_are_played_by_the_model(self):
+        figures = {}
+        for policy in ("greedy", "oldest"):
+            self.simulate(*self.words, "--over-provisioning", "15", "--victims", policy, "--force")
+            (row,) = self.rows()
+            self.check_row(row, 0)
+            figures[policy] = float(row["write_amplification"])
+        self.assertLess(figures["greedy"], figures["oldest"])
+        self.assertIn('victims = "oldest"\n', (self.out / "run.toml").read_text())
+
+    def test_warns_of_a_device_that_was_never_full(self):
+        done = self.simulate(*self.words, "--over-provisioning", "15,900")
+        told = "900 %: the device was never full and nothing was collected, so this is no steady state: age it first by a precondition, or write more"
+        self.assertEqual(done.lines[-1], told)
+        self.assertEqual([row["write_amplification"] == "1" for row in self.rows()], [False, True])
+        self.assertIn(f"<p class=alarm>{told}</p>", (self.out / "index.html").read_text())
+        self.assertNotIn("never full", self.simulate(*self.words, "--over-provisioning", "15", "--force").text)
+
+    def test_names_the_speed_that_a_device_carries(self):
+        words = (*self.words, "--over-provisioning", "15", "--part", PART)
+        said = self.simulate(*words, "--speed", 100).lines[-1]
+        self.assertIn("the device cannot carry this load", said)
+        speed = re.search(r"--speed (\S+) slows the arrivals to what it carries$", said)[1]
+        self.assertNotIn("cannot carry", self.simulate(*words, "--speed", speed, "--force").text)
 
 
 class Manifests(SimulateTest):

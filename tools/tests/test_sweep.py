@@ -215,6 +215,10 @@ class Sweeps(unittest.TestCase):
         done = Run("sweep", "--out", self.out, "--trace", "/no/such/trace", "--blocks", "8")
         self.assertEqual((done.status, done.errors, self.out.exists()), (1, "sweep: /no/such/trace: No such file or directory\n", False))
 
+    def test_refuses_trace_without_an_end(self):
+        done = Run("sweep", "--out", self.out, "--trace", "/dev/zero", "--blocks", "8")
+        self.assertEqual((done.status, done.errors, self.out.exists()), (1, "sweep: /dev/zero: a device, which may have no end\n", False))
+
     def test_refuses_changed_trace(self):
         trace = self.out.parent / "trace.csv"
         trace.write_text("0,write,0,\n")

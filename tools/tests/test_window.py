@@ -284,6 +284,9 @@ class Overloaded(WindowTest):
         files = "--collections", self.file("log", Requests.log), "--arrivals", self.file("times", b"0\n5\n10\n")
         answers, page = self.file("answers", self.answers), self.folder / "page.html"
         told = "the device cannot carry this load: 3.000 of it; the queue grows as long as the run lasts, and no latency can be given"
+        told += "; --speed 0.31 slows the arrivals to what it carries"
+        self.assertFalse(self.reported(answers, *files, *PART, "--speed", 0.31)["overloaded"])
+        self.assertTrue(self.reported(answers, *files, *PART, "--speed", 0.34)["overloaded"])
         done = Run("report", answers, *files, *PART, "--page", page)
         self.assertRegex(done.text, f"latency +{told}\n")
         self.assertNotRegex(done.text, "p99|waited behind a collection")

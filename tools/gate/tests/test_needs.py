@@ -19,10 +19,11 @@ class Needs(Small):
         for name, text in (("dpkg-query", QUERY), ("apt-get", APT), ("sudo", '#!/bin/sh\nshift\nexec "$@"\n')):
             self.write(f"bin/{name}", text.format(self.top)).chmod(0o755)
 
-    def needs(self, *packages, ci="true", path=None):
+    def needs(self, *packages, ci="true", path=None, user=1000):
         """The status, what it prints, and what apt-get was asked for."""
         env = {"CI": ci, "TMPDIR": str(self.top), "PATH": path or os.environ["PATH"]}
-        ran = subprocess.run([sys.executable, NEEDS, *packages], env=env, capture_output=True, text=True, check=False)
+        call = [sys.executable, "-c", f"import os, runpy, sys; os.getuid = lambda: {user}; runpy.run_path(sys.argv.pop(0) and sys.argv[0])", NEEDS, *packages]
+        ran = subprocess.run(call, env=env, capture_output=True, text=True, check=False)
         file = self.top / "ran"
         return ran.returncode, ran.stdout + ran.stderr, file.read_text().splitlines() if file.exists() else []
 
@@ -30,14 +31,16 @@ class Needs(Small):
         for ci in ("true", ""):
             self.assertEqual(self.needs("fio", "gcc", ci=ci), (0, "", []))
 
-    def test_only_ci_installs(self):
+    def test_ci_and_root_install(self):
         said = "needs: not installed: jq nbdkit; this installs them: apt-get install --no-install-recommends jq nbdkit\n"
         self.assertEqual(self.needs("jq", "fio", "nbdkit", ci=""), (1, said, []))
         asked = ["noninteractive: update", "noninteractive: install -y --no-install-recommends jq nbdkit"]
         self.assertEqual(self.needs("jq", "fio", "nbdkit"), (0, "", asked))
+        self.assertEqual(self.needs("jq", "fio", "nbdkit", ci="", user=0), (0, said, asked * 2))
 
     def test_on_another_system_all_are_missing(self):
-        self.assertRegex(self.needs("gcc", ci="", path="/none")[1], "^needs: not installed: gcc;")
+        for user in (0, 1000):
+            self.assertRegex(self.needs("gcc", ci="", path="/none", user=user)[1], "^needs: not installed: gcc;")
 
     def test_a_failure_is_told_with_what_apt_said(self):
         self.write("broken", "")

@@ -49,4 +49,4 @@ class Promises(Small):
 
         self.assertEqual(wrong("docs/PAGE.md", "# Page\n\nFor contributors.\n\nMore.\n"), [])
         self.assertEqual(wrong("docs/PAGE.md", "# Page\n\nMore.\n"), ["docs/PAGE.md: the first line doesn't name its reader"])
-        self.assertEqual(wrong("README.md", "# Page\n\nFor readers." + " word" * 797), ["README.md: 801 words, and at most 800 are wanted"])
+        self.assertEqual(wrong("README.md", "# Page\n\nFor readers." + " word" * 697), ["README.md: 701 words, and at most 700 are wanted"])
