@@ -1,7 +1,10 @@
 # make           proves every function and builds flashplay; needs the toolchain
-# make check     proves, tests and tries everything; it names what it needs from Debian, and installs it if CI=true
+# make check     proves, tests and tries everything; it names what it lacks of Debian's packages, and installs that as root
+# make check-quick  tests what needs no proof, in at most a quarter of an hour on four processors; the same for what it lacks
 # make install   installs flashplay, the tools, their manual pages and completions, the libraries, a Python wheel and the documents below DESTDIR and PREFIX
 # make dist      packs them into out/dist: Debian packages (program and tools, library, headers, Python, nbdkit's plugin, documents) and a tar file
+# make docs      writes the pages that are made from the sources
+# make release   builds all that goes with a tag into out/release, twice with the same bytes; OTHER_DIST names folders of other machines' packages
 # make release-check  says what is missing for a release
 # make clean     removes out/, with the programs that ./flashplay keeps there
 PREFIX ?= /usr/local
@@ -27,13 +30,16 @@ all:
 check:
 	@.ci/run
 
+check-quick:
+	@tools/check_quick
+
 install: all
 	$(MAKE) -C bindings
 	install -d $(LIB)/tools/simulation $(BIN) $(MAN) $(BASH) $(ZSH) $(DOC)/docs $(DOC)/bench $(DOC)/examples
 	install -m 755 -s $(PROGRAM) $(LIB)/flashplay
 	install -m 755 -s $(IMAGE_PROGRAM) $(LIB)/flashplay-image
 	install -m 755 -s $(CUTS_PROGRAM) $(LIB)/flashplay-cuts
-	install -m 755 $(TOOLS:%=tools/%) $(LIB)/tools
+	install -m 755 $(TOOLS:%=tools/%) tools/cure $(LIB)/tools
 	install -m 644 tools/simulation/*.py tools/simulation/*.css $(LIB)/tools/simulation
 	install -m 755 tools/flashplay $(BIN)/flashplay
 	for tool in $(TOOLS); do ln -sf ../lib/mintlintel/tools/$$tool $(BIN)/flashplay-$$tool; done
@@ -42,11 +48,11 @@ install: all
 	packaging/completion bash $(PROGRAMS) > $(BASH)/flashplay
 	for tool in $(TOOLS); do ln -sf flashplay $(BASH)/flashplay-$$tool; done
 	packaging/completion zsh $(PROGRAMS) > $(ZSH)/_flashplay
-	install -m 644 README.md CHANGELOG.md CONTRIBUTING.md $(DOC)
+	install -m 644 README.md CHANGELOG.md CONTRIBUTING.md $(wildcard LICENSE) $(DOC)
 	install -m 644 docs/*.md docs/*.svg $(DOC)/docs
 	install -m 644 bench/*.md $(DOC)/bench
 	install -d $(DOC)/examples/parts $(DOC)/examples/mtd $(DOC)/bindings/examples
-	install -m 644 examples/*.csv examples/*.args examples/*.out $(DOC)/examples
+	install -m 644 examples/*.csv examples/*.args examples/*.out examples/*.fio $(DOC)/examples
 	install -m 644 examples/parts/*.toml $(DOC)/examples/parts
 	install -m 644 $(DRIVERS:%=examples/mtd/%) $(DOC)/examples/mtd
 	install -m 644 bindings/examples/*.c $(DOC)/bindings/examples
@@ -60,10 +66,17 @@ install: all
 dist: all
 	packaging/package $(VERSION)
 
+docs:
+	.ci/definitions --write
+	.ci/gallery --write
+
+release:
+	packaging/make_release
+
 release-check:
 	@packaging/release
 
 clean:
 	rm -rf out
 
-.PHONY: all check install dist release-check clean
+.PHONY: all check check-quick install dist docs release release-check clean
