@@ -321,7 +321,7 @@ class Pages(SimulateTest, Browser):
     def test_three_widths_without_overlaps(self):
         self.simulate("--page-bytes", 4096, "--pages", 16, "--over-provisioning", "15,28,50,100", "--precondition", "fill", "--part", PART)
         page = (self.out / "index.html").read_text()
-        self.check_widths(page, 3)
+        self.check_widths(page, 4)
 
     def test_page_names_devices_and_manifest(self):
         self.simulate("--page-bytes", 4096, "--pages", 16, "--over-provisioning", "15,50")
