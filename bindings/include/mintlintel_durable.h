@@ -8,8 +8,9 @@
  *  - What has succeeded is durable.
  *  - A command that is cut or fails harms no page that was programmed before. Chips with several bits in a cell pair their pages, and may break that:
  *    then an acknowledged sector has an older value, or none, and nothing tells.
- * An image in mode `flush` keeps a beginning of the commands, with all that was flushed, in place of the third: an open gives the array after a
- * beginning of the begun calls that contains each call acknowledged before the last flush. That is tested, and no theorem covers it yet.
+ * An image in mode `flush` keeps a beginning of the commands, with all that was flushed, in place of the third. So an open gives the array after a
+ * beginning of the begun calls that contains each call acknowledged before the last flush. That it keeps such a beginning is tested; what follows from
+ * it is proved.
  * An open refuses flash of which pages have become unreadable, as far as it shows that: see mintlintel_durable_open_despite_losses.
  *
  * Which command comes next, and what a mount makes of the stamps, is proved (`mintlintel_core_..`, at the end). The calls before it are plain C

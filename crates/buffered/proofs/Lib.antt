@@ -1,0 +1,2 @@
+-- Lemmas of buffered writes.
+pub mod Kept
