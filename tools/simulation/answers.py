@@ -1,9 +1,10 @@
 """The answers of a run of `flashplay`: the kind of each line, and the totals."""
 
 import binascii
+from array import array
 from dataclasses import dataclass, field
 
-from .device import RANGES
+from .device import IMAGE_RANGES, RANGES
 from .faults import BROKEN, Fault, LineFault
 from .lines import number_in, numbered_lines, shown
 
@@ -15,6 +16,7 @@ PAIRS = (
 KINDS = {tuple(pair.encode().split()): kind for kind, pair in enumerate(PAIRS)}
 OPS = {op for op, _ in KINDS}
 READ_DATA, READ_EMPTY, FIRST_WRITE, LAST_WRITE, MEET = (PAIRS.index(pair) for pair in ("read data", "read empty", "write empty", "new full", "meet met"))
+TRIM_WRITTEN = PAIRS.index("trim written")
 # A `new` of a written sector changes nothing.
 DONE = tuple(PAIRS.index(pair) for pair in ("write empty", "write written", "new empty"))
 REFUSED = tuple(PAIRS.index(pair) for pair in ("write worn", "write full", "new worn", "new full"))
@@ -25,9 +27,10 @@ MOST_COPIES_OF_AN_ERASE = RANGES["pages"].most
 
 @dataclass
 class Answers:
-    """The kind of each line after the first `before` ones; and the totals of these lines, if they are known."""
+    """The kind of each line after the first `before` ones; the sector of each line of the run; and the totals of these lines, if they are known."""
 
     kinds: bytearray = field(default_factory=bytearray)
+    sectors: array = field(default_factory=lambda: array("I"))
     before: int = 0
     page_bytes: int | None = None
     quiet: bool = False
@@ -98,8 +101,9 @@ def _kind(answers: Answers, number: int, line: bytes) -> int:
     if op not in OPS:
         raise LineFault(number, f"{shown(op)} isn't an op")
     # The last sector has a number below that of all sectors.
-    if number_in(sector, number, "sector") >= RANGES["sectors"].most:
-        raise LineFault(number, f"the sector {int(sector):,} isn't one of the {RANGES['sectors'].most:,} that a device may have")
+    answers.sectors.append(number_in(sector, number, "sector"))
+    if answers.sectors[-1] >= IMAGE_RANGES["sectors"].most:
+        raise LineFault(number, f"the sector {int(sector):,} isn't one of the {IMAGE_RANGES['sectors'].most:,} that a device may have")
     kind = KINDS.get((op, answer))
     return _page(answers, number, op, answer) if kind is None or kind == READ_DATA else kind
 

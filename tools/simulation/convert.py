@@ -4,7 +4,7 @@ import collections
 import itertools
 
 from . import blkparse, fio, msr
-from .device import RANGES
+from .device import IMAGE_RANGES
 from .faults import Fault
 from .lines import numbered_lines
 from .numbers import LINE, PAGE_BYTES
@@ -17,7 +17,7 @@ ACTIONS = ("Q", "D", "C")
 def add_options(parser):
     parser.add_argument("format", choices=FORMATS, help="fio's iolog (version 2 or 3), MSR Cambridge CSV, or blkparse's text")
     parser.add_argument("--page-bytes", type=PAGE_BYTES, required=True, metavar="N", help="bytes of a page, which is a sector of the trace")
-    parser.add_argument("--sectors", type=RANGES["sectors"], required=True, metavar="N", help="sectors of the device")
+    parser.add_argument("--sectors", type=IMAGE_RANGES["sectors"], required=True, metavar="N", help="sectors of the device")
     add_numbering(parser)
     parser.add_argument("--lines", type=LINE, metavar="N", help="end the trace after N lines")
     parser.add_argument("--quiet", action="store_true", help="no summary on standard error")

@@ -22,7 +22,9 @@ RANGES = {
     "sectors": Number(1, 1_048_576),
     "endurance": Number(1, 1_000_000),
 }
-# The sectors, the blocks, and the words of all pages with one more for each page, are at most as many.
+# Those of a device in a file; a trace names no more sectors, since their numbers have seven digits.
+IMAGE_RANGES = {**RANGES, "blocks": Number(3, 1_048_576), "words": Number(1, 8192), "sectors": Number(1, 10_000_000)}
+# In memory the sectors, the blocks, and the words of all pages with one more for each page, are at most as many.
 MOST_WORDS = 16_777_216
 READ_AT_ONCE = 1 << 20
 
@@ -70,11 +72,11 @@ def shown(numbers):
     return f"{luns}{numbers['blocks']:,} blocks of {numbers['pages']:,} pages, {numbers['sectors']:,} sectors ({percent:.3g} %)"
 
 
-def fault_of(numbers, shared=False) -> str | None:
+def fault_of(numbers, shared=False, ranges=RANGES) -> str | None:
     """Why these numbers make no device for one thread: what was given, the limit, and the nearest device. None if they make one. A
-    shared device may have one sector more."""
+    shared device may have one sector more, and one in a file has the ranges of images."""
     luns, blocks, pages, words, sectors, _ = (numbers[name] for name in RANGES)
-    for name, wanted in RANGES.items():
+    for name, wanted in ranges.items():
         if numbers[name] not in wanted:
             nearest = min(max(numbers[name], wanted.least), wanted.most)
             return f"{numbers[name]:,} {name}: a device has {wanted.least:,} to {wanted.most:,}, and the nearest has {nearest:,}"
@@ -82,7 +84,7 @@ def fault_of(numbers, shared=False) -> str | None:
         fewer, more = blocks // luns * luns, -(-blocks // luns) * luns
         return f"{blocks:,} blocks aren't a multiple of {luns} LUNs: the nearest are {fewer:,} and {more:,} blocks"
     taken = sectors + blocks + pages_of(numbers) * (words + 1)
-    if taken > MOST_WORDS:
+    if taken > MOST_WORDS and ranges is RANGES:
         return f"{taken:,} words of memory, and a device has at most {MOST_WORDS:,}: {_smaller(numbers)}"
     if sectors >= (blocks - 1) * pages + shared:
         return f"{sectors:,} sectors, and {blocks:,} blocks of {pages:,} pages take at most {(blocks - 1) * pages - 1:,}: {_more_blocks(numbers)}"
@@ -111,9 +113,9 @@ def fewest_blocks(numbers) -> int:
     return -(-blocks // luns) * luns
 
 
-def check(numbers, shared=False):
+def check(numbers, shared=False, ranges=RANGES):
     """Refuses numbers that make no device."""
-    if fault := fault_of(numbers, shared):
+    if fault := fault_of(numbers, shared, ranges):
         raise Fault(f"no device has {fault}", ARGUMENTS)
 
 

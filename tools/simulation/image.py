@@ -29,7 +29,7 @@ def numbers_of(path, endurance: int) -> dict:
     if named["page_bytes"] % WORD_BYTES:
         raise Fault(f"{path} has pages of {named['page_bytes']:,} bytes, and the tools know pages of whole words of {WORD_BYTES} bytes")
     found = {**named, "words": named.pop("page_bytes") // WORD_BYTES, "endurance": endurance}
-    device.check(found)
+    device.check(found, ranges=device.IMAGE_RANGES)
     return {name: found[name] for name in device.DEFAULTS}
 
 

@@ -6,7 +6,7 @@ import itertools
 from array import array
 
 from . import traces
-from .device import RANGES
+from .device import IMAGE_RANGES, RANGES
 from .numbers import LINE_COUNT, PERCENT, Number
 
 
@@ -21,7 +21,7 @@ def add_options(parser, sized=True):
     """The options of `trace make`; without `sized` the caller passes the sectors and the lines."""
     parser.add_argument("kind", choices=KINDS, help="which sectors the lines name")
     if sized:
-        parser.add_argument("--sectors", type=RANGES["sectors"], required=True, metavar="N", help="sectors of the device")
+        parser.add_argument("--sectors", type=IMAGE_RANGES["sectors"], required=True, metavar="N", help="sectors of the device")
         parser.add_argument("--lines", type=LINE_COUNT, required=True, metavar="N", help="lines, without those of --fill")
     parser.add_argument("--fill", action="store_true", help="write each sector once, in order, before the lines")
     parser.add_argument("--reads", type=PERCENT, default=0, metavar="PERCENT", help="share of the lines that are reads (0); the rest are writes")

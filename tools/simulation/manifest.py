@@ -86,7 +86,7 @@ def checked(manifest: Manifest, where: str) -> Manifest:
     except ValueError as error:
         raise Fault(f"{where}: {error}", ARGUMENTS)
     for numbers in manifest.devices().values():
-        device.check(numbers)
+        device.check(numbers, ranges=_ranges(manifest))
     if manifest.part:
         part.part_in(manifest.part, where)
     sums = [sum_of(path) for path in manifest.files()]
@@ -116,7 +116,7 @@ def _check(manifest: Manifest):
     elif len(set(manifest.over_provisioning)) != len(manifest.over_provisioning) or not 0 < len(manifest.over_provisioning) <= MOST_DEVICES:
         raise ValueError(f"over_provisioning has 1 to {MOST_DEVICES} percentages, each once")
     for name in OF_DEVICE:
-        device.RANGES[name].check(manifest.device.get(name), name)
+        _ranges(manifest)[name].check(manifest.device.get(name), name)
     words = {"format": convert.FORMATS, "numbering": NUMBERINGS, "action": convert.ACTIONS, "victims": model.POLICIES}
     for name, known in words.items():
         if getattr(manifest, name) not in known:
@@ -124,6 +124,10 @@ def _check(manifest: Manifest):
     rounds_of(manifest.precondition)
     if not manifest.logs or not all(isinstance(text, str) for text in manifest.logs):
         raise ValueError("logs are a list of files")
+
+
+def _ranges(manifest: Manifest) -> dict:
+    return device.IMAGE_RANGES if manifest.image else device.RANGES
 
 
 def _check_image(manifest: Manifest):

@@ -4,14 +4,14 @@ import collections
 import statistics
 from dataclasses import dataclass
 
-from .device import RANGES
+from .device import IMAGE_RANGES, RANGES
 from .faults import BROKEN, Fault, LineFault
 from .lines import number_in, numbered_lines
 from .numbers import Number
 
 HEAD = b"block,erases,live,retired"
 FIELDS = {
-    "block": Number(0, RANGES["blocks"].most - 1),
+    "block": Number(0, IMAGE_RANGES["blocks"].most - 1),
     "erases": Number(0, RANGES["endurance"].most),
     "live pages": Number(0, RANGES["pages"].most),
     "mark (1 of a retired block, 0 of another)": Number(0, 1),

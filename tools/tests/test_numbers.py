@@ -121,7 +121,7 @@ class Files(InFolder):
     def test_answers(self):
         for text, message in (
             (f"1,write,{NINES},empty\nend,1,0,0\n", "the sector '99999999999999999999' isn't a whole number"),
-            ("1,write,1048576,empty\nend,1,0,0\n", "the sector 1,048,576 isn't one of the 1,048,576"),
+            ("1,write,10000000,empty\nend,1,0,0\n", "the sector 10,000,000 isn't one of the 10,000,000"),
             ("1,read,0,zzzzzzzzzzzzzzzz\nend,0,0,0\n", "'zzzzzzzzzzzzzzzz' isn't an answer of a read"),
             ("1,read,0,00000000000000 0\nend,0,0,0\n", "isn't an answer of a read"),
             ("1,read,0,data\nend,0,0,0\n", "'data' isn't an answer of a read"),
