@@ -34,7 +34,7 @@ def summarise(responses: Response, page_bytes) -> dict:
     division = _division(responses, page_bytes)
     overloaded = division["load"] is not None and division["load"] >= 1
     response, out = responses.response(), {"response_timed": responses.timed, "response_by": "request" if responses.by_request else "page"}
-    out["response_clients"] = responses.clients
+    out |= {"response_clients": responses.clients, "response_luns": responses.shared.count if responses.shared else 1}
     for group in GROUPS:
         numbers = figures(numpy, response[responses.of(group)])
         if overloaded:
@@ -68,10 +68,10 @@ def _waits(responses: Response, overloaded: bool) -> dict:
 
 
 def _division(responses: Response, page_bytes) -> dict:
-    """How the time of the device divides, from the first arrival to the last end, and what it did in a second."""
-    lines, of_part = responses.lines, responses.part
+    """How the time of the device's LUNs divides, from the first arrival to the last end, and what it did in a second."""
+    lines, of_part, luns = responses.lines, responses.part, responses.shared.count if responses.shared else 1
     reads, programs = int((lines.kind == kinds.READ_DATA).sum()), sum(int((lines.kind == kind).sum()) for kind in kinds.DONE)
-    whole = int(lines.done[-1] - lines.arrival[0]) if len(lines) else 0
+    whole = int(lines.done.max() - lines.arrival[0]) if len(lines) else 0
     times = {
         "reads": reads * of_part.of_read(),
         "programs": programs * of_part.of_program(),
@@ -81,7 +81,7 @@ def _division(responses: Response, page_bytes) -> dict:
     busy = sum(times.values())
     if busy != int(lines.service.sum()):
         raise Fault("the times of the lines don't add up to those of the totals", BROKEN)
-    times |= {"rest": whole - busy - _backlog(responses)}
+    times |= {"rest": luns * whole - busy - _backlog(responses)}
     out = {f"time_{name}_us": time / MICROSECOND for name, time in times.items()}
     out |= {"time_whole_us": sum(times.values()) / MICROSECOND, "load": _load(responses, busy)}
     requests = int(responses.of("all").sum())
@@ -96,14 +96,16 @@ def _bytes(responses: Response, of_pages):
 
 
 def _load(responses: Response, busy):
-    """The work that arrives in a second, in seconds; from 1 on the queue grows as long as the run lasts."""
-    arrival = responses.lines.arrival
+    """The work that arrives in a second, in seconds, at the busiest LUN; from 1 on its queue grows as long as the run lasts."""
+    arrival, busy = responses.lines.arrival, responses.shared.busiest if responses.shared else busy
     span = int(arrival[-1] - arrival[0]) if responses.timed and len(arrival) else 0
     return busy / span if span else None
 
 
 def _backlog(responses: Response) -> int:
     """What the device still had to do for the lines before the first reported one, when that one arrived."""
+    if responses.shared:
+        return responses.shared.backlog
     return int(responses.lines.begin[0] - responses.lines.arrival[0]) if len(responses.lines) else 0
 
 
@@ -124,9 +126,11 @@ def overload(numbers: dict) -> str | None:
 
 def as_rows(numbers: dict, name: str) -> list:
     """Names and texts for a report."""
-    timed = "waiting and service, one queue, first come first served" if numbers["response_timed"] else "service alone: no arrivals are given"
+    luns = numbers["response_luns"]
+    queue = "waiting and service, one queue" if luns == 1 else f"waiting and service, a queue for each of {luns} LUNs"
+    timed = f"{queue}, first come first served" if numbers["response_timed"] else "service alone: no arrivals are given"
     if clients := numbers["response_clients"]:
-        timed = f"waiting and service, one queue, {clients:,} client{'s' * (clients > 1)}, each with one request at a time"
+        timed = f"{queue}, {clients:,} client{'s' * (clients > 1)}, each with one request at a time"
     by = "by request" if numbers["response_by"] == "request" else "by page, since no requests are given"
     rows = [("part", name), ("times", f"{timed}; {by}")]
     if told := overload(numbers):
@@ -136,9 +140,9 @@ def as_rows(numbers: dict, name: str) -> list:
         rows.append(("waited behind a collection", _met(numbers)))
     whole = numbers["time_whole_us"]
     shares = (f"{shown} {100 * numbers[f'time_{key}_us'] / whole:.1f} %" for key, shown in SHARES.items()) if whole else ()
-    rows.append(("time of the device", duration(whole) + (": " + ", ".join(shares) if whole else "")))
+    rows.append(("time of the device" if luns == 1 else f"time of {luns} LUNs", duration(whole) + (": " + ", ".join(shares) if whole else "")))
     if numbers["load"] is not None and not numbers["overloaded"]:
-        rows.append(("load", f"{numbers['load']:.3f} seconds of work arrive in a second"))
+        rows.append(("load", f"{numbers['load']:.3f} seconds of work arrive in a second{', at the busiest LUN' * (luns > 1)}"))
     if numbers["requests_per_second"] is not None:
         size = "" if numbers["megabytes_per_second"] is None else f", {numbers['megabytes_per_second']:,.2f} MB a second"
         what = "requests" if numbers["response_by"] == "request" else "pages"

@@ -44,9 +44,9 @@ def new_parser(about: str):
     parser.add_argument("--made-by", action="append", default=[], metavar="LINE", help=made_by)
     for name, (wanted, what) in PICTURES.items():
         parser.add_argument(f"--{name.replace('_', '-')}", metavar="PICTURE", help=f"draw {what}; needs --{wanted}")
-    titled = parser.add_argument_group("for the titles, and for the life of the device")
+    titled = parser.add_argument_group("for the titles, the queues of several LUNs, and the life of the device")
     titled.add_argument("--trace", metavar="FILE", help="the trace of the run")
-    device.add_options(titled)
+    device.add_options(titled, device.IMAGE_RANGES)
     return parser
 
 
@@ -77,7 +77,8 @@ def parse(about: str, words: list):
     if options.clients and (options.arrivals or options.speed != 1):
         parser.error("--clients make their requests without --arrivals and --speed")
     if device.is_named(options):
-        device.check(device.numbers_of(options), shared=True)
+        # With a log of collections it is a device in memory.
+        device.check(device.numbers_of(options), shared=True, ranges=device.RANGES if options.collections else device.IMAGE_RANGES)
     return options
 
 

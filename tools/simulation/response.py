@@ -1,13 +1,14 @@
 """Response times: what each line of a run takes, and how long it waits.
 
 The layer has no clock. A line's service follows from what it did, which the answers and the log of collections tell, and from the times
-of a part. All commands go over one channel, one after the other, first come first served: a line begins when it has arrived and the
-line in front of it is done. A request of several lines is done with its last line. Times are whole nanoseconds, so that sums are exact."""
+of a part. On a device of one LUN all commands go over one channel, one after the other, first come first served: a line begins when it has
+arrived and the line in front of it is done. Of several LUNs each has its queue. A request of several lines is done when all of them are. Times are
+whole nanoseconds, so that sums are exact."""
 
 from dataclasses import dataclass, replace
 
 from . import answers as kinds
-from . import arrivals, part
+from . import arrivals, luns, part
 from .faults import ARGUMENTS, Fault
 
 # The sums of a run's times have to fit into 64 bits.
@@ -16,8 +17,8 @@ LONGEST = 2**62
 
 @dataclass
 class Lines:
-    """Arrays of numpy, with a number for each line: its kind, arrival and service, how long the device had collected for all lines
-    before when it arrived and with it when it was done, whether it collects, and when it is begun and done."""
+    """Arrays of numpy, with a number for each line: its kind, arrival and service, how long its LUN had collected when it arrived and when it was
+    done, whether it collects, and when it is begun and done."""
 
     kind: object
     arrival: object
@@ -50,6 +51,7 @@ class Response:
     collections: int
     speed: float = 1.0
     clients: int | None = None
+    shared: luns.Shared | None = None
 
     @property
     def by_request(self) -> bool:
@@ -60,11 +62,18 @@ class Response:
 
     def response(self):
         """Waiting and service of each request; without arrivals the service alone."""
-        return self.lines.done[self.last] - self.arrival()
+        return self._greatest(self.lines.done) - self.arrival()
 
     def collected(self):
-        """How much of each request's response the device was collecting: for its lines, or for lines before it."""
-        return self.lines.collected_after[self.last] - self.lines.collected_before[self.first]
+        """How much of each request's response its LUN was collecting: for its lines, or for lines before it."""
+        return self._greatest(self.lines.collected_after) - self.lines.collected_before[self.first]
+
+    def _greatest(self, column):
+        """The greatest number among the lines of each request."""
+        import numpy
+
+        bounds = numpy.column_stack((self.first, self.last + 1)).ravel()
+        return numpy.maximum.reduceat(numpy.append(column, 0), bounds)[::2]
 
     def of(self, group: str):
         """The requests of a group. A meet isn't a request."""
@@ -76,22 +85,25 @@ class Response:
         return kind != kinds.MEET
 
 
-def respond(answers, log, of_part, times=None, speed=1.0, first_line=1, requests=None, clients=None) -> Response:
+def respond(answers, log, of_part, times=None, speed=1.0, first_line=1, requests=None, clients=None, numbers=None) -> Response:
     """The response of each request from `first_line` on; the lines before it are played too, but not reported. The answers and the log
-    are those of the whole run. Instead of arrivals there may be clients: each makes its next request when its last one is done."""
+    are those of the whole run. Instead of arrivals there may be clients: each makes its next request when its last one is done. The LUNs are
+    those of the device's numbers; without them, one."""
     import numpy
 
     if answers.quiet:
         raise Fault("the answers have only their last line, so it isn't known what the lines did", ARGUMENTS)
     kind = numpy.frombuffer(answers.kinds, dtype=numpy.uint8)
-    lines = _lines(numpy, kind, log, of_part, times, speed).from_line(first_line)
-    later = log.from_line(first_line)
+    collection = _collection_times(numpy, len(kind), log, of_part)
+    places = luns.places_of(numpy, answers, log, numbers) if numbers and numbers["luns"] > 1 else None
+    whole = _lines(numpy, kind, collection, of_part, times, speed, places)
+    shared = luns.shared(numpy, places, whole, collection, first_line) if places else None
+    lines, later = whole.from_line(first_line), log.from_line(first_line)
     first, last, of_bytes = _units(numpy, len(lines), first_line, requests)
     if clients:
-        collection = _collection_times(numpy, len(kind), log, of_part)[first_line - 1 :]
-        lines = _closed_loop(numpy, lines, collection, first, last, clients)
+        lines = _closed_loop(numpy, lines, collection[first_line - 1 :], first, last, clients, places and places.from_line(first_line))
     totals = sum(later.copied), sum(later.copybacks), len(later)
-    return Response(of_part, times is not None, lines, first, last, of_bytes, *totals, speed, clients)
+    return Response(of_part, times is not None, lines, first, last, of_bytes, *totals, speed, clients, shared)
 
 
 def _units(numpy, count, first_line, requests):
@@ -103,30 +115,37 @@ def _units(numpy, count, first_line, requests):
     return requests.first[inside] - (first_line - 1), requests.last[inside] - (first_line - 1), requests.bytes[inside]
 
 
-def _lines(numpy, kind, log, of_part, times, speed) -> Lines:
-    collection = _collection_times(numpy, len(kind), log, of_part)
+def _lines(numpy, kind, collection, of_part, times, speed, places) -> Lines:
     service = collection + _own_times(numpy, kind, of_part)
     if times is None:
         done = numpy.cumsum(service)
         arrival = begin = done - service
     else:
         arrivals.check_length(times.times, len(kind))
-        arrival = _as_fast(numpy, times, service, speed)
-        begin, done = _queue(numpy, arrival, service)
-    before, after = _collected_within(numpy, arrival, begin, collection)
+
+        def queue(arrival):
+            """When the first lines, which arrive then, are begun and done."""
+            its = service[: len(arrival)], collection[: len(arrival)]
+            return luns.queue(numpy, places, arrival, *its) if places else _queue(numpy, arrival, its[0])
+
+        arrival = _as_fast(numpy, times, queue, speed)
+        begin, done = queue(arrival)
+    before, after = _collected_within(numpy, arrival, begin, collection, places)
     return Lines(kind, arrival, service, before, after, collection > 0, begin, done)
 
 
-def _closed_loop(numpy, lines, collection, first, last, clients) -> Lines:
-    """The lines as so many clients make their requests, the first ones at once. The device never rests, so each line begins when the one before it
+def _closed_loop(numpy, lines, collection, first, last, clients, places) -> Lines:
+    """The lines as so many clients make their requests, the first ones at once. A single LUN never rests, so each line begins when the one before it
     is done, and the request after `clients` others arrives when the first of these is done."""
-    arrival = lines.begin.copy()
-    if len(first):
+    arrival, begin = lines.begin.copy(), lines.begin
+    if places:
+        arrival, begin = luns.closed_loop(numpy, places, lines, collection, first, last, clients)
+    elif len(first):
         begun = lines.begin[first[0]]
         came = numpy.concatenate([numpy.full(min(clients, len(first)), begun), lines.done[last[: max(len(last) - clients, 0)]]])
         arrival[first[0] : last[-1] + 1] = numpy.repeat(came, last - first + 1)
-    before, after = _collected_within(numpy, arrival, lines.begin, collection)
-    return replace(lines, arrival=arrival, collected_before=before, collected_after=after)
+    before, after = _collected_within(numpy, arrival, begin, collection, places)
+    return replace(lines, arrival=arrival, begin=begin, done=begin + lines.service, collected_before=before, collected_after=after)
 
 
 def _own_times(numpy, kind, of_part):
@@ -149,11 +168,11 @@ def _collection_times(numpy, lines, log, of_part):
     return times
 
 
-def _as_fast(numpy, given, service, speed):
+def _as_fast(numpy, given, queue, speed):
     """When the lines arrive, since the first: those behind a precondition when it is done, and their own times after that."""
     times, drained = given.times, given.drained
     before = _sooner(numpy, times[:drained] - times[0], speed) if drained else times[:0]
-    done = int(_queue(numpy, before, service[:drained])[1][-1]) if drained else 0
+    done = int(queue(before)[1].max()) if drained else 0
     behind = _sooner(numpy, times[drained:], speed) + done
     return numpy.concatenate([before, behind])
 
@@ -170,9 +189,22 @@ def _queue(numpy, arrival, service):
     return begin, begin + service
 
 
-def _collected_within(numpy, arrival, begin, collection):
-    """How long the device had collected when each line arrived, and when it was done. A line's collection comes first, and begins when
-    the line does."""
+def _collected_within(numpy, arrival, begin, collection, places):
+    """How long the device had collected when each line arrived, and when it was done. Of several LUNs, nothing, and how long that of the line
+    collected meanwhile."""
+    if not places:
+        return _collected_in_queue(numpy, arrival, begin, collection)
+    within = numpy.zeros(len(arrival), dtype=numpy.int64)
+    for lun in range(places.count):
+        its = numpy.flatnonzero(places.uses(lun))
+        if len(its):
+            before, after = _collected_in_queue(numpy, arrival[its], begin[its], collection[its])
+            within[its] = numpy.where(places.lun[its] == lun, after - before, within[its])
+    return numpy.zeros(len(arrival), dtype=numpy.int64), within
+
+
+def _collected_in_queue(numpy, arrival, begin, collection):
+    """How long one queue had collected. A line's collection comes first, and begins when the line does."""
     before = numpy.cumsum(collection) - collection
     # The last line that had begun when this one arrived.
     last = numpy.searchsorted(begin, arrival, side="right") - 1

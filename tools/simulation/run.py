@@ -94,7 +94,8 @@ def _respond(options, answers: Answers, log, first: int):
         raise Fault("the log is of brooms, and has no single collections: response times need a run by one thread", ARGUMENTS)
     times = inputs.read(options.arrivals, arrivals.read_arrivals) if options.arrivals else None
     given = inputs.read(options.requests, lambda source: request_lines.read_requests(source, answers.lines)) if options.requests else None
-    return response.respond(answers, log, part.part_of(options), times, options.speed, first, given, options.clients)
+    numbers = device.numbers_of(options) if device.is_named(options) else None
+    return response.respond(answers, log, part.part_of(options), times, options.speed, first, given, options.clients, numbers)
 
 
 def _life(options, blocks, told: summary.Summary, window: Answers):

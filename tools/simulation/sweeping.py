@@ -99,7 +99,7 @@ def _responding(options, point):
     played, log = _with_log(point.device, feeder(options, point))
     before = _within(_lines_before(options, point), played)
     times, given = times_of(options, point, played.lines), requests_of(options, played.lines)
-    told = response.respond(played, log, part.part_of(options), times, options.speed, before + 1, given)
+    told = response.respond(played, log, part.part_of(options), times, options.speed, before + 1, given, numbers=point.device)
     figures = latency.summarise(told, None)
     row = _counted(played, log.from_line(before + 1), before)
     waits = {name: "" if figures[key] is None else f"{figures[key]:.3f}" for name, key in RESPONSES.items()}
