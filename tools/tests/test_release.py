@@ -4,6 +4,7 @@ import os
 import pathlib
 import shutil
 import subprocess
+import sys
 import tarfile
 import tempfile
 import unittest
@@ -49,9 +50,15 @@ class Release(unittest.TestCase):
         self.git("add", "-A")
         self.git("commit", "-qm", "a commit")
 
-    def release(self, **environment):
-        call = [self.top / "packaging/make_release"]
-        done = subprocess.run(call, env={**os.environ, **environment}, capture_output=True, text=True, stdin=subprocess.DEVNULL)
+    def release(self, rt="rt", **environment):
+        """Runs it with a folder on the path in which a program of this name stands for the toolchain."""
+        toolchain = self.top.parent / "toolchain"
+        toolchain.mkdir(exist_ok=True)
+        if not (toolchain / rt).is_symlink():
+            (toolchain / rt).symlink_to("/bin/true")
+        environment = {**os.environ, "PATH": f"{toolchain}:/usr/bin:/bin", **environment}
+        call = [sys.executable, self.top / "packaging/make_release"]
+        done = subprocess.run(call, env=environment, capture_output=True, text=True, stdin=subprocess.DEVNULL)
         return done.returncode, done.stdout, done.stderr
 
     def test_puts_together_what_goes_with_a_tag(self):
@@ -76,7 +83,13 @@ class Release(unittest.TestCase):
     def test_refuses_packages_that_name_the_folder_of_their_build(self):
         self.write("names", "")
         self.commit()
-        self.assertEqual(self.release()[::2], (1, "release: a second build gives other bytes: mintlintel_1.2.3_amd64.deb\n"))
+        status, _, errors = self.release()
+        self.assertEqual((status, errors.splitlines()[-1]), (1, "release: a second build gives other bytes: mintlintel_1.2.3_amd64.deb"))
+
+    def test_refuses_without_the_toolchain(self):
+        self.assertEqual(
+            self.release(rt="other")[::2], (1, "release: rt isn't on the path, and nothing is released that isn't proved: README.md says what the toolchain is\n")
+        )
 
     def test_refuses_what_is_no_commit(self):
         self.write("other", "")
