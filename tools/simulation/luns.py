@@ -5,12 +5,15 @@ a victim goes to the spare block. Each LUN serves its lines first come, first se
 and of the spare block, from its beginning to its end."""
 
 import heapq
+import itertools
 from dataclasses import dataclass
 
 from . import answers as kinds
 from .faults import BROKEN, Fault
 
 NONE = -1
+# So many lines at once are numbers of Python, which take more memory than those of arrays.
+AT_ONCE = 65_536
 
 
 class Layer:
@@ -130,7 +133,8 @@ class Queues:
 def queue(numpy, places, arrival, service, collection):
     """When each line is begun and done."""
     queues, columns = Queues(places.count), (arrival, service, collection, places.lun, places.victim)
-    begin = numpy.fromiter(map(queues.take, *(column.tolist() for column in columns)), dtype=numpy.int64, count=len(arrival))
+    pieces = (map(queues.take, *(column[first : first + AT_ONCE].tolist() for column in columns)) for first in range(0, len(arrival), AT_ONCE))
+    begin = numpy.fromiter(itertools.chain.from_iterable(pieces), dtype=numpy.int64, count=len(arrival))
     return begin, begin + service
 
 

@@ -22,7 +22,7 @@ FORMATS = (".svg", ".png")
 DOTS_AN_INCH = 150
 # Up to this many blocks have a bar each.
 MOST_BARS = 200
-# Erases that are less than this share of the endurance are drawn on a logarithmic axis, together with its line.
+# Where erases are less than this share of the endurance, its line is named, and not drawn far above them.
 LEAST_SHARE = 0.25
 # Tens of thousands and more have a unit, so that numbers don't run into each other on an axis.
 UNITS = ((1e9, " G"), (1e6, " M"), (1e3, " k"))
@@ -123,26 +123,24 @@ def erases_by_block(blocks, path, title="", size=SIZE, endurance=None):
     figure, axes = new_axes("block" if bars else "blocks, from the least erased to the most", "erases", title, size)
     (_bars if bars else _sorted_curve)(axes, blocks)
     width = len(blocks) - 0.5
-    least, first, median, third, most = spread([block.before + block.erases for block in blocks])
+    _, first, median, third, most = spread([block.before + block.erases for block in blocks])
     axes.fill_between([-0.5, width], first, third, color=GOLD, alpha=0.35, zorder=3, label="middle half", linewidth=0)
     axes.axhline(median, color=GOLD, zorder=4, label="median")
     axes.set_xlim(-0.5, width)
     axes.set_ylim(0)
     whole(axes, "x", "y")
     if endurance is not None:
-        _endurance(axes, endurance, least, most)
+        _endurance(axes, endurance, most)
     legend_above(axes)
     save(figure, path, title)
 
 
-def _endurance(axes, endurance, least, most):
-    """The line that a block's life ends at; far above the erases on a logarithmic axis, which begins below the least of them."""
-    axes.axhline(endurance, color=RED, linestyle="--", zorder=4, label=f"endurance {endurance:,}")
+def _endurance(axes, endurance, most):
+    """The line that a block's life ends at; far above the erases its number alone, so that bars begin at 0 and can be compared."""
     if most < LEAST_SHARE * endurance:
-        axes.set_yscale("log")
-        axes.set_ylim(max(0.5, least / 2), endurance * 2)
-        _plain_numbers(axes.yaxis)
+        axes.plot([], [], linestyle="none", label=f"endurance {endurance:,}, far above")
     else:
+        axes.axhline(endurance, color=RED, linestyle="--", zorder=4, label=f"endurance {endurance:,}")
         axes.set_ylim(0, endurance * 1.08)
 
 

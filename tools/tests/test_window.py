@@ -159,9 +159,12 @@ class Life(WindowTest):
     @needs("matplotlib")
     def test_wear_picture_has_line_of_endurance(self):
         picture = self.folder / "wear.svg"
-        for words, endurance in ((self.played(Windows.trace), "endurance 1,000"), (self.played(Windows.trace, {**DEVICE, "endurance": 60}), "endurance 60")):
+        near, far = (self.played(Windows.trace, {**DEVICE, "endurance": endurance}) for endurance in (60, 1000))
+        for words, endurance in ((far, "endurance 1,000, far above<"), (near, "endurance 60<")):
             self.assertEqual(Run("report", *words, "--erases-picture", picture).status, 0)
             self.assertIn(endurance, picture.read_text())
+            # The bars begin at zero.
+            self.assertRegex(picture.read_text(), r'id="ytick_1">(?s:.){0,900}>0</text>')
         self.assertEqual(Run("report", *words, "--from-line", 1000, "--erases-picture", picture).status, 0)
         self.assertIn("before these lines", picture.read_text())
 
