@@ -1,6 +1,7 @@
 """waits-nowhere: checks the text of the crates that a call of the shared device runs through: each loop is one of LOOPS, each call is of a function of
-these crates or one of CALLS, and no function calls itself. docs/PROVED.md says what this is for, and what it doesn't see. The toolchain gives functions
-that call each other `#[cycle]`, and one that calls itself a measure in a folder `+NAME`, unless it goes down a type that contains itself; none is here."""
+these crates or one of CALLS, as crates.txt and the file's imports resolve its path, a range that is a value ends with a length, and no function calls
+itself. docs/PROVED.md says what this is for, and what it doesn't see. The toolchain gives functions that call each other `#[cycle]`, and one
+that calls itself a measure in a folder `+NAME`, unless it goes down a type that contains itself; none is here."""
 
 import re
 from collections import Counter
@@ -9,7 +10,9 @@ from functools import cache
 from gate import tree
 
 CRATES = ("geometry", "flash_rule", "flash_table", "host", "broom", "erase_queue", "volume", "handles", "exports")
-# Each loop, as its head with the values that its bound has, why it ends after a number of turns that no other thread can raise, and where it is.
+# The other crates that these may use. A call of one of them by its path is one of CALLS.
+OTHERS = ("atomic_table", "core", "crossbeam_queue", "ftl_one", "std", "std_alloc", "std_heap", "thiserror")
+# Each loop, as its head with what the names of its bound stand for, why it ends after a number of turns that no other thread can raise, and where it is.
 LOOPS = """
 for i in 0..counts.len() :: the blocks :: geometry/victim.rt greedy
 for _ in 0..hosts where hosts = flash.geometry.hosts() as usize :: the hosts :: flash_table/open.rt Flash::open
@@ -20,7 +23,7 @@ for block in 0..flash.geometry().blocks() :: the blocks :: host/writing.rt take_
 for block in 0..flash.geometry().blocks() :: the blocks :: broom/state.rt count_blocks, broom/survey.rt load_states
 for i in 0..words where words = flash.geometry().words() :: the words of a page :: host/writing.rt fill, broom/relocation.rt copy_page
 for sector in 0..flash.geometry().sectors() :: the sectors :: broom/dead.rt inspect, broom/survey.rt count_pages
-for i in 0..geometry.pages() * (geometry.words() + 1) :: the words of a block :: broom/erasing.rt wipe_all
+for i in 0..geometry.pages() * (geometry.words() + 1) where geometry = flash.geometry() :: the words of a block :: broom/erasing.rt wipe_all
 for block in 0..counts.len() :: the blocks :: broom/ranking.rt Ranking::make
 while self.next < self.keys.len() :: the blocks that are ranked, each once for all calls :: broom/ranking.rt Ranking::first
 for page in 0..victim.written :: the pages of a block :: broom/relocation.rt relocate
@@ -35,28 +38,38 @@ for handle in handles.iter_mut() :: the handles :: exports/shared/opening.rt clo
 while let Some(pass) = passes.pop() :: the hosts :: exports/shared/opening.rt retire_passes, exports/shared/opening.rt seat_hosts
 for handle in handles.iter() :: the handles :: exports/shared/opening.rt are_closed
 """.strip().splitlines()
-# The calls of other crates and of closures, each line with why they end. None of them takes a function or an iterator, or looks at a word without a step.
+# The calls of other crates and of closures, by the crate, with why they end. None of them takes a function or an iterator, or looks at a word without a step.
 CALLS = """
 atomic_table: one step on a word, or on what two seats know | load store swap compare_exchange fetch_add fetch_sub fetch_or join_seat split_seat
 atomic_table: makes a table of these words | of_words
 crossbeam_queue: makes a queue, or a pass of one | ruled another capacity
 crossbeam_queue: may wait, and so takes the handle for that | push_as pop_as
-ftl_one: the device for one thread, which no other thread has | counts erases live retired
+ftl_one: the device for one thread, which no other thread has | new counts erases live retired
 exports: the closure that an export passes on, called once; its code is read where it stands | call
-std: memory and values of the calling thread | with_capacity push_reserved resize destroy_empty clear from_raw into_raw null_mut cast clone replace
+std: memory and values of the calling thread | new with_capacity push_reserved resize destroy_empty clear from_raw into_raw null_mut cast clone replace
 std: bytes and numbers of the calling thread | copy_from_slice fill len sort_unstable split_first_mut to_le_bytes from_le_bytes from wrapping_add saturating_sub
 std: the next of a finite list | iter iter_mut into_iter next pop
 std: reports | is_none is_some is_ok write_str
 """.strip().splitlines()
 MACROS = {"unreachable", "vec", "write"}
+# How a path names a type of std that no import does, or the crate that it is in.
+PRELUDE = set("Box Option Result String Vec bool char i8 i16 i32 i64 isize u8 u16 u32 u64 usize".split())
 # Methods of std's iterators that take a function. No method of these crates is called by such a name.
 ITERATORS = set("all any filter find fold for_each map position reduce scan skip_while take_while try_fold try_for_each".split())
 # No code that runs: comments, strings, characters and the imports of definitions.
 NO_CODE = re.compile(r"""//[^\n]*|b?"(?:[^"\\]|\\.)*"|b?'(?:[^'\\\n]|\\[^\n]+?)'|^[ \t]*(?:pub )?ghost use [^\n]*""", re.M | re.S)
 SIGN = re.compile(r"[^\n]")
 LOOP = re.compile(r"\b(?:for(?!<)|while|loop)\b[^\n{]*")
-# Texts in which a quote may begin or end something else than code_of takes it for.
-UNREADABLE = re.compile(r'/\*|\br#*"')
+# A range with a beginning, which is an iterator if it is a value; and what only iterators that may have no end are made of.
+RANGE = re.compile(r"[\w)\]]\s*(\.\.=?)\s*([\w.]*(?:\(\))?)")
+ENDLESS = re.compile(r"\bRange\w*|\bimpl\b[^{;]*\b\w*Iterator\b[^{;]*\bfor\b")
+LENGTH = re.compile(r"[\w.]+\.len\(\)")
+# Names in the end of a loop's head that stand for a value, and the texts in which a pattern can bind a name or something else can change it.
+ROOT = re.compile(r"(?<![\w:])(?<!(?<!\.)\.)[a-z_]\w*(?![\w(:])")
+BINDING = re.compile(r"\blet\s+([^=;]*?)\s*(?::[^=;]*)?=(?!=)|\bfor\s+([^{}]*?)\s+in\b|\|([^|{};]*)\||(&mut \w+)")
+ARM = re.compile(r"(?:^|(?<=[;{}]))((?:\{[^{}]*\}|[^;{}])+)=>")
+# Texts in which a quote may begin or end something else than code_of takes it for, and imports that tree.imported doesn't read.
+UNREADABLE = re.compile(r'/\*|\br#*"|^ *(?:pub(?:\(\w+\))? )?use [^;{]*\{[^;}]*[{*]|^ *(?:pub )?use [^;{]*\*', re.M)
 TYPE = re.compile(r"\b(?:struct|enum) (\w+)\b([^;{(]*(?:\([^;]*;|\{.*?^\s*\}))", re.M | re.S)
 IMPL = re.compile(r"^(?:unsafe )?impl\b[^{\n]* for\b", re.M)
 CALL = re.compile(r"(?<!fn )(?<![\w.:#])((?:\w+::)+|)(\w+)(!?)(?:::<[^>()]*>)?(?:\(|(?<=!)[\[{ ])|\.(\w+)(?:::<[^>()]*>)?\(")
@@ -81,24 +94,55 @@ def calls(code):
     return [it for it in named if it[1] not in NO_CALLS and not it[1][0].isupper()]
 
 
+@cache
+def bindings(code):
+    """The patterns of a function that are more than the name of a `let`, and what it lends to be changed."""
+    found = [*BINDING.finditer(code), *(ARM.finditer(code) if "=>" in code else ())]
+    return [" ".join(next(filter(None, it.groups()), "").split()) for it in found if not re.match(r"let\s+(?:mut\s+)?\w+\s*[:=]", it[0])]
+
+
 class Source:
     """A file, with its code and its functions."""
 
     def __init__(self, path):
-        self.path, self.text = path, path.read_text()
+        self.path, self.text, self.crate = path, path.read_text(), tree.relative(path).split("/")[1]
         self.name, self.code, self.functions = re.sub(r"^crates/|src/", "", tree.relative(path)), code_of(self.text), tree.functions(self.text)
+        self.imported = {here: path for _, path, here in tree.imported(self.code)}
 
     def at(self, place):
         return f"{tree.relative(self.path)}:{self.code.count(chr(10), 0, place) + 1}"
+
+    def values(self, name, place):
+        """What a name stands for in the function of a place: each value that it is given by itself, and each other text that may bind or change it."""
+        owner = tree.function_at(self.text, place)
+        code = self.code[owner.start : owner.end] if owner else ""
+        for value in re.findall(rf"(?<![\w.]){name}(?:\s*:[^=;{{}}\n]*)?\s*(?:[-+*/%&|^]|<<|>>)?=\s*([^;=]+);", code):
+            yield "= " + " ".join(value.split())
+        yield from (f"is in {its}" for its in bindings(code) if re.search(rf"\b{name}\b", its))
 
     def loops(self):
         """Each loop, as a line of the list without its reason, and its place."""
         for found in LOOP.finditer(IMPL.sub(lambda its: " " * len(its[0]), self.code)):
             owner, head = tree.function_at(self.text, found.start()), found[0].rstrip()
-            bound = re.search(r"0\.\.(\w+)$", head)
-            values = re.findall(rf"(?<![\w.]){bound[1]}(?:: \w+)? [-+*/]?= ([^;=]+);", self.code[owner.start : owner.end]) if owner and bound else ()
-            head += "".join(f" where {bound[1]} = {' '.join(value.split())}" for value in values)
-            yield f"{self.name} | {owner.called if owner else 'outside'} | {head}", found.start()
+            roots = dict.fromkeys(ROOT.findall(head.partition(" in ")[2])) if head.startswith("for ") else ()
+            values = [f" where {name} {value}" for name in roots if name != "self" for value in self.values(name, found.start())]
+            yield f"{self.name} | {owner.called if owner else 'outside'} | {head}{''.join(values)}", found.start()
+
+    def ranges(self):
+        """The ends and places of the ranges that aren't of a loop's head, which is listed, or of a slice."""
+        heads = [range(*it.span()) for it in LOOP.finditer(self.code)]
+        for found in (it for it in RANGE.finditer(self.code) if not any(it.start(1) in head for head in heads)):
+            depth, at = 0, found.start(1)
+            while depth >= 0 and at:
+                at -= 1
+                depth += {")": 1, "]": 1, "}": 1, "(": -1, "[": -1, "{": -1}.get(self.code[at], 0)
+            if not (self.code[at] == "[" and re.match(r"[\w)\]]", self.code[at - 1])):
+                yield found[2], found.start(1)
+
+    def home(self, path, name):
+        """The first name of a call's path, as the imports resolve it, or "" for a method and for a function that this file names by itself."""
+        its = f"{path}{name}".split("::")
+        return "" if path == "." or not (path or name in self.imported) else self.imported.get(its[0], its[0]).split(".")[0]
 
 
 def wrong_loops(files):
@@ -112,13 +156,33 @@ def wrong_loops(files):
 
 
 def wrong_calls(files):
-    """The calls of functions that are neither of these crates nor listed."""
-    others = {word for line in CALLS for word in line.partition(" | ")[2].split()}
-    known = {it.name for file in files for it in file.functions} | others
+    """The calls of functions that are neither of these crates nor listed, and the crates that these use and this check doesn't read."""
+    lines, used, listed = tree.crate_lines(), tree.crates(), {it: set() for it in OTHERS}
+    for name in CRATES:
+        its = set(re.findall(r"\w+", lines[name].partition(":")[2])) - {*CRATES, *OTHERS}
+        yield from (f"crates.txt: {name} uses {it}, which this check doesn't read" for it in sorted(its))
+    for crate, words in ((line.split(":")[0], line.partition(" | ")[2].split()) for line in CALLS):
+        listed.setdefault(crate, set()).update(words)
+    listed |= dict.fromkeys(PRELUDE, listed["std"])
+    others, own = set().union(*listed.values()), {it: {its.name for file in files if file.crate == it for its in file.functions} for it in CRATES}
+    below = {name: set().union(*(own[it] for it in tree.reached([name], used) if it in own)) for name in CRATES}
     for file in files:
+        known = below[file.crate]
         for path, name, macro, place in calls(file.code):
-            is_known = name in (MACROS if macro else others if path.startswith("std::") else known - ITERATORS if path == "." else known)
-            yield from [] if is_known else [f"{file.at(place)}: a call that isn't listed: {path}{name}{'!' if macro else ''}"]
+            home = file.home(path, name)
+            names = known if home in CRATES or not (home or path) else listed.get(home, known | others)
+            names = MACROS if macro else names - ITERATORS if path == "." else names | listed["exports"]
+            yield from [] if name in names else [f"{file.at(place)}: a call that isn't listed: {path}{name}{'!' if macro else ''}"]
+
+
+def wrong_ranges(files):
+    """The ranges that don't end with a length, since a call such as `count` goes through the whole range, and iterators of these crates."""
+    for file in files:
+        for end, place in file.ranges():
+            values = list(file.values(end, place)) if re.fullmatch(r"\w+", end) else [f"= {end}"]
+            if not values or not all(value.startswith("= ") and LENGTH.fullmatch(value[2:]) for value in values):
+                yield f"{file.at(place)}: a range that doesn't end with a length"
+        yield from (f"{file.at(it.start())}: an iterator that may have no end: {it[0]}" for it in ENDLESS.finditer(file.code))
 
 
 def wrong_cycles(files):
@@ -139,5 +203,5 @@ def wrong_cycles(files):
 def main(_):
     files = [Source(path) for crate in CRATES for path in tree.sources(crate)]
     unreadable = (f"{tree.relative(it.path)}: this check can't read `{found[0]}`" for it in files if (found := UNREADABLE.search(it.text)))
-    wrong = [*unreadable, *wrong_loops(files), *wrong_calls(files), *wrong_cycles(files)]
+    wrong = [*unreadable, *wrong_loops(files), *wrong_calls(files), *wrong_ranges(files), *wrong_cycles(files)]
     return tree.verdict(wrong, f"no call of the shared device has a loop but listed ones, an unlisted call, or one of itself")

@@ -14,10 +14,11 @@ PLACES = {
     HOST: "    flash.place_trim(pass, sector)\n",
     "host/src/searching.rt": "    let mut tries = 0;\n",
     "host/src/lib.rt": "mod holding;\n",
+    "broom/src/lib.rt": "mod answer;\n",
 }
 EMPTY = "self.table.shared.load::<See>(&mut pass.seat, sector as usize) == UNMAPPED"
 FOUND = "flash.look(pass, sector).is_some()"
-LOOP, CALL = "a loop that isn't listed", "a call that isn't listed: "
+LOOP, CALL, RANGE = "a loop that isn't listed", "a call that isn't listed: ", "a range that doesn't end with a length"
 # Each body that spins: its file, its lines, what the check says of it, and the lines of its twin.
 SPINS = (
     (TABLE, f"for _ in 0..4_000_000_000u64 {{ if {EMPTY} {{ break; }} }}", LOOP, f"if {EMPTY} {{ return Was::Empty; }}"),
@@ -28,7 +29,19 @@ SPINS = (
     ("host/src/searching.rt", f"loop {{ if {FOUND} {{ break; }} }}", LOOP, f"if {FOUND} {{ gate.at(Point::AfterLook); }} // loop {{"),
     (TABLE, f"(0..4_000_000_000u64).find(|_| {EMPTY});", CALL + ".find", f"4_000_000_000u64.saturating_sub({EMPTY} as u64);"),
     (HOST, f"std::iter::repeat(0).all(|_| {FOUND});", CALL + "std::iter::repeat", f'let text = "std::iter::repeat(0).all(|_| {FOUND})";'),
-    (HOST, f"(0..4_000_000_000u64).fold((), |_, _| {FOUND});", CALL + ".fold", f"let other: Volume = here; Volume::fold(other, {FOUND});"),
+    ("broom/src/lib.rt", "fn spins() {\n    iter.fold((), |_, _| ());\n}", CALL + ".fold", "fn spins() {\n    Broom::fold(iter, ());\n}"),
+    (HOST, "let _n = (0..u64::MAX).count();", RANGE, "let _n = (0..page.len()).count();"),
+    (HOST, "let n = u64::MAX; let _n = (0..n).count();", RANGE, "let n = page.len(); let _n = (0..n).count();"),
+    (HOST, "let n = page.len(); let (n, _) = (u64::MAX, n); (0..n).count();", RANGE, "let n = page.len(); let (m, _) = (u64::MAX, 1); (0..n).count();"),
+    (HOST, "let turns = 0..=u64::MAX; turns.count();", RANGE, "let turns = 0..page.len(); turns.count();"),
+    (HOST, "let _n = page[(1..).count()];", RANGE, "let _n = page[1..].len();"),
+    (HOST, "Range { start: 0, end: u64::MAX }.count();", "may have no end: Range", "Span { start: 0, end: u64::MAX }.count();"),
+    ("host/src/lib.rt", "impl Iterator for Turns {}", "may have no end: impl Iterator", "impl Iterated for Turns {}"),
+    (HOST, "std::thread::take(a);", CALL + "std::thread::take", "std::mem::replace(&mut a, b);"),
+    ("host/src/lib.rt", "use std::thread::park as take;\nfn waits() {\n    take();\n}", CALL + "take",
+     "use crate::writing::take_lowest as take;\nfn waits() {\n    take();\n}"),
+    ("host/src/lib.rt", "use std::{thread::{take}};", "can't read `use std::{thread::{`", "use std::thread::{take};"),
+    (HOST, "atomic_table::take(a);", CALL + "atomic_table::take", "flash_table::take(a);"),
     (HOST, f"if {FOUND} {{ trim(flash, pass, sector); }}", "crates/host/writing.rt: trim calls itself", f"if {FOUND} {{ close_if_full(flash, pass); }}"),
     (TABLE, f"if {EMPTY} {{ Self::place_trim(self, pass, sector); }}", "Flash::place_trim calls itself", f"if {EMPTY} {{ Self::take(self, pass, 0); }}"),
     (TABLE, "self.table.shared.peek(sector as usize);", CALL + ".peek", "self.table.shared.load(sector as usize);"),
@@ -50,6 +63,7 @@ SPINS = (
 class Waits(Small):
     def setUp(self):
         super().setUp()
+        self.write("crates.txt", (Path(__file__).parents[3] / "crates.txt").read_text())
         for name in waits_nowhere.CRATES:
             shutil.copytree(Path(__file__).parents[3] / "crates" / name / "src", tree.folder(name) / "src")
 
@@ -75,10 +89,30 @@ class Waits(Small):
     def test_a_listed_loop_with_another_bound_is_refused(self):
         path = self.top / "crates" / HOST
         before, words = path.read_text(), "    let words = flash.geometry().words();\n"
-        path.write_text(before.replace(words, words + "    let words = 4_000_000_000;\n"))
-        self.assertIn("where words = 4_000_000_000", self.run_main(waits_nowhere, status=1))
-        path.write_text(before.replace(words, words + "    let words_too = 4_000_000_000;\n"))
-        self.run_main(waits_nowhere)
+        self.assertEqual(before.count(words), 1)
+        for changed, said in (
+            ("let words = 4_000_000_000;", "= 4_000_000_000"), ("let words: u64 = 4_000_000_000;", "= 4_000_000_000"), ("words <<= 20;", "= 20"),
+            ("let (words, _) = (4_000_000_000, 0);", "is in (words, _)"), ("if let Some(words) = most {}", "is in Some(words)"),
+            ("let Most { words, .. } = most;", "is in Most { words, .. }"), ("match most { Most { words, .. } => {} }", "is in Most { words, .. }"),
+            ("let turns = |words| close_if_full(words);", "is in words"), ("close_if_full(&mut words);", "is in &mut words"),
+        ):  # fmt: skip
+            with self.subTest(changed):
+                path.write_text(before.replace(words, f"{words}    {changed}\n"))
+                self.assertIn(f"where words = flash.geometry().words() where words {said}", self.run_main(waits_nowhere, status=1))
+                path.write_text(before.replace(words, f"{words}    {changed.replace('words', 'words_too')}\n"))
+                self.run_main(waits_nowhere)
+
+    def test_a_crate_that_the_check_does_not_read_is_refused(self):
+        path, text = self.top / "crates" / HOST, (self.top / "crates.txt").read_text()
+        before = path.read_text()
+        for crate, status in (("spin", 1), ("flash_table", 0)):
+            path.write_text(before.replace(PLACES[HOST], f"{crate}::take(pass);\n{PLACES[HOST]}"))
+            self.write("crates.txt", text.replace("\nhost:", f"\n{crate}:\nhost: {crate}") if status else text)
+            said = self.run_main(waits_nowhere, status=status)
+            self.assertEqual("crates.txt: host uses spin, which this check doesn't read" in said, bool(status))
+        # Without its line in crates.txt it can't be built, and is no name that the check knows.
+        path.write_text(before.replace(PLACES[HOST], f"spin::poll(pass);\n{PLACES[HOST]}"))
+        self.assertIn(CALL + "spin::poll", self.run_main(waits_nowhere, status=1))
 
     def test_a_listed_loop_that_is_gone_is_named(self):
         path = tree.folder("host") / "src/searching.rt"
