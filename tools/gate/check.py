@@ -1,7 +1,7 @@
 """check: proves, tests and tries everything that has to hold before a merge: the sources and pages (BEFORE), all proofs and tests, the wrong bodies of
-each crate without an entry in .ci/refused, its twins and wrong definitions, the program and the library (AFTER), and what is built from them (ROWS). If
-CI=true it installs what the checks need, and ends with the package on a system without the toolchain. Otherwise root installs what is missing, after it
-was named; for other users nothing is begun then. The last line is `rt ci`'s count of what passed and failed."""
+each crate without an entry in .ci/refused or that the commit draws, its twins and wrong definitions, the program and the library (AFTER), and what is
+built from them (ROWS). If CI=true it installs what the checks need, and ends with the package on a system without the toolchain. Otherwise root installs
+what is missing, after it was named; for other users nothing is begun then. The last line is `rt ci`'s count of what passed and failed."""
 
 import os
 import re
@@ -19,7 +19,7 @@ BEFORE = (
     ".ci/waits-nowhere", ".ci/definitions", ".ci/promises", ".ci/layout", ".ci/gallery", ".ci/twins --check", ".ci/wrong-definitions --check",
     ".ci/needless --check", f"{sys.executable} -B -m unittest discover -q -s tools/gate/tests -t tools",
 )  # fmt: skip
-AFTER = (".ci/twins --missing", ".ci/wrong-definitions --missing", "./flashplay --prove", "make --no-print-directory --silent -C bindings")
+AFTER = (".ci/twins --due", ".ci/wrong-definitions --due", "./flashplay --prove", "make --no-print-directory --silent -C bindings")
 # Two rows of commands that run beside each other.
 ROWS = (
     (".ci/uncompiled", "bench/run --try", "bench/power_cuts/check", "tools/check", "examples/launcher --quick"),

@@ -76,12 +76,12 @@ def cut(name, needed):
 def main(words):
     book, status = Needed("needed", "proofs"), 0
     if words == ["--check"]:
-        known, lacking = {name for name, *_ in book.entries()}, book.lacking()
+        known, lacking = {it.crate for it in book.entries()}, book.lacking()
         others = [f"answers of {name} were not tried without: .ci/needless {name}" for name in lacking if name in known]
         untried = ", ".join(name for name in lacking if name not in known)
         return tree.verdict(others, f"each answer is needed, except in crates that were never tried: {untried or 'none'}")
     names = book.asked(words)
     for name, (needed, trouble) in zip(names, record.in_copies(names, tried)):
         print(trouble[-2000:] or f"needless {name}: {cut(name, needed)} answers go", file=sys.stderr if trouble else sys.stdout, flush=True)
-        status |= book.note([(name, book.sum_of(name), not trouble)], "the check can't read {}")
+        status |= book.note([(name, book.sum_of(name), [] if trouble else [f"{name}: {len(needed)} goals stay open"])], "the check can't read {}")
     return status

@@ -1,17 +1,21 @@
-"""twins CRATE.. | --all | --missing: shows that the twins of the wrong bodies of these crates, of all, or of those without an entry in .ci/proved-twins
-are proved. `twins --check` fails if a wrong body or a twin doesn't fit its file, and names the crates without an entry."""
+"""twins CRATE.. | --all | --missing | --due: shows that the twins of the wrong bodies of these crates, of all, of those without an entry in
+.ci/proved-twins, or of these and some others that the commit draws, are proved. `twins --check` fails if a wrong body or a twin doesn't fit its file or
+changes nothing, and names the crates without an entry."""
 
 import re
 
 from gate import record, tree
 
 # What a check prints for a goal that it doesn't prove, and for a text that it can't read.
+# What a change of a body may differ in without being one.
+BLANK = re.compile(r"//[^\n]*|\s+")
 UNPROVED = re.compile(r": error|\berror\[|it is not proved|^logic=not")
 
 
 def misfits(edits):
     """What is wrong with these edits."""
-    return [f"{it.place} changes a text that isn't there exactly once" for it in edits if tree.edited({}, it) is None]
+    yield from (f"{it.place} changes a text that isn't there exactly once" for it in edits if tree.edited({}, it) is None)
+    yield from (f"{it.place} changes nothing" for it in edits if all(BLANK.sub("", old) == BLANK.sub("", new) for _, old, new in it.changes()))
 
 
 def together(edits):
@@ -26,8 +30,8 @@ def together(edits):
 
 
 def are_proved(room, name):
-    """Whether all twins of a crate are proved in copies of it, by putting their texts in place of its own for a check."""
-    crate, left = room / "crates" / name, tree.edits(name, "twins")
+    """The lines that say that all twins of a crate are proved in copies of it, or nothing. It puts their texts in place of its own for a check."""
+    crate, left, lines = room / "crates" / name, tree.edits(name, "twins"), []
     while left:
         texts, behind = together(left)
         before = {file: (crate / file).read_text() for file in texts}
@@ -36,17 +40,18 @@ def are_proved(room, name):
         status, said = tree.said_by(crate, "rt", "check", "--jobs", "1")
         for file, text in before.items():
             (crate / file).write_text(text)
-        print(f"twins {name}: {'NOT PROVED' if status else 'proved'}: {', '.join(it.name for it in left if it not in behind)}", flush=True)
+        lines.append(f"twins {name}: {'NOT PROVED' if status else 'proved'}: {', '.join(it.name for it in left if it not in behind)}")
+        print(lines[-1], flush=True)
         if status:
             print("\n".join(it for it in said.splitlines() if UNPROVED.search(it)))
-            return False
+            return []
         left = behind
-    return True
+    return lines
 
 
 def main(words):
     book = record.Record("proved-twins", "twins")
     if words == ["--check"]:
         edits = [it for name in book.having() for kind in ("must-fail", "twins") for it in tree.edits(name, kind)]
-        return book.verdict(misfits(edits), "wrong bodies have a twin that was proved", "prove: the twins of")
+        return book.verdict(list(misfits(edits)), "wrong bodies have a twin that was proved", "prove: the twins of")
     return book.main(words, lambda names: record.in_copies(names, are_proved), "twins of {} were not proved")

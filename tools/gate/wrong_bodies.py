@@ -18,14 +18,15 @@ def refused():
 
 
 def note(names, said, again=True):
-    """Records the crates of these all of whose edits `rt` refused, by what it printed, and the goals that it named. Returns 1 if there are others.
-    Unless `again`, a crate that has an entry gets none: it only shows that the run can refuse."""
+    """Records the crates of these all of whose edits `rt` refused, by what it printed, and the goals that it named. Returns 1 if there are others, or,
+    unless `again`, if a crate has an entry of this version that says otherwise."""
     book, found = refused(), set(REFUSED.findall(said))
-    those = {its[:2] for its in found}
+    goals = {its[:2]: its[2] for its in sorted(found)}
     gallery.put(found)
-    tried = [(name, book.sum_of(name), all((name, it.name) in those for it in tree.edits(name))) for name in names]
-    known = () if again else set(book.having()) - set(book.lacking())
-    return book.note([its for its in tried if its[0] not in known or not its[2]], "wrong bodies of {} were not refused")
+    edits = {name: [it.name for it in tree.edits(name)] for name in names}
+    lines = {name: [f"{name}/{it}: {goals[name, it]}" for it in its if (name, it) in goals] for name, its in edits.items()}
+    tried = [(name, book.sum_of(name), lines[name] if len(lines[name]) == len(edits[name]) else []) for name in names]
+    return book.note(tried, "wrong bodies of {} were not refused", again)
 
 
 def write(names, top=None):
@@ -41,9 +42,12 @@ def write(names, top=None):
 
 
 def untried():
-    """The crates whose wrong bodies a run of the gate tries: those without an entry for their text. Prints the versions that refused the others."""
+    """The crates whose wrong bodies a run of the gate tries: those without an entry for their text, and those that the commit draws. Prints the versions
+    that refused the others."""
     book = refused()
-    known = {name: its for name, its in book.versions().items() if its and name not in ALWAYS}
+    versions = book.versions()
+    again = {*ALWAYS, *book.due(versions)}
+    known = {name: its for name, its in versions.items() if name not in again}
     if known:
         by = " and ".join(sorted({it for its in known.values() for it in its}))
         print(f"not tried again: {sum(len(tree.edits(it)) for it in known)} wrong bodies, refused with {by}; this machine has {record.version()}")

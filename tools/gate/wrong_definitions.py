@@ -1,6 +1,7 @@
-"""wrong-definitions CRATE.. | --all | --missing | --check: shows that laws refuse the wrong definitions of these crates, of all, or of those without
-an entry in .ci/refused-definitions. The prover reads the law that an edit names with a copy of the definition made wrong, and with one only written
-otherwise (its twin): the clause has to stay open, and then be proved. --check names crates without an entry, and edits that fit no definition or law."""
+"""wrong-definitions CRATE.. | --all | --missing | --due | --check: shows that laws refuse the wrong definitions of these crates, of all, of those
+without an entry in .ci/refused-definitions, or of these and some others that the commit draws. The prover reads the law that an edit names with a copy
+of the definition made wrong, and with one only written otherwise (its twin): the clause has to stay open, and then be proved. --check names crates
+without an entry, and edits that fit no definition or law, or change nothing."""
 
 import re
 import runpy
@@ -65,6 +66,7 @@ def law_of(edit):
 def misfits(all_edits, texts):
     """What is wrong with edits: an old text that isn't in the definition exactly once, or a law that has no such clause."""
     yield from (f"{it.place} changes a text that isn't in {it.definition} of {it.crate} exactly once" for it in all_edits if not place_of(it, texts))
+    yield from (f"{it.place} changes nothing" for it in all_edits if it.old in it.copies.values())
     yield from (f"{it.place} names {it.law} {it.clause}, which is no clause of a law" for it in all_edits if not law_of(it))
 
 
@@ -143,18 +145,19 @@ def fault_of(edit, said):
 
 
 def refused(names):
-    """Of each of these crates whether its edits are refused as they have to be. Prints each edit."""
-    lost, every = set(), edits(*names)
+    """Of each of these crates the lines that say that its edits are refused as they have to be, or nothing. Prints each edit."""
+    lost, every, lines = set(), edits(*names), []
     for home in sorted({it.home for it in every}):
         mine = [it for it in every if it.home == home]
         said = said_by(mine)
         for it in mine:
             fault = fault_of(it, said)
-            print(f"wrong definition {it.crate}/{it.name}: {fault or 'refused, and its twin is proved'}", flush=True)
+            lines.append((it.crate, f"wrong definition {it.crate}/{it.name}: {fault or f'refused, and its twin is proved ({it.clause})'}"))
+            print(lines[-1][1], flush=True)
             lost |= {it.crate} if fault else set()
         if not re.search(r"^only=\d+ ", said, re.M):
             print(said[-2000:])
-    return [name not in lost for name in names]
+    return [[line for crate, line in lines if crate == name and name not in lost] for name in names]
 
 
 class Refused(record.Record):

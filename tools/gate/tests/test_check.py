@@ -70,7 +70,7 @@ class Check(Small):
         self.assertEqual((self.said()[1], self.ran[-1]), (1, "write"))
 
     def test_a_later_failure_is_not_followed_by_the_counts(self):
-        for step in (".ci/promises", ".ci/twins --missing", "bench/run", "bindings/nbdkit/check"):
+        for step in (".ci/promises", ".ci/twins --due", "bench/run", "bindings/nbdkit/check"):
             self.ran, self.fails = [], step
             lines, status = self.said()
             self.assertNotIn("12 passed, 0 failed", lines[-1:])

@@ -54,6 +54,13 @@ class Twins(Small):
         self.edits("low", ("two", ("third", "WRONG", "THIRD")))
         self.assertIn("crates/low/wrong-bodies.edits: two changes a text that", self.run_main(twins, "--check", status=1))
 
+    def test_an_edit_and_its_twin_change_something(self):
+        for texts, said in ((("first", "first", "FIRST"), "two"), (("first", "WRONG", "fi rst // first"), "the twin of two")):
+            self.edits("low", ("two", texts))
+            self.assertEqual(self.run_main(twins, "--check", status=1), f"crates/low/wrong-bodies.edits: {said} changes nothing\n")
+        self.edits("low", ("two", ("first", "WRONG", "first"), ("second", "SECOND", "2nd")))
+        self.run_main(twins, "--check")
+
     def test_an_edit_counts_for_itself_wherever_it_stands(self):
         self.edits("low", FIRST, SECOND)
         self.run_main(twins, "--all")

@@ -6,7 +6,7 @@ import io
 import subprocess
 from unittest import mock
 
-from gate import twins, wrong_bodies
+from gate import record, twins, wrong_bodies
 from gate.tests import Small
 
 STAND_IN = """# Refuses each edit except those named in the file `taken`, and prints the line in the file `version` as its version.
@@ -27,6 +27,8 @@ class Refused(Small):
         super().setUp()
         self.stand_in(STAND_IN)
         self.proved = mock.patch.object(twins, "main", return_value=0).start()
+        # No commit draws a crate.
+        mock.patch.object(record, "TENTH", 2**300).start()
         self.addCleanup(mock.patch.stopall)
         self.write("crates.txt", "uses:\nlow:\nhigh: low\n")
         self.write("taken", "")
@@ -56,7 +58,7 @@ class Refused(Small):
         return sorted(path.relative_to(self.top).as_posix() for path in self.top.glob("crates/*/must-fail/*"))
 
     def entries(self):
-        return sorted((words[0], words[2]) for words in (line.split(" ", 2) for line in self.record().splitlines()))
+        return sorted((it.crate, it.version) for it in wrong_bodies.refused().entries())
 
     def record(self):
         return (self.top / ".ci/refused").read_text()
@@ -96,6 +98,36 @@ class Refused(Small):
         self.version(NEW)
         self.run_main(wrong_bodies, "--all")
         self.assertEqual(self.entries(), [(name, its) for name in ("high", "low", "uses") for its in (OLD, NEW)])
+
+    def test_a_line_ends_no_trying(self):
+        own, mine = self.record(), f"low {wrong_bodies.refused().sum_of('low')} "
+        self.write("taken", "low_errs.edit\n")
+        self.assertEqual(self.gate()[1], ["uses"])
+        with mock.patch.object(record, "TENTH", 1):
+            self.assertEqual(self.gate(status=1)[1], ["high", "low", "uses"])
+            self.assertEqual(self.entries(), [("high", OLD), ("uses", OLD)])
+            self.write("taken", "")
+            # A line of another trial is none of this text; one of the earlier form gets the sum of what was printed; one of another version stays.
+            text = "".join(f"{mine}{'0' * 16} {OLD}\n" if it.startswith("low ") else f"{it}\n" for it in own.splitlines())
+            self.write(".ci/refused", text)
+            self.assertIn(".ci/refused has an entry of low that this trial doesn't print", self.gate(status=1)[0])
+            self.assertEqual(self.entries(), [("high", OLD), ("uses", OLD)])
+            self.write(".ci/refused", text.replace("0" * 16 + " ", ""))
+            self.gate()
+            self.assertEqual(self.record(), own)
+            self.version(NEW)
+            self.assertEqual(self.gate()[1], ["high", "low", "uses"])
+            self.assertEqual(self.record(), own)
+
+    def test_the_commit_draws_a_tenth(self):
+        book, names, drawn = wrong_bodies.refused(), [*record.SLOW, *map(str, range(18))], []
+        with mock.patch.object(record, "TENTH", 10):
+            for its in map(str, range(200)):
+                with mock.patch.object(record, "commit", lambda its=its: its):
+                    drawn += book.due(dict.fromkeys(names, [OLD]))
+        self.assertTrue(300 < len(drawn) < 420, len(drawn))
+        self.assertTrue(all(4 < drawn.count(name) < 36 for name in names if name not in record.SLOW))
+        self.assertTrue(all(drawn.count(name) < 8 for name in record.SLOW))
 
     def test_an_edit_that_is_proved_is_not_recorded(self):
         self.write("taken", "low_errs.edit\n")

@@ -123,6 +123,11 @@ class WrongDefinitions(Small):
         self.wrong("WRONG", law="laws::numbers::small absent")
         self.assertIn("which is no clause of a law", self.run_here("--missing", status=1))
 
+    def test_an_edit_and_its_twin_change_something(self):
+        for new, twin in (("right", "also_right"), ("WRONG", "right")):
+            self.wrong(new, twin)
+            self.assertIn("number_is_any changes nothing", self.run_here("--check", status=1))
+
     def test_a_crate_without_wrong_definitions_is_named(self):
         self.run_here("mid", status=2)
 
