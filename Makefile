@@ -69,6 +69,7 @@ dist: all
 docs:
 	.ci/definitions --write
 	.ci/gallery --write
+	.ci/headers --write
 
 release:
 	packaging/make_release

@@ -43,24 +43,24 @@ extern "C" {
 
 /* What a call returns. */
 enum mintlintel_code {
-    MINTLINTEL_EMPTY = 0,           /* the sector was empty */
+    MINTLINTEL_EMPTY = 0,           /* of a read, a look, a write, a trim or a hold: the sector was empty */
     MINTLINTEL_DONE = 0,            /* the call is done */
-    MINTLINTEL_WRITTEN = 1,         /* the sector was written, or is held */
+    MINTLINTEL_WRITTEN = 1,         /* the sector was written; of a hold or a copy: the page is held */
     MINTLINTEL_CLOSED = 2,          /* the handle is closed */
     MINTLINTEL_NO_SECTOR = 3,       /* the device has no such sector */
     MINTLINTEL_NOT_A_PAGE = 4,      /* the buffer is not as long as a page */
-    MINTLINTEL_WORN_OUT = 5,        /* one thread: no page is left for a write, and none can be reclaimed */
+    MINTLINTEL_WORN_OUT = 5,        /* one thread: no page is left for a write, and none can be reclaimed; reads and trims still work */
     MINTLINTEL_NO_MEMORY = 6,       /* there is no memory for the device */
     MINTLINTEL_NO_BLOCK = 7,        /* shared: no block was free for a write; let a broom erase, pause, and try again a bounded number of times */
     MINTLINTEL_ALREADY_OPEN = 8,    /* the handle, or one of the handles, is open already */
-    MINTLINTEL_WRONG_KIND = 9,      /* the handle is of another kind: see the kinds of a seat below */
+    MINTLINTEL_WRONG_KIND = 9,      /* the handle is of another kind, such as a host where a broom is needed */
     MINTLINTEL_NO_SUCH_BLOCK = 10,  /* the device has no such block */
-    MINTLINTEL_NO_SUCH_WORD = 10,   /* of host_word: a page has no such word */
-    MINTLINTEL_NOTHING_TO_GAIN = 20, /* a drain: no block is closed, or the best one is all live */
-    MINTLINTEL_NO_SPARE = 21,       /* a drain: the broom has no block to copy to; a restock: no block is free; erase something, or drain_dead */
+    MINTLINTEL_NO_SUCH_WORD = 10,   /* of mintlintel_host_word: a page has no such word */
+    MINTLINTEL_NOTHING_TO_GAIN = 20, /* a drain, a collection: no block is closed, or the best one is all live, until hosts write or trim */
+    MINTLINTEL_NO_SPARE = 21,       /* a drain: the broom has no block to copy to; a restock: no block is free; a collection: both */
     MINTLINTEL_LOST = 22,           /* a drain: the block's state changed since it was loaded; try again */
     MINTLINTEL_RETIRED = 23,        /* an erase: done, and it was the block's last */
-    MINTLINTEL_PINNED = 24,         /* an erase: a host reads the block; try again later */
+    MINTLINTEL_PINNED = 24,         /* an erase, a collection: hosts read what is left to erase; try again later */
     MINTLINTEL_STALE = 25,          /* an erase: the block isn't drained; forget it */
     MINTLINTEL_KEPT = 26,           /* an erase: done, and the broom keeps the block as its spare */
     MINTLINTEL_EXHAUSTED = 27,      /* counts, a collection: no block is free, and none can become free while each closed one has a live page */

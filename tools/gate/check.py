@@ -16,7 +16,7 @@ from tests import packages as of_tools
 
 # What comes before the proofs, and what comes after them.
 BEFORE = (
-    ".ci/waits-nowhere", ".ci/definitions", ".ci/promises", ".ci/layout", ".ci/gallery", ".ci/twins --check", ".ci/wrong-definitions --check",
+    ".ci/waits-nowhere", ".ci/definitions", ".ci/promises", ".ci/layout", ".ci/gallery", ".ci/headers", ".ci/twins --check", ".ci/wrong-definitions --check",
     ".ci/needless --check", f"{sys.executable} -B -m unittest discover -q -s tools/gate/tests -t tools",
 )  # fmt: skip
 AFTER = (".ci/twins --due", ".ci/wrong-definitions --due", "./flashplay --prove", "make --no-print-directory --silent -C bindings")

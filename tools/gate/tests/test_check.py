@@ -47,10 +47,10 @@ class Check(Small):
     def test_the_cheap_checks_come_before_the_proofs_and_these_before_the_rest(self):
         lines, status = self.said()
         self.assertEqual((lines[-1], status), ("12 passed, 0 failed", 0))
-        self.assertEqual(self.ran[:10], [".ci/needs fio", *check.BEFORE])
-        self.assertEqual(self.ran[10:18], ["write low", "rt ci", "note of low: 12 passed, 0 failed", "write", *check.AFTER])
+        self.assertEqual(self.ran[:11], [".ci/needs fio", *check.BEFORE])
+        self.assertEqual(self.ran[11:19], ["write low", "rt ci", "note of low: 12 passed, 0 failed", "write", *check.AFTER])
         rest = [command for row in check.ROWS for command in row]
-        self.assertEqual(sorted(self.ran[18:]), sorted(rest))
+        self.assertEqual(sorted(self.ran[19:]), sorted(rest))
         for row in check.ROWS:
             self.assertEqual([it for it in self.ran if it in row], [*row])
 
