@@ -1,10 +1,11 @@
 """definitions [--write]: docs/DEFINITIONS.md, made from the comments above the public definitions of specs/ and above the types that a crate exports;
 and docs/CALLS.md, made by calls.py. Without --write it changes nothing, and fails if a page differs; if a definition or a public call has no comment;
-if only functions need a definition that nobody calls; or if one of a public clause has no law, no caller and no reason in laws.py."""
+if only functions need a definition that nobody calls; or if one of a public clause has no law, no caller and no reason in laws.py, or no wrong
+definition that says less, by tried.py."""
 
 import re
 
-from gate import calls, laws, tree
+from gate import calls, laws, tree, tried
 
 SHOWN = """- Only premises name these, directly or through other definitions, so no promise shows what they say; each caller has to prove them:
 {}.
@@ -62,7 +63,8 @@ def made(known):
     page = tree.beginning("docs/DEFINITIONS.md") + about + "".join(part(name, known) for name in crates).rstrip("\n") + "\n"
     bare = [f"crates/{crate}/specs/{module}.antt: {name}" for (crate, module, name), its in known.items() if not its.sentence]
     bare += [f"crates/{crate}: {name}" for crate in crates for name, sentence in exported_types(crate) if not sentence]
-    return page, [*(f"{it} has no sentence above it" for it in bare), *laws.idle(premises, names, clauses), *laws.without(shown_as)]
+    wrong = [*(f"{it} has no sentence above it" for it in bare), *laws.idle(premises, names, clauses), *laws.without(shown_as)]
+    return page, [*wrong, *tried.wrong(known, shown_as)]
 
 
 def main(words):

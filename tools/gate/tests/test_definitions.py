@@ -2,7 +2,7 @@
 
 from unittest import mock
 
-from gate import definitions, laws
+from gate import definitions, laws, tried
 from gate.tests import Small
 
 HAS_ROOM = "-- a room has a place\nabbrev pub HasRoom : ℕ → Type 0\nHasRoom n = 0 < n\n"
@@ -13,9 +13,9 @@ USES = "ghost use Rattle.low.specs.Rooms.{HasRoom};\n\n"
 class Definitions(Small):
     def setUp(self):
         super().setUp()
-        listed = mock.patch.object(laws, "WITHOUT", {})
-        listed.start()
-        self.addCleanup(listed.stop)
+        for listed in (mock.patch.object(laws, "WITHOUT", {}), mock.patch.object(tried, "MOST", 0)):
+            listed.start()
+            self.addCleanup(listed.stop)
         (self.top / "docs").mkdir()
         self.write("crates.txt", "low:\nother:\nhigh: low\n")
         self.write("crates/low/specs/Lib.antt", "pub mod Rooms\n")
@@ -52,4 +52,40 @@ class Definitions(Small):
         self.write("crates/laws/src/lib.rt", USES + "pub fn law()\n    ensures { HasRoom 1 }\n{\n}\n")
         self.assertIn("lists HasRoom of low in vain", self.run_main(definitions, status=1))
         laws.WITHOUT.clear()
+        self.says_less("0 ≡ 0")
         self.run_main(definitions, "--write")
+
+    def says_less(self, new):
+        edit = f"edit: room_is_any\nlaw: laws::law unnamed\ndefinition: HasRoom\nold: 0 < n\nnew: {new}\ntwin: 0 + 0 < n\n"
+        self.write("crates/low/wrong-definitions.edits", edit)
+
+    def has_law(self):
+        self.write("crates/low/src/filling.rt", USES + "/// Fills.\n" + FILL.format("pub ").replace("requires", "ensures"))
+        self.write("crates.txt", "low:\nother:\nhigh: low\nlaws: low\n")
+        self.write("crates/laws/src/lib.rt", USES + "/// It has room.\npub fn law()\n    ensures { HasRoom 1 }\n{\n}\n")
+
+    def test_a_definition_has_a_wrong_one_that_says_less(self):
+        self.has_law()
+        lacks = "low: HasRoom has no wrong definition that says less and that a law refuses"
+        self.assertIn(lacks, self.run_main(definitions, status=1))
+        self.says_less("1 < n")
+        self.assertIn(lacks, self.run_main(definitions, status=1))
+        self.says_less("n ≡ n")
+        self.run_main(definitions, "--write")
+        self.run_main(definitions)
+        self.write(tried.FILE, "low HasRoom\n")
+        said = self.run_main(definitions, status=1)
+        self.assertIn(".ci/untried-definitions lists low HasRoom in vain", said)
+        self.assertIn("has 1 lines, and 0 are expected: it may only become shorter", said)
+
+    def test_a_definition_that_is_listed_needs_none(self):
+        self.has_law()
+        self.write(tried.FILE, "low HasRoom\n")
+        with mock.patch.object(tried, "MOST", 1):
+            self.run_main(definitions, "--write")
+
+    def test_a_definition_that_says_nothing_is_refused(self):
+        for body, status in (("n ≡ n", 1), ("(n ≡ n) × (0 ≡ 0)", 1), ("n ≡ n + 0", 0), ("(n ≡ n) × (0 < n)", 0)):
+            self.write("crates/low/specs/Rooms.antt", "-- Rooms.\n" + HAS_ROOM.replace("0 < n", body))
+            said = self.run_main(definitions, "--write", status=status)
+            self.assertEqual("HasRoom of low says nothing: each of its equations is of a text with itself" in said, bool(status), body)
