@@ -1,5 +1,6 @@
-/* What the core takes its memory by, for processors without an operating system: C's malloc, realloc and free. This file is plain C, and not proved.
- * The step to 32 bits (narrow) leaves names of its own; with 64 bits these are the kit's. */
+/* What the core takes its memory by, for processors without an operating system: what a caller has given, or C's malloc, realloc and free. This file is
+ * plain C, and not proved. The step to 32 bits (narrow) leaves names of its own; with 64 bits these are the kit's. */
+#include "given.h"
 #include "mintlintel_durable.h"
 #include <stdlib.h>
 
@@ -7,9 +8,24 @@
 _Static_assert(offsetof(struct mintlintel_core, is_open) == 8 && sizeof(struct mintlintel_core) == 16, "a handle of the core has 16 bytes");
 _Static_assert(offsetof(struct mintlintel_command, number) == 24 && sizeof(struct mintlintel_command) == 32, "a command has 32 bytes");
 
+static void *taken(size_t bytes, size_t align)
+{
+    bytes = bytes ? bytes : align;
+    return mtl_core_given ? mtl_lend(mtl_core_given, bytes) : malloc(bytes);
+}
+
+static void *taken_again(void *at, size_t bytes, size_t align)
+{
+    bytes = bytes ? bytes : align;
+    return mtl_core_given ? mtl_lend_again(mtl_core_given, at, bytes) : realloc(at, bytes);
+}
+
 void rattle_dealloc(void *at)
 {
-    free(at);
+    if (mtl_core_given)
+        mtl_take_back(at);
+    else
+        free(at);
 }
 
 #if UINTPTR_MAX > UINT32_MAX
@@ -24,26 +40,26 @@ static struct tried tried(void *at)
 
 struct tried rattle_alloc(size_t bytes, size_t align)
 {
-    return tried(malloc(bytes ? bytes : align));
+    return tried(taken(bytes, align));
 }
 
 struct tried rattle_realloc(void *at, size_t kept, size_t bytes, size_t align)
 {
     (void)kept;
-    return tried(realloc(at, bytes ? bytes : align));
+    return tried(taken_again(at, bytes, align));
 }
 
 #else
 
 void *rattle_narrow_alloc(size_t bytes, size_t align)
 {
-    return malloc(bytes ? bytes : align);
+    return taken(bytes, align);
 }
 
 void *rattle_narrow_realloc(void *at, size_t kept, size_t bytes, size_t align)
 {
     (void)kept;
-    return realloc(at, bytes ? bytes : align);
+    return taken_again(at, bytes, align);
 }
 
 #endif

@@ -43,7 +43,7 @@ $(QUICK)/$(TARGET)/%.o: $(QUICK)/module/%.ll
 $(QUICK)/$(TARGET)/libmintlintel.a: SUFFIX := '-DMINTLINTEL_SUFFIX=", not proved"'
 %/$(TARGET)/libmintlintel.a: $(CRATES:%=\%/$(TARGET)/%.o) $(PLAIN) $(HEADERS) cross/memory.c cross/target.mk
 	rm -rf $(@D)/objects && mkdir -p $(@D)/objects
-	cd $(@D)/objects && $(COMPILE) $(SUFFIX) $(abspath $(PLAIN)) && $(COMPILE) -std=c11 -Dmalloc=mtl_malloc -Drealloc=mtl_realloc $(abspath cross/memory.c) -o heap.o
+	cd $(@D)/objects && $(COMPILE) $(SUFFIX) $(abspath $(PLAIN)) && $(COMPILE) -std=c11 -I$(abspath src) -Dmalloc=mtl_malloc -Drealloc=mtl_realloc -Dfree=mtl_free $(abspath cross/memory.c) -o heap.o
 	rm -f $@ && $(KIT_AR) rcsD $@ $(filter %.o,$^) $(@D)/objects/*.o
 else
 # The name of a target to which the module is narrowed, and the words of both compilers.
@@ -63,7 +63,7 @@ ATOMIC_thumbv6m := '-D__atomic_load_n(at,order)=(*(at))'
 # Enumerations are as large as in objects of arm-none-eabi-gcc. No struct or call of a header has one.
 ENUMS := $(if $(filter thumb%,$(TARGET)),-fshort-enums)
 WORDS := $(WORDS_$(TARGET)) $(OPTIMIZE) -ffunction-sections -fdata-sections
-BARE := $(addprefix src/,durable.c torn.c stamp.c crc.c limits.c) cross/memory.c
+BARE := $(addprefix src/,durable.c given.c room.c torn.c stamp.c crc.c limits.c) cross/memory.c
 BARE_COMPILE := $(BARE_CC) $(WORDS) -std=c11 -ffreestanding -fno-builtin $(ENUMS) $(ATOMIC_$(TARGET)) -g $(ANYWHERE) -Wall -Wextra -Werror -Icross/include -Iinclude -Isrc -c
 
 %/$(TARGET)/core.o: %/module/durable_exports.ll cross/narrow cross/narrow.ll cross/target.mk

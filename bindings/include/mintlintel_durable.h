@@ -42,7 +42,7 @@ enum mintlintel_durable_code {
     MINTLINTEL_CUT_SHORT = 45,     /* an image: the file is shorter than its device */
     MINTLINTEL_FILE_FAILED = 46,   /* an image: a read, a write or a sync of the file failed; errno says why */
     MINTLINTEL_OTHER_PROCESS = 47, /* an image: this process is a child of the one that has it open */
-    MINTLINTEL_BAD_MODE = 48,      /* an image: there is no such mode */
+    MINTLINTEL_BAD_MODE = 48,      /* there is no such mode of an image, or no such flag of an open */
     MINTLINTEL_BAD_BLOCKS_LISTED = 49 /* an image: a block device has listed bad blocks beside it, and only a block device opens it */
 };
 
@@ -111,7 +111,27 @@ uint32_t mintlintel_durable_open(struct mintlintel_durable *device, const struct
 uint32_t mintlintel_durable_open_despite_losses(struct mintlintel_durable *device, const struct mintlintel_nand *nand, uint32_t luns, uint32_t blocks,
                                                 uint32_t pages, uint32_t page_bytes, uint32_t sectors, uint64_t *losses);
 
-/* Frees the memory. It gives the flash no command: an open after it, or after none, finds the same. */
+/* How a device is opened in memory that the caller gives: 0, or a sum of these. */
+enum mintlintel_durable_flag {
+    MINTLINTEL_DESPITE_LOSSES = 1, /* also where there are losses, which mintlintel_durable_losses tells */
+    /* The flash tells torn pages by itself, as ECC does that a read of the stamp alone checks over the whole page: `read` returns 1 or 2 for each page whose
+     * program was cut or failed, unless its bytes are as they were to be, and for each one that an erase has changed. Then an open reads each stamp once,
+     * and keeps none. Without the flag it takes 12 bytes for a page and 8 for a sector while it opens, and reads whole what may be torn. */
+    MINTLINTEL_TELLS_TORN = 2
+};
+
+/* How many bytes a device with these numbers takes, from its open to its close: an open in so many succeeds as far as memory goes, and one in fewer is
+ * refused. 0 if an open refuses the numbers or the flags. It is the same after each open, and greater where pointers are. */
+uint64_t mintlintel_durable_bytes(const struct mintlintel_durable_numbers *numbers, uint32_t flags);
+
+/* Mounts the device as mintlintel_durable_open does, in memory of the caller's that it has up to the close: neither this nor any later call on the handle
+ * calls an allocator, and none lacks memory. Memory that isn't aligned to 16 bytes loses those before. 0; 8; the first fault of the numbers; 48 for other
+ * flags; 6 if there are fewer bytes than mintlintel_durable_bytes says; otherwise as mintlintel_durable_open. Without an operating system a variable tells
+ * the core's allocator of this memory: let no other task open or close a device, write or trim at the same time. */
+uint32_t mintlintel_durable_open_in(struct mintlintel_durable *device, const struct mintlintel_nand *nand, const struct mintlintel_durable_numbers *numbers,
+                                    uint32_t flags, void *memory, size_t bytes);
+
+/* Frees the memory, or leaves what was given to the caller. It gives the flash no command: an open after it, or after none, finds the same. */
 void mintlintel_durable_close(struct mintlintel_durable *device);
 
 /* Reads a sector into `out`, of page_bytes bytes: 1 with the page in `out`; 0 for an empty sector; 2, 3, 4 or 28; 33 if the page can't be read, up to a

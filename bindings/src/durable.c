@@ -2,7 +2,6 @@
 #include "durable.h"
 #include "crc.h"
 #include "flash.h"
-#include <stdlib.h>
 #include <string.h>
 
 enum { PROGRAM = 1, COPY = 2, ERASE = 3 };
@@ -14,6 +13,7 @@ enum { SAMPLES = 8 };
 enum { MOST_TRIMMED = 4096 };
 /* Of so many blocks one is in reserve, and at least one of a device, if the sectors leave room for it. */
 enum { ONE_RESERVE_IN = 50 };
+enum { ALL_FLAGS = MINTLINTEL_DESPITE_LOSSES | MINTLINTEL_TELLS_TORN };
 
 /* A new version of some sectors: its kind, and the bytes of a value. */
 struct update { uint32_t kind, first, count; const uint8_t *bytes; };
@@ -88,6 +88,32 @@ static uint32_t perform(struct mintlintel_flash *flash, const struct mintlintel_
         : command->kind == COPY ? copy(flash, command) : erase(flash, command->block);
 }
 
+/* ---- The calls of the core that take memory or free it ---- */
+
+static uint32_t core_open(struct mintlintel_durable *device)
+{
+    const struct mintlintel_flash *flash = device->flash;
+    mtl_core_given = flash->given;
+    uint32_t code = mintlintel_core_open_over(&device->core, flash->numbers.blocks, flash->used, flash->numbers.pages, flash->numbers.sectors);
+    mtl_core_given = NULL;
+    return code;
+}
+
+static uint32_t core_finish(struct mintlintel_durable *device)
+{
+    mtl_core_given = device->flash->given;
+    uint32_t code = mintlintel_core_finish(&device->core);
+    mtl_core_given = NULL;
+    return code;
+}
+
+static void core_close(struct mintlintel_durable *device)
+{
+    mtl_core_given = device->flash ? device->flash->given : NULL;
+    mintlintel_core_close(&device->core);
+    mtl_core_given = NULL;
+}
+
 /* ---- Opening ---- */
 
 /* After these codes memory and flash may differ, so that only an open helps. */
@@ -104,30 +130,32 @@ static uint32_t stops(struct mintlintel_flash *flash, uint32_t code)
 
 static void free_flash(struct mintlintel_flash *flash)
 {
-    if (flash) {
-        free(flash->chip_block);
-        free(flash->erases);
-        free(flash->state);
-        free(flash->has_value);
-        free(flash->page);
-        free(flash->moved);
-        free(flash);
-    }
+    struct mtl_given *given = flash ? flash->given : NULL;
+    if (!flash)
+        return;
+    mtl_free_to(given, flash->chip_block);
+    mtl_free_to(given, flash->erases);
+    mtl_free_to(given, flash->state);
+    mtl_free_to(given, flash->has_value);
+    mtl_free_to(given, flash->page);
+    mtl_free_to(given, flash->moved);
+    mtl_free_to(given, flash);
 }
 
-static struct mintlintel_flash *make_flash(const struct mintlintel_nand *nand, const struct mintlintel_durable_numbers *numbers)
+static struct mintlintel_flash *make_flash(struct mtl_given *given, const struct mintlintel_nand *nand, const struct mintlintel_durable_numbers *numbers)
 {
-    struct mintlintel_flash *flash = calloc(1, sizeof *flash);
+    struct mintlintel_flash *flash = mtl_take(given, sizeof *flash);
     if (!flash)
         return NULL;
+    flash->given = given;
     flash->nand = *nand;
     flash->numbers = *numbers;
-    flash->chip_block = calloc(numbers->blocks, sizeof *flash->chip_block);
-    flash->erases = calloc(numbers->blocks, sizeof *flash->erases);
-    flash->state = calloc(numbers->blocks, 1);
-    flash->has_value = calloc(numbers->sectors / 8 + 1, 1);
-    flash->page = malloc(numbers->page_bytes);
-    flash->moved = malloc(numbers->page_bytes);
+    flash->chip_block = mtl_take(given, numbers->blocks * sizeof *flash->chip_block);
+    flash->erases = mtl_take(given, numbers->blocks * sizeof *flash->erases);
+    flash->state = mtl_take(given, numbers->blocks);
+    flash->has_value = mtl_take(given, numbers->sectors / 8 + 1);
+    flash->page = mtl_take(given, numbers->page_bytes);
+    flash->moved = mtl_take(given, numbers->page_bytes);
     if (flash->chip_block && flash->erases && flash->state && flash->has_value && flash->page && flash->moved)
         return flash;
     free_flash(flash);
@@ -201,8 +229,9 @@ static uint32_t note_block(struct mintlintel_durable *device, uint32_t block, st
             continue;
         flash->newest = stamp.number > flash->newest ? stamp.number : flash->newest;
         flash->stranded = block < flash->used ? flash->stranded : 0;
-        if (opening && stamp.number >= newest) {
+        if (opening)
             opening->has_trace = 1;
+        if (opening && !flash->stamps.pages && stamp.number >= newest) {
             newest = stamp.number;
             flash->erases[flash->chip_block[block]] = stamp.erases;
         }
@@ -269,16 +298,16 @@ static uint32_t mount_core(struct mintlintel_durable *device, struct opening *op
         add_earlier(flash, &totals);
         flash->earlier = totals;
     }
-    mintlintel_core_close(&device->core);
+    core_close(device);
     flash->stranded = n->sectors;
-    uint32_t code = mintlintel_core_open_over(&device->core, n->blocks, flash->used, n->pages, n->sectors);
+    uint32_t code = core_open(device);
     if (code == MINTLINTEL_DONE)
         code = mtl_stamps_read(flash, opening);
     for (uint32_t block = 0; code == MINTLINTEL_DONE && block < n->blocks; block++)
         code = note_block(device, block, opening);
     mtl_stamps_free(flash);
     if (code == MINTLINTEL_DONE)
-        code = mintlintel_core_finish(&device->core);
+        code = core_finish(device);
     if (code != MINTLINTEL_DONE)
         return code;
     tell_erases(device);
@@ -313,23 +342,29 @@ static uint32_t open_flash(struct mintlintel_durable *device)
     return is_mounted && opening.has_trace && !opening.has_fit ? sample(device, code) : code;
 }
 
-uint32_t mtl_durable_open(struct mintlintel_durable *device, const struct mintlintel_nand *nand, const struct mintlintel_durable_numbers *numbers,
-                          struct mtl_reason *reason, uint64_t *losses)
+/* Opens a device that `flags` tell of, in memory that is given or else by the allocator. */
+static uint32_t open_in(struct mintlintel_durable *device, const struct mintlintel_nand *nand, const struct mintlintel_durable_numbers *numbers, uint32_t flags,
+                        struct mtl_reason *reason, struct mtl_given *given)
 {
-    if (device->flash)
-        return MINTLINTEL_ALREADY_OPEN;
-    uint32_t code = mtl_durable_fault(numbers);
-    if (code != MINTLINTEL_DONE)
-        return code;
-    device->flash = make_flash(nand, numbers);
+    device->flash = make_flash(given, nand, numbers);
     if (!device->flash)
         return MINTLINTEL_NO_MEMORY;
     device->flash->reason = reason;
-    device->flash->despite_losses = losses != NULL;
-    code = stops(device->flash, open_flash(device));
+    device->flash->tells_torn = reason || flags & MINTLINTEL_TELLS_TORN;
+    device->flash->despite_losses = flags & MINTLINTEL_DESPITE_LOSSES;
+    uint32_t code = stops(device->flash, open_flash(device));
     if (code != MINTLINTEL_DONE)
         mintlintel_durable_close(device);
-    else if (losses)
+    return code;
+}
+
+uint32_t mtl_durable_open(struct mintlintel_durable *device, const struct mintlintel_nand *nand, const struct mintlintel_durable_numbers *numbers,
+                          struct mtl_reason *reason, uint64_t *losses)
+{
+    uint32_t code = device->flash ? MINTLINTEL_ALREADY_OPEN : mtl_durable_fault(numbers);
+    if (code == MINTLINTEL_DONE)
+        code = open_in(device, nand, numbers, losses ? MINTLINTEL_DESPITE_LOSSES : 0, reason, NULL);
+    if (code == MINTLINTEL_DONE && losses)
         *losses = device->flash->losses;
     return code;
 }
@@ -348,9 +383,26 @@ uint32_t mintlintel_durable_open_despite_losses(struct mintlintel_durable *devic
     return mtl_durable_open(device, nand, &numbers, NULL, losses);
 }
 
+uint32_t mintlintel_durable_open_in(struct mintlintel_durable *device, const struct mintlintel_nand *nand, const struct mintlintel_durable_numbers *numbers,
+                                    uint32_t flags, void *memory, size_t bytes)
+{
+    uint32_t code = device->flash ? MINTLINTEL_ALREADY_OPEN : mtl_durable_fault(numbers);
+    if (code == MINTLINTEL_DONE && flags & ~(uint32_t)ALL_FLAGS)
+        code = MINTLINTEL_BAD_MODE;
+    if (code != MINTLINTEL_DONE)
+        return code;
+    struct mtl_given *given = mtl_given_from(memory, bytes, mtl_durable_bytes(numbers, flags & MINTLINTEL_TELLS_TORN));
+    return given ? open_in(device, nand, numbers, flags, NULL, given) : MINTLINTEL_NO_MEMORY;
+}
+
+uint64_t mintlintel_durable_bytes(const struct mintlintel_durable_numbers *numbers, uint32_t flags)
+{
+    return mtl_durable_fault(numbers) != MINTLINTEL_DONE || flags & ~(uint32_t)ALL_FLAGS ? 0 : mtl_durable_bytes(numbers, flags & MINTLINTEL_TELLS_TORN);
+}
+
 void mintlintel_durable_close(struct mintlintel_durable *device)
 {
-    mintlintel_core_close(&device->core);
+    core_close(device);
     free_flash(device->flash);
     device->flash = NULL;
 }
@@ -700,22 +752,34 @@ uint32_t mintlintel_durable_losses(struct mintlintel_durable *device, uint64_t *
 
 const uint32_t *mtl_durable_erases(const struct mintlintel_durable *device) { return device->flash->erases; }
 
-uint32_t mintlintel_durable_block(struct mintlintel_durable *device, uint32_t block, struct mintlintel_block *report)
+/* How many pages of a block have a sector. Several may have the same one: as many pages at a time are looked through as a page has bits for. */
+static uint32_t count_live(struct mintlintel_durable *device, uint32_t block)
 {
     struct mintlintel_flash *flash = device->flash;
     struct mintlintel_place at;
+    uint32_t live = 0, bits = 8 * flash->numbers.page_bytes;
+    for (uint32_t first = 0; first < flash->numbers.pages; first += bits) {
+        memset(flash->page, 0, flash->numbers.page_bytes);
+        for (uint32_t sector = 0; sector < flash->numbers.sectors; sector++) {
+            if (mintlintel_core_page(&device->core, sector, &at) != MINTLINTEL_WRITTEN || flash->chip_block[at.block] != block)
+                continue;
+            uint32_t bit = at.page - first;
+            if (at.page < first || bit >= bits)
+                continue;
+            live += !(flash->page[bit / 8] >> bit % 8 & 1);
+            flash->page[bit / 8] |= (uint8_t)(1u << bit % 8);
+        }
+    }
+    return live;
+}
+
+uint32_t mintlintel_durable_block(struct mintlintel_durable *device, uint32_t block, struct mintlintel_block *report)
+{
+    struct mintlintel_flash *flash = device->flash;
     if (!flash || block >= flash->numbers.blocks)
         return flash ? MINTLINTEL_NO_SUCH_BLOCK : MINTLINTEL_CLOSED;
-    uint8_t is_live[MTL_MOST_PAGES / 8] = {0}; /* a bit for each page: several sectors may have it */
-    uint32_t live = 0;
-    for (uint32_t sector = 0; sector < flash->numbers.sectors; sector++) {
-        if (mintlintel_core_page(&device->core, sector, &at) != MINTLINTEL_WRITTEN || flash->chip_block[at.block] != block)
-            continue;
-        live += !(is_live[at.page / 8] >> at.page % 8 & 1);
-        is_live[at.page / 8] |= (uint8_t)(1u << at.page % 8);
-    }
     report->erases = flash->erases[block];
-    report->live = live;
+    report->live = count_live(device, block);
     report->retired = flash->state[block] != GOOD;
     return MINTLINTEL_DONE;
 }

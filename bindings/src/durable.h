@@ -2,6 +2,7 @@
 #ifndef DURABLE_H
 #define DURABLE_H
 
+#include "given.h"
 #include "mintlintel_durable.h"
 #include "stamp.h"
 
@@ -9,8 +10,9 @@
  * and what is left in it must not be mapped, since an erase may lose pages before others. */
 enum { GOOD, FAILED, MARKED };
 
-/* A page as its stamp tells it: what a read of the stamp alone returned, and if that is 0 the version. */
-struct noted { uint64_t number; uint32_t sector, count, erases : 24, reading : 2; };
+/* A page as its stamp tells it: what a read of the stamp alone returned, and if that is 0 the version. Of how many sectors one is isn't kept, but
+ * whether it is of several. */
+struct noted { uint32_t number_low, sector, number_high : 24, reading : 2, is_of_several : 1; };
 
 /* What a mount reads first: each page as its stamp tells it, and of each sector twice the newest number, and one more if two pages have it. */
 struct stamps { struct noted *pages; uint64_t *newest; };
@@ -18,6 +20,7 @@ struct stamps { struct noted *pages; uint64_t *newest; };
 /* What a handle keeps beside its core. The core numbers the blocks that are in use, then those in reserve, then the bad ones: `chip_block` gives the
  * chip's number of each. `state` and `erases` go by the chip's numbers. */
 struct mintlintel_flash {
+    struct mtl_given *given; /* the memory that the caller has given, or null: then the allocator's */
     struct mintlintel_nand nand;
     struct mintlintel_durable_numbers numbers;
     uint32_t *chip_block, *erases;
@@ -31,7 +34,8 @@ struct mintlintel_flash {
     uint64_t losses; /* what the last mount has told */
     int despite_losses; /* the caller goes on with losses */
     struct stamps stamps; /* while it mounts */
-    struct mtl_reason *reason; /* if there is one, the flash is an image, which tells torn pages by itself */
+    struct mtl_reason *reason; /* if there is one, the flash is an image */
+    int tells_torn; /* the flash tells torn pages by itself, as an image does */
     uint32_t stopped; /* the code that every call returns since the power went, or a sync or a mount failed, or 0 */
     uint32_t worn; /* the code of writes and trims since bad blocks have left no room, or 0 */
     uint8_t *page, *moved;
@@ -48,6 +52,13 @@ int mtl_read_page(struct mintlintel_flash *flash, uint32_t block, uint32_t page,
 
 /* Whether a mount reads a block. */
 int mtl_is_read(const struct mintlintel_flash *flash, uint32_t block);
+
+/* Memory of zeros for what a handle keeps, or null; and frees it. */
+void *mtl_take(struct mtl_given *given, uint64_t bytes);
+void mtl_free_to(struct mtl_given *given, void *memory);
+
+/* How many bytes a device takes of memory that is given for it. */
+uint64_t mtl_durable_bytes(const struct mintlintel_durable_numbers *numbers, int tells_torn);
 
 /* Reads what the stamps tell, of a flash that doesn't tell torn pages by itself: 0, 6, 28 or 30. And frees it. */
 uint32_t mtl_stamps_read(struct mintlintel_flash *flash, struct opening *opening);

@@ -14,6 +14,8 @@ static uint32_t sectors, last_value;
 static long reserve; /* how many failures the device survives at least */
 static uint64_t state = 88172645463325252u;
 static long calls, reads, opens, ends;
+static void *given; /* the memory of a device that was opened in some */
+static int tells_torn; /* the chip tells each torn page */
 
 static void fill(uint8_t *page, uint32_t value)
 {
@@ -44,15 +46,33 @@ static void check_sector(uint32_t sector)
     CHECK(!"a sector holds neither what was acknowledged nor what was begun");
 }
 
+static void close_device(void)
+{
+    mintlintel_durable_close(&device);
+    free(given);
+    given = NULL;
+}
+
+/* Opens the device by the allocator, or in exactly as much memory as it needs; where the chip tells torn pages, also with the flag for that. */
+static uint32_t open_in_turn(void)
+{
+    struct mintlintel_durable_numbers numbers = {1, CHIP_BLOCKS, CHIP_PAGES, CHIP_PAGE_BYTES, sectors};
+    uint32_t flags = tells_torn && opens % 2 ? MINTLINTEL_TELLS_TORN : 0;
+    size_t bytes = (size_t)mintlintel_durable_bytes(&numbers, flags);
+    if (opens++ % 3 == 0)
+        return mintlintel_durable_open(&device, &nand, 1, CHIP_BLOCKS, CHIP_PAGES, CHIP_PAGE_BYTES, sectors);
+    given = malloc(bytes);
+    return mintlintel_durable_open_in(&device, &nand, &numbers, flags, given, bytes);
+}
+
 /* Opens the device, again and again while the power goes, and 0 once bad blocks have left no room. */
 static int open_device(void)
 {
     for (;;) {
         chip.is_off = 0;
         memset(chip.failed, 0, sizeof chip.failed);
-        mintlintel_durable_close(&device);
-        uint32_t code = mintlintel_durable_open(&device, &nand, 1, CHIP_BLOCKS, CHIP_PAGES, CHIP_PAGE_BYTES, sectors);
-        opens++;
+        close_device();
+        uint32_t code = open_in_turn();
         if (code == MINTLINTEL_NO_ROOM) {
             CHECK(chip.fails > reserve);
             return 0;
@@ -174,7 +194,7 @@ static void check_closed(void)
     struct mintlintel_totals totals;
     struct mintlintel_block block;
     struct mintlintel_durable_numbers numbers;
-    mintlintel_durable_close(&device);
+    close_device();
     CHECK(mintlintel_durable_read(&device, 0, page, sizeof page) == MINTLINTEL_CLOSED);
     CHECK(mintlintel_durable_write(&device, 0, page, sizeof page) == MINTLINTEL_CLOSED);
     CHECK(mintlintel_durable_write_new(&device, 0, page, sizeof page) == MINTLINTEL_CLOSED);
@@ -199,6 +219,7 @@ static void begin(void)
     chip.one_cut_in = cuts[drawn(&state) % 4];
     chip.one_fail_in = fails[drawn(&state) % 4];
     chip.hides_torn = drawn(&state) % 2;
+    tells_torn = !chip.hides_torn;
     reserve = sectors < (CHIP_BLOCKS - bad - 2) * CHIP_PAGES && bad == 0;
     nand = (struct mintlintel_nand){&chip, chip_read, chip_program, chip_copyback, chip_erase, chip_is_bad, chip_mark_bad, chip_sync};
     uint32_t left_out = drawn(&state);
@@ -242,7 +263,7 @@ static void begin_sound(void)
     begin();
     memset(chip.bad, 0, sizeof chip.bad);
     sectors = (CHIP_BLOCKS - 2) * CHIP_PAGES - 1;
-    chip.one_cut_in = chip.one_fail_in = 0;
+    chip.one_cut_in = chip.one_fail_in = tells_torn = 0;
     reserve = 1;
     nand.mark_bad = chip_mark_bad;
 }
@@ -262,7 +283,7 @@ static void add_reserve(void)
         CHECK(open_device());
         write_some(1 + drawn(&state) % 60);
     }
-    mintlintel_durable_close(&device);
+    close_device();
 }
 
 /* With room for five blocks more than the sectors need, five blocks fail one after another, and no call is refused: another block is in reserve soon
@@ -281,14 +302,14 @@ static void fail_often(void)
         }
         write_some(60);
         check_blocks();
-        mintlintel_durable_close(&device);
+        close_device();
     }
 }
 
 /* Opens the device as it is, and blocks that have failed before count as failed still. */
 static void open_again(void)
 {
-    mintlintel_durable_close(&device);
+    close_device();
     CHECK(mintlintel_durable_open(&device, &nand, 1, CHIP_BLOCKS, CHIP_PAGES, CHIP_PAGE_BYTES, sectors) == MINTLINTEL_DONE);
 }
 
@@ -318,7 +339,7 @@ static void mark_at_once(void)
             if (is_marked && drawn(&state) % 8 == 0)
                 open_again();
         }
-        mintlintel_durable_close(&device);
+        close_device();
     }
     CHECK(marked > 1000);
 }
@@ -376,7 +397,7 @@ static void lose_pages(void)
         found += lost < sectors;
         CHECK(lost == sectors || write_one(lost, 0) == MINTLINTEL_WRITTEN);
         CHECK(open_device());
-        mintlintel_durable_close(&device);
+        close_device();
     }
     CHECK(found > 10);
 }
@@ -406,7 +427,7 @@ static void tear_twins(void)
         CHECK(open_device());
         for (uint32_t sector = 0; sector < sectors; sector++)
             check_sector(sector);
-        mintlintel_durable_close(&device);
+        close_device();
     }
     CHECK(found > 100);
 }
@@ -434,7 +455,7 @@ static long fail_each(void)
         reports();
         check_blocks();
         CHECK(open_device());
-        mintlintel_durable_close(&device);
+        close_device();
     }
     return fails;
 }
@@ -455,7 +476,7 @@ static void trim_at_once(void)
             CHECK(open_device());
     }
     reports();
-    mintlintel_durable_close(&device);
+    close_device();
 }
 
 static void run(long steps)
@@ -533,7 +554,7 @@ static void keep_trims(void)
             found += set_values(TRIMMED, mounts ? TORN : VERSION, mounts ? VERSION : TORN) * mounts;
             CHECK(open_device());
         }
-        mintlintel_durable_close(&device);
+        close_device();
     }
     CHECK(found > 100);
 }
@@ -612,7 +633,7 @@ static void wear_evenly_over_opens(void)
     for (int round = 0; round < 400; round++) {
         CHECK(open_device());
         write_some(CHIP_PAGES);
-        mintlintel_durable_close(&device);
+        close_device();
     }
     for (int block = 0; block < CHIP_BLOCKS - 1; block++) {
         least = chip.erases[block] < least ? chip.erases[block] : least;
@@ -656,7 +677,7 @@ static void lose_counts(void)
         chip.one_cut_in = 0;
     }
     CHECK(lost > 100);
-    mintlintel_durable_close(&device);
+    close_device();
 }
 
 int main(int argc, char **argv)
