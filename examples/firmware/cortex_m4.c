@@ -37,8 +37,7 @@ static void reset(void)
 {
     for (uint32_t *at = bss_start; at < bss_end; at++)
         *at = 0;
-    for (uint32_t *at = stack_end, *here = __builtin_frame_address(0); at < here - 16; at++)
-        *at = NEVER_USED;
+    board_stack_anew();
     UART_DIVIDER = 16;
     UART_CONTROL = 1;
     TIMER_RELOAD = TIMER_VALUE = 0xffffffff;
@@ -87,6 +86,12 @@ void board_end(int status)
     register uint32_t *passed __asm__("r1") = block;
     __asm__ volatile("bkpt 0xab" ::"r"(operation), "r"(passed) : "memory");
     for (;;) {}
+}
+
+void board_stack_anew(void)
+{
+    for (uint32_t *at = stack_end, *here = __builtin_frame_address(0); at < here - 16; at++)
+        *at = NEVER_USED;
 }
 
 uint32_t board_stack(void)

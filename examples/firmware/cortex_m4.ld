@@ -8,7 +8,7 @@ SECTIONS
     .data : { *(.data*) } > ram :ram
     .bss (NOLOAD) : ALIGN(8) { bss_start = .; *(.bss*) *(COMMON) . = ALIGN(8); bss_end = .; } > ram :ram
     .stack (NOLOAD) : ALIGN(8) { stack_end = .; . += 0x4000; stack_top = .; } > ram :ram
-    .arena (NOLOAD) : ALIGN(16) { *(.arena) } > psram :NONE
+    .memory (NOLOAD) : ALIGN(16) { *(.memory) } > psram :NONE
     .outlives_reset (NOLOAD) : ALIGN(8) { *(.outlives_reset) } > psram :NONE
     /DISCARD/ : { *(.comment) *(.ARM.exidx*) *(.ARM.extab*) }
 }

@@ -1,12 +1,14 @@
 /* What calls cost on a full device of 128 MiB, in instructions: a nanosecond of QEMU's -icount shift=0 is one. The flash is a list of stamps, all pages have
  * the same few bytes, and what its driver takes isn't counted. */
-#include "arena.h"
 #include "board.h"
 #include "log.h"
 #include <mintlintel_durable.h>
 #include <string.h>
 
-enum { BLOCKS = 1024, PAGES = 64, SECTORS = 61440, PAGE_BYTES = 64, WARM = 20000, MEASURED = 2000, TRIMMED = 64, WHOLE_PAGE = 2048 };
+enum { BLOCKS = 1024, PAGES = 64, SECTORS = 61440, PAGE_BYTES = 64, WARM = 20000, MEASURED = 2000, TRIMMED = 64, WHOLE_PAGE = 2048, MEMORY_BYTES = 4 << 20 };
+
+static const struct mintlintel_durable_numbers numbers = {1, BLOCKS, PAGES, PAGE_BYTES, SECTORS};
+static uint8_t memory[MEMORY_BYTES] OF_DEVICE;
 
 static struct { uint8_t stamp[MINTLINTEL_STAMP_BYTES], has_version; } flash[BLOCKS * PAGES] OUTLIVES_RESET;
 static uint32_t commands, page_reads, driver_time, driver_began;
@@ -78,9 +80,9 @@ static uint32_t any(uint32_t below)
     return (uint32_t)(chance >> 32) % below;
 }
 
-static void open(void)
+static void open(uint32_t flags)
 {
-    uint32_t code = mintlintel_durable_open(&device, &nand, 1, BLOCKS, PAGES, PAGE_BYTES, SECTORS);
+    uint32_t code = mintlintel_durable_open_in(&device, &nand, &numbers, flags, memory, (size_t)mintlintel_durable_bytes(&numbers, flags));
     if (code)
         say("WRONG:"), tell("open", code), say("\n"), board_end(1);
 }
@@ -111,29 +113,52 @@ static uint32_t check(void) { return mintlintel_crc32c(0, whole, WHOLE_PAGE) & 1
 static uint32_t reopen(void)
 {
     mintlintel_durable_close(&device);
-    arena.most = page_reads = 0;
-    open();
+    page_reads = 0;
+    board_stack_anew();
+    open(MINTLINTEL_TELLS_TORN);
+    return 0;
+}
+
+/* The same where the flash doesn't tell torn pages. */
+static uint32_t reopen_by_checks(void)
+{
+    mintlintel_durable_close(&device);
+    page_reads = 0;
+    open(0);
     return 0;
 }
 
 void controller_begin(void) {}
 void controller_interrupt(void) {}
 
+/* The memory that a device needs where the flash tells torn pages, and where it doesn't. */
+static void tell_memory(void)
+{
+    static const struct mintlintel_durable_numbers sizes[] = {SIZES};
+    for (size_t i = 0; i < sizeof sizes / sizeof *sizes; i++) {
+        say("needs:"), tell("blocks", sizes[i].blocks), tell("bytes", (uint32_t)mintlintel_durable_bytes(&sizes[i], MINTLINTEL_TELLS_TORN));
+        tell("by checks", (uint32_t)mintlintel_durable_bytes(&sizes[i], 0)), say("\n");
+    }
+}
+
 void firmware(void)
 {
-    open();
+    open(MINTLINTEL_TELLS_TORN);
     for (uint32_t sector = 0; sector < SECTORS; sector++)
         mintlintel_durable_write(&device, sector, page, PAGE_BYTES);
-    uint32_t allocations = arena.calls;
     for (uint32_t k = 0; k < WARM; k++)
         write();
+    board_stack_anew();
     cost("write", MEASURED, write);
     cost("read", MEASURED, look);
-    say("allocations:"), tell("by calls", arena.calls - allocations), say("\n");
+    say("calls:"), tell("stack", board_stack()), say("\n");
     cost("open", 1, reopen);
-    say("memory:"), tell("at rest", (uint32_t)arena.used), tell("while it opens", (uint32_t)arena.most), tell("page reads of an open", page_reads), say("\n");
+    say("opens:"), tell("stack", board_stack()), tell("page reads", page_reads), say("\n");
+    cost("check", 1, reopen_by_checks);
+    say("checks:"), tell("page reads", page_reads), say("\n");
     cost("trim", MEASURED / 10, trim);
     cost("crc", 10, check);
-    say("stack:"), tell("most", board_stack()), say("\n");
+    tell_memory();
+    say("end\n");
     board_end(0);
 }

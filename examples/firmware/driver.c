@@ -1,5 +1,6 @@
 /* The driver of the controller, as an author of firmware writes one: each function starts a command, and sleeps until its interrupt. The layer calls them
- * one at a time. A page that the power left torn is told by the controller's ECC; one that it doesn't tell the layer finds by its stamp's check. */
+ * one at a time. A page that the power left torn is told by the controller's ECC, also where the layer asks for the stamp alone: so the device is opened
+ * with MINTLINTEL_TELLS_TORN. Without that flag the layer finds such pages by their stamps' checks, and an open takes more memory. */
 #include "driver.h"
 #include "board.h"
 #include "controller.h"

@@ -1,5 +1,5 @@
-/* What a device takes of memory, on this machine: what the layer and its core ask malloc for, at rest and at most while a device is opened whose sectors are
- * all written. memory BLOCKS PAGES PAGE_BYTES SECTORS. Linked with --wrap=malloc,--wrap=calloc,--wrap=realloc,--wrap=free. */
+/* What a device takes of memory, on this machine, by the allocator: at rest, and at most while a device is opened whose sectors are all written. memory BLOCKS
+ * PAGES PAGE_BYTES SECTORS. Linked with --wrap=malloc,--wrap=calloc,--wrap=realloc,--wrap=free. */
 #include <mintlintel_durable.h>
 #include <stdio.h>
 #include <stdlib.h>

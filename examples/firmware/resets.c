@@ -1,6 +1,5 @@
 /* A device that is reset in the middle of commands. Each start mounts it, and compares every sector with what was acknowledged before: only the call that
  * the reset came in may be there or not. Then it writes, trims and reads until the next reset. */
-#include "arena.h"
 #include "board.h"
 #include "controller.h"
 #include "driver.h"
@@ -10,7 +9,7 @@
 #ifndef RESETS
 #define RESETS 1000
 #endif
-enum { NEW = 0x7265636f, MOST_COMMANDS = 40, MOST_TRIMMED = 12 };
+enum { NEW = 0x7265636f, MOST_COMMANDS = 40, MOST_TRIMMED = 12, MEMORY_BYTES = 24 << 10 };
 
 /* What the firmware of a real device couldn't know: each sector's newest acknowledged serial (0: empty), and the call that is begun. */
 static volatile struct {
@@ -18,6 +17,9 @@ static volatile struct {
 } record OUTLIVES_RESET;
 
 static struct mintlintel_durable device;
+static const struct mintlintel_durable_numbers numbers = {1, BLOCKS, PAGES, PAGE_BYTES, SECTORS};
+/* All the memory that the device has, but for its handle. mintlintel_durable_bytes says how much it needs. */
+static uint8_t memory[MEMORY_BYTES] OF_DEVICE;
 static uint8_t page[PAGE_BYTES] __attribute__((aligned(8))), out[PAGE_BYTES] __attribute__((aligned(8)));
 
 static void fail(const char *what, uint32_t code)
@@ -56,9 +58,9 @@ static uint32_t found(uint32_t sector)
 static void mount(void)
 {
     uint32_t reads = controller_counts()->reads, there = 0;
-    uint32_t code = mintlintel_durable_open(&device, &driver, 1, BLOCKS, PAGES, PAGE_BYTES, SECTORS);
+    uint32_t code = mintlintel_durable_open_in(&device, &driver, &numbers, MINTLINTEL_TELLS_TORN, memory, sizeof memory);
     if (code != MINTLINTEL_DONE) {
-        fail("open", code);
+        fail("open", code), tell("bytes needed", (uint32_t)mintlintel_durable_bytes(&numbers, MINTLINTEL_TELLS_TORN));
         board_end(1);
     }
     reads = controller_counts()->reads - reads;
@@ -126,10 +128,10 @@ static void end(void)
     say("end:"), tell("resets", chip->cuts), tell("in programs", chip->cut_programs), tell("in erases", chip->cut_erases);
     tell("torn pages", chip->torn), tell("calls", record.calls), tell("begun calls there", record.there);
     tell("programs", chip->programs), tell("erases", chip->erases), say("\n");
-    say("left:"), tell("interrupts", chip->interrupts), tell("memory", (uint32_t)arena.used), tell("most", (uint32_t)arena.most);
+    say("left:"), tell("interrupts", chip->interrupts), tell("bytes needed", (uint32_t)mintlintel_durable_bytes(&numbers, MINTLINTEL_TELLS_TORN));
     tell("stack", board_stack()), say("\n");
     say("result:"), tell("wrong", record.wrong), tell("wrong commands", chip->wrong), say("\n");
-    board_end(record.wrong || chip->wrong || arena.used);
+    board_end(record.wrong || chip->wrong);
 }
 
 void firmware(void)

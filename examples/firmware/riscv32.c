@@ -31,8 +31,7 @@ void trapped(uint32_t cause, uint32_t place)
 
 void begin(void)
 {
-    for (uint32_t *at = stack_end, *here = __builtin_frame_address(0); at < here - 16; at++)
-        *at = NEVER_USED;
+    board_stack_anew();
     __asm__ volatile("csrsi mstatus, 8" ::: "memory");
     controller_begin();
     firmware();
@@ -82,6 +81,12 @@ void board_end(int status)
 {
     TEST_DEVICE = status ? (uint32_t)status << 16 | 0x3333 : 0x5555;
     for (;;) {}
+}
+
+void board_stack_anew(void)
+{
+    for (uint32_t *at = stack_end, *here = __builtin_frame_address(0); at < here - 16; at++)
+        *at = NEVER_USED;
 }
 
 uint32_t board_stack(void)

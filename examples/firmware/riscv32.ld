@@ -8,7 +8,7 @@ SECTIONS
     .data : ALIGN(16) { *(.data*) *(.sdata*) } :ram
     .bss (NOLOAD) : ALIGN(16) { bss_start = .; *(.sbss*) *(.bss*) *(COMMON) . = ALIGN(16); bss_end = .; } :ram
     .stack (NOLOAD) : ALIGN(16) { stack_end = .; . += 0x4000; stack_top = .; } :ram
-    .arena (NOLOAD) : ALIGN(16) { *(.arena) } :NONE
+    .memory (NOLOAD) : ALIGN(16) { *(.memory) } :NONE
     .outlives_reset (NOLOAD) : ALIGN(16) { *(.outlives_reset) } :NONE
     /DISCARD/ : { *(.comment) *(.eh_frame*) *(.note*) }
 }

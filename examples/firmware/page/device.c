@@ -2,10 +2,9 @@
 #include "flash.h"
 #include "stamp.h"
 #include <mintlintel_durable.h>
-#include <stdlib.h>
 #include <string.h>
 
-enum { BLOCKS = 24, PAGES = 16, PAGE_BYTES = 32, MOST_SECTORS = (BLOCKS - 2) * PAGES, MOST_STEPS = 4096 };
+enum { BLOCKS = 24, PAGES = 16, PAGE_BYTES = 32, MOST_SECTORS = (BLOCKS - 2) * PAGES, MOST_STEPS = 4096, MEMORY_BYTES = 65536 };
 enum { ERASED, HELD, TORN };
 enum { PROGRAM = 1, COPY = 2, ERASE = 3, MARK = 4 };
 /* How a command ended: done, failed, or cut with nothing, a part or all of it done. */
@@ -22,6 +21,7 @@ static uint8_t is_bad_block[BLOCKS], fails[BLOCKS];
 static struct step steps[MOST_STEPS];
 static uint32_t count_of_steps, to_cut, kind_to_cut, how_to_cut, is_gone, chance, wrong, reads, sectors;
 static struct mintlintel_durable device;
+static uint8_t memory[MEMORY_BYTES] __attribute__((aligned(16)));
 static uint8_t bytes[PAGE_BYTES], picture[BLOCKS * PAGES];
 static uint32_t places[MOST_SECTORS];
 
@@ -172,7 +172,8 @@ CALL(fresh)(uint32_t wanted, uint32_t seed)
 CALL(power_on)(void)
 {
     to_cut = is_gone = count_of_steps = reads = 0;
-    return mintlintel_durable_open(&device, &nand, 1, BLOCKS, PAGES, PAGE_BYTES, sectors);
+    const struct mintlintel_durable_numbers numbers = {1, BLOCKS, PAGES, PAGE_BYTES, sectors};
+    return mintlintel_durable_open_in(&device, &nand, &numbers, MINTLINTEL_TELLS_TORN, memory, sizeof memory);
 }
 
 CALL(power_off)(void)

@@ -1,5 +1,11 @@
-/* What WebAssembly lacks: the product of two 128-bit numbers, which clang calls for. */
+/* What WebAssembly lacks: the product of two 128-bit numbers, which clang calls for; and a heap, which nothing calls. */
 #include <stdint.h>
+#include <stdlib.h>
+
+void *malloc(size_t bytes) { (void)bytes; __builtin_trap(); }
+void *calloc(size_t count, size_t bytes) { (void)count, (void)bytes; __builtin_trap(); }
+void *realloc(void *at, size_t bytes) { (void)at, (void)bytes; __builtin_trap(); }
+void free(void *at) { (void)at; __builtin_trap(); }
 
 __int128 __multi3(__int128 a, __int128 b);
 

@@ -5,7 +5,7 @@ const $ = (id) => document.getElementById(id);
 
 function start({ instance: { exports: m } }) {
   const BLOCKS = m.blocks(), PAGES = m.pages(), ALL = BLOCKS * PAGES, WORDS = m.step_words(), IN_USE = BLOCKS - 1;
-  let sectors, kinds, place, newest, acked, serial, begun, queue, trace, on, timer, counts, isCut, failing, last, otherPicture, chance = 1, inOrder, hasFailed = false;
+  let sectors, kinds, place, newest, acked, serial, begun, queue, trace, on, timer, counts, isCut, failing, told, last, otherPicture, chance = 1, inOrder, hasFailed = false;
   const any = (n) => { chance = (Math.imul(chance, 1664525) + 1013904223) >>> 0; return Math.floor(chance / 2 ** 32 * n); };
 
   /* ---- What the picture shows ---- */
@@ -16,9 +16,18 @@ function start({ instance: { exports: m } }) {
     box.onclick = () => failBlock(b);
     for (let p = 0; p < PAGES; p++) { cells.push(document.createElement("i")); box.append(cells[b * PAGES + p]); }
     box.append(document.createElement("b"));
+    box.tabIndex = b ? -1 : 0;
     boxes.push(box);
     $("blocks").append(box);
   }
+  /* By keyboard the blocks are one stop; the arrows go from one to the next. */
+  $("blocks").onkeydown = (event) => {
+    const b = boxes.indexOf(document.activeElement), columns = boxes.filter((box) => box.offsetTop === boxes[0].offsetTop).length;
+    const to = b + ({ ArrowLeft: -1, ArrowRight: 1, ArrowUp: -columns, ArrowDown: columns }[event.key] ?? NaN);
+    if (!boxes[to]) return;
+    event.preventDefault();
+    boxes[b].tabIndex = -1; boxes[to].tabIndex = 0; boxes[to].focus();
+  };
   function say(text) {
     const lines = ($("log").textContent + text + "\n").split("\n");
     $("log").textContent = lines.slice(-300).join("\n");
@@ -49,7 +58,8 @@ function start({ instance: { exports: m } }) {
     for (let at = 0; at < ALL; at++) cells[at].className = kindOf(at) + (at === last ? " now" : "");
     let least = Infinity, most = 0, sum = 0;
     for (let b = 0; b < BLOCKS; b++) {
-      const erases = m.erases_of(b), isBad = m.is_block_bad(b), own = [0, 0, 0];
+      if (on) told[b] = m.erases_of(b); /* a device without power tells nothing */
+      const erases = told[b], isBad = m.is_block_bad(b), own = [0, 0, 0];
       for (let p = 0; p < PAGES; p++) own[kinds[b * PAGES + p]]++;
       boxes[b].className = "block" + (isBad ? " bad" : failing.has(b) ? " failing" : "");
       boxes[b].lastChild.textContent = isBad ? "bad" : erases;
@@ -62,6 +72,8 @@ function start({ instance: { exports: m } }) {
       ["The same by theory, for uniform writes and large blocks", theory().toFixed(2)], ["Erases of a block: fewest, mean, most", `${least}, ${(sum / BLOCKS).toFixed(1)}, ${most}`],
       ["Power cuts", counts.cuts], ["Page reads of the last mount", counts.reads], ["Sectors found other than acknowledged", counts.other], ["Commands that NAND refuses", m.wrong_commands()]];
     $("counts").innerHTML = rows.map(([name, value]) => `<tr><td>${name}<td>${value}`).join("");
+    $("state").className = on ? "" : "off";
+    $("on").ariaDisabled = on; $("cut").ariaDisabled = !on;
     $("state").textContent = on ? (isCut ? "The power will go inside the command that you chose." : "The power is on.") : "The power is off: press Power on.";
     $("play").innerHTML = timer ? "<u>P</u>ause" : "<u>P</u>lay";
   }
@@ -130,13 +142,13 @@ function start({ instance: { exports: m } }) {
     const code = m.power_on();
     on = code === 0;
     if (!on) { say(`the open returns ${code}`); return; }
+    counts.reads = m.page_reads();
     let other = 0, isThere = false;
     for (let s = 0; s < sectors; s++) {
       const got = m.read_sector(s) >>> 0, isBegun = begun && s >= begun.first && s < begun.first + begun.count && got === begun.serial;
       if (got !== acked[s]) { if (isBegun) isThere = true; else other++; }
       acked[s] = got;
     }
-    counts.reads = m.page_reads() - sectors;
     counts.other += other;
     if (counts.cuts) say(`mounted: ${other} of ${sectors} sectors other than acknowledged${begun ? `; the call that was cut off is ${isThere ? "there" : "not there"}` : ""}`);
     begun = null; last = -1;
@@ -147,9 +159,10 @@ function start({ instance: { exports: m } }) {
     sectors = Number($("sectors").value);
     m.fresh(sectors, 1);
     kinds = new Uint8Array(ALL); newest = new Int32Array(ALL); place = new Uint32Array(sectors).fill(0xffffffff); acked = new Uint32Array(sectors);
+    told = new Array(BLOCKS).fill(0);
     [serial, begun, queue, trace, on, isCut, failing, last, otherPicture, inOrder] = [0, null, [], [], false, false, new Set(), -1, 0, -1];
     counts = { writes: 0, copies: 0, erases: 0, cuts: 0, reads: 0, other: 0 };
-    $("log").textContent = "";
+    $("log").textContent = "A new device. Step makes its first command, and Play goes on by itself.\n";
     powerOn(); draw();
   }
   function cut() {
@@ -199,7 +212,7 @@ function start({ instance: { exports: m } }) {
   $("speed").oninput = () => { if (timer) { stop(); play(); } };
   $("sectors").onchange = fresh;
   document.onkeydown = (event) => {
-    if (event.ctrlKey || event.metaKey || event.altKey || /TEXTAREA|SELECT|INPUT/.test(event.target.tagName) || !keys[event.key.toLowerCase()]) return;
+    if (event.ctrlKey || event.metaKey || event.altKey || /TEXTAREA|SELECT/.test(event.target.tagName) || !keys[event.key.toLowerCase()]) return;
     event.preventDefault();
     done[keys[event.key.toLowerCase()]]();
   };
