@@ -102,6 +102,17 @@ class Simulate(WithImages):
         changed = Run("simulate", self.out / "run.toml", "--out", self.folder / "fourth")
         self.assertEqual((changed.status, "isn't the file that" in changed.errors), (3, True), changed.errors)
 
+    def test_plays_on_a_device_with_more_blocks_than_one_in_memory(self):
+        large, last = self.folder / "large.img", 7_999
+        numbers = ("--words", "1", "--blocks", "4200", "--pages", "2", "--sectors", str(last + 1))
+        subprocess.run([device.LAUNCHER, "--image", large, "--sync", "never", *numbers], input=b"0,write,0,\n", check=True, capture_output=True)
+        log = self.file("large.log", b"fio version 2 iolog\ndisk add\ndisk open\n" + 2 * (b"disk write %d 4096\n" % (last * 4096)))
+        done = Run("simulate", log, "--page-bytes", 4096, "--image", large, "--out", self.out)
+        self.assertEqual(done.status, 0, done.errors)
+        row, folder = self.row(self.out)
+        self.assertEqual((row["blocks"], row["pages_written"]), ("4200", "2"))
+        self.assertEqual((folder / "answers.csv").read_text().splitlines()[:2], [f"1,write,{last},empty", f"2,write,{last},written"])
+
     def test_refuses_what_an_image_has_or_lacks(self):
         for words, message in (
             (("--over-provisioning", 7), "over_provisioning isn't for a device that starts from an image"),

@@ -132,6 +132,10 @@ class Files(InFolder):
         ):
             self.refuses([((self.file("answers", text.encode()),), message)])
 
+    def test_answers_have_each_sector_that_a_trace_names(self):
+        done = Run("report", self.file("answers", b"1,write,9999999,empty\nend,1,0,0\n"))
+        self.assertEqual((done.status, done.errors), (0, ""))
+
     def test_wear_and_log(self):
         for text, message in (
             (WEAR.replace(b"0,1,0,0", b"0,1000001,0,0"), "the erases '1000001' isn't a whole number from 0 to 1,000,000"),
