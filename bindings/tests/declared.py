@@ -84,7 +84,8 @@ def main(root):
     limits = constants(root / "crates/geometry/src/limits.rt")
     phases = constants(root / "crates/exports/src/shared/phases.rt")
     own = {**codes, **phases, **{name: number for name, number in limits.items() if name not in NOT_OF_C}}
-    durable = re.findall(r"MINTLINTEL_(\w+) = (\d+)", (root / "bindings/include/mintlintel_durable.h").read_text())
+    header = (root / "bindings/include/mintlintel_durable.h").read_text()
+    durable = re.findall(r"MINTLINTEL_(\w+) = (\d+)", re.search(r"^enum mintlintel_durable_code \{.*?^\};", header, re.M | re.S)[0])
     if found := sorted(others(root, {**codes, **{name: int(number) for name, number in durable}})):
         sys.exit(f"codes of Rust or of Python that differ: {found}")
     named = set(re.findall(r"MINTLINTEL_(\w+) = \d+", declared))

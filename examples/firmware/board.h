@@ -16,7 +16,8 @@ void board_interrupt_after(uint32_t microseconds);
 void board_sleep_while(const volatile uint32_t *word, uint32_t value);
 void board_reset(void) __attribute__((noreturn));
 void board_end(int status) __attribute__((noreturn));
-/* How many bytes the stack has had at most since the start, or since it was said to begin anew; and what the clock shows: under QEMU's -icount a nanosecond is an instruction. */
+/* How many bytes the stack has had at most since the start, or since it was begun anew; and what the clock shows: under QEMU's -icount a nanosecond is an
+ * instruction. */
 uint32_t board_stack(void);
 void board_stack_anew(void);
 uint32_t board_instructions(void);
