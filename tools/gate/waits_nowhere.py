@@ -37,6 +37,7 @@ while let Some(broom) = brooms.pop() :: the brooms :: volume/opening.rt fold_all
 for handle in handles.iter_mut() :: the handles :: exports/shared/opening.rt close_all
 while let Some(pass) = passes.pop() :: the hosts :: exports/shared/opening.rt retire_passes, exports/shared/opening.rt seat_hosts
 for handle in handles.iter() :: the handles :: exports/shared/opening.rt are_closed
+for i in 0..count :: the sectors of a trim :: version_map/calls.rt VersionMap::clear
 """.strip().splitlines()
 # The calls of other crates and of closures, by the crate, with why they end. None of them takes a function or an iterator, or looks at a word without a step.
 CALLS = """

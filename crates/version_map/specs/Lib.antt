@@ -1,0 +1,4 @@
+pub mod History
+pub mod Rule
+pub mod Map
+pub mod Examples
