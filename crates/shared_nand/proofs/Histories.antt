@@ -27,8 +27,8 @@ module _ (next : ℕ) (a b : ℕ → List ℕ) (keeps : KeepsBytes next a b) whe
   value_kept zero low = refl
   value_kept (suc n) low = ap Some (keeps (suc n) (low (omega arith)))
 
-  pub shows_kept : (h : List (ℕ × ℕ)) (array : ℕ → Sector) → AreGivenBelow next h → ShowsArray a h array → ShowsArray b h array
-  shows_kept h array given shows s = value_kept (version_after h s) (version_below next h s given) ∙ shows s
+  pub shows_kept : (h : List (ℕ × ℕ)) (n : ℕ) (array : ℕ → Sector) → AreGivenBelow next h → ShowsArray n a h array → ShowsArray n b h array
+  shows_kept h n array given shows s low = value_kept (version_after h s) (version_below next h s given) ∙ shows s low
 
 -- a change of one sector
 either : (bytes : ℕ → List ℕ) (t : Bool) (n m : ℕ) (v w : Sector) → value_numbered bytes n ≡ v → value_numbered bytes m ≡ w
@@ -40,9 +40,9 @@ pub value_some : (bytes : ℕ → List ℕ) (n : ℕ) → 0 < n → value_number
 value_some bytes zero low = absurd (omega (arith, low))
 value_some bytes (suc n) low = refl
 
-pub shows_change : (bytes : ℕ → List ℕ) (h : List (ℕ × ℕ)) (array : ℕ → Sector) (s n : ℕ) (value : Sector) → value_numbered bytes n ≡ value
-    → ShowsArray bytes h array → ShowsArray bytes ((s, n) ∷ h) (with_value array s value)
-shows_change bytes h array s n value is shows k = either bytes (k == s) n (version_after h k) value (array k) is (shows k)
+pub shows_change : (bytes : ℕ → List ℕ) (h : List (ℕ × ℕ)) (m : ℕ) (array : ℕ → Sector) (s n : ℕ) (value : Sector) → value_numbered bytes n ≡ value
+    → ShowsArray m bytes h array → ShowsArray m bytes ((s, n) ∷ h) (with_value array s value)
+shows_change bytes h m array s n value is shows k low = either bytes (k == s) n (version_after h k) value (array k) is (shows k low)
 
 -- a trim
 module _ (h : List (ℕ × ℕ)) (first k : ℕ) where
@@ -72,12 +72,12 @@ one_of_three true u r x y before within behind = before refl
 one_of_three false true r x y before within behind = within refl refl
 one_of_three false false r x y before within behind = behind refl refl
 
-pub shows_trim : (bytes : ℕ → List ℕ) (h : List (ℕ × ℕ)) (array : ℕ → Sector) (first count : ℕ) → ShowsArray bytes h array
-    → ShowsArray bytes (cleared_after h first count) (with_trimmed array first count)
-shows_trim bytes h array first count shows k = one_of_three (nat_lt k first) (nat_lt k (first + count)) _ (array k) None
-    (λ e. ap (value_numbered bytes) (cleared_before h first k count (ltb-true k first e)) ∙ shows k)
+pub shows_trim : (bytes : ℕ → List ℕ) (h : List (ℕ × ℕ)) (m : ℕ) (array : ℕ → Sector) (first count : ℕ) → ShowsArray m bytes h array
+    → ShowsArray m bytes (cleared_after h first count) (with_trimmed array first count)
+shows_trim bytes h m array first count shows k low = one_of_three (nat_lt k first) (nat_lt k (first + count)) _ (array k) None
+    (λ e. ap (value_numbered bytes) (cleared_before h first k count (ltb-true k first e)) ∙ shows k low)
     (λ e f. ap (value_numbered bytes) (cleared_within h first k count (ltb-false k first e) (ltb-true k (first + count) f)))
-    (λ e f. ap (value_numbered bytes) (cleared_behind h first k count (ltb-false k (first + count) f)) ∙ shows k)
+    (λ e f. ap (value_numbered bytes) (cleared_behind h first k count (ltb-false k (first + count) f)) ∙ shows k low)
 
 given_one : (next : ℕ) (h : List (ℕ × ℕ)) (c : ℕ × ℕ) → AreGivenBelow next h → (0 < c.1 → c.1 < next) → AreGivenBelow next (c ∷ h)
 given_one next h c given low zero d lower some = low some

@@ -1,6 +1,7 @@
 -- What readers see of the array that a layer holds.
-use Rattle.std.specs.Prelude.{◌≡◌, ◌<◌, ◌==◌, ◌+◌, ℕ, zero, suc, List, All, ◌∷◌, None, Some, if◌then◌else◌, nat_lt}
+use Rattle.std.specs.Prelude.{◌≡◌, ◌<◌, ◌==◌, ◌+◌, ℕ, zero, suc, List, All, ◌∷◌, Option, None, Some, if◌then◌else◌, nat_lt}
 use Rattle.geometry.specs.Sectors.{Sector}
+use Rattle.version_map.specs.declared.calls.Place.{Place}
 use Rattle.version_map.specs.History.{version_after}
 
 -- the value of the version with this number, where each number has these bytes: 0 has none
@@ -12,9 +13,9 @@ value_numbered bytes (suc n) = Some (bytes (suc n))
 abbrev pub sector_shown : (ℕ → List ℕ) → List (ℕ × ℕ) → ℕ → Sector
 sector_shown bytes history s = value_numbered bytes (version_after history s)
 
--- after this history each sector holds what it does in this array
-abbrev pub ShowsArray : (ℕ → List ℕ) → List (ℕ × ℕ) → (ℕ → Sector) → Type 0
-ShowsArray bytes history array = (s : ℕ) → sector_shown bytes history s ≡ array s
+-- after this history each of so many sectors holds what it does in this array
+abbrev pub ShowsArray : ℕ → (ℕ → List ℕ) → List (ℕ × ℕ) → (ℕ → Sector) → Type 0
+ShowsArray sectors bytes history array = (s : ℕ) → s < sectors → sector_shown bytes history s ≡ array s
 
 -- the array with another value of one sector
 abbrev pub with_value : (ℕ → Sector) → ℕ → Sector → ℕ → Sector
@@ -31,6 +32,11 @@ HasPublished bytes before after s value = (n : ℕ) × (after ≡ (s, n) ∷ bef
 -- each version in the history has a number below this one: 0 is no version
 abbrev pub AreGivenBelow : ℕ → List (ℕ × ℕ) → Type 0
 AreGivenBelow next history = All (λ (change : ℕ × ℕ). 0 < change.1 → change.1 < next) history
+
+-- the number of the version that was found, or 0
+abbrev pub number_found : Option Place → ℕ
+number_found None = 0
+number_found (Some place) = place.number
 
 -- the versions with numbers below this one have the same bytes as before
 abbrev pub KeepsBytes : ℕ → (ℕ → List ℕ) → (ℕ → List ℕ) → Type 0

@@ -22,9 +22,4 @@ pub trait SharedNand {
         ensures version { IfOk result
             (λ found. IfSome found (λ it. tells self.now it.1 it.0 out.new)) }
         ensures size { length out.new ≡ page_bytes self.now };
-
-    /// Two tokens of one version tell the same bytes. It does nothing.
-    fn agree(&self, one: &Self::Token, other: &Self::Token)
-        ensures { (n : ℕ) (a b : List ℕ) → tells self.now one.now n a
-            → tells self.now other.now n b → a ≡ b };
 }

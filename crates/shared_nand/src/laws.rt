@@ -2,7 +2,9 @@
 ghost use Rattle.std.specs.Prelude.{◌≡◌, ◌+◌, [], ◌∷◌, None, Some, ℕ, List};
 ghost use Rattle.geometry.specs.Sectors.{Sector};
 ghost use Rattle.shared_nand.specs.Reads.{ReadsVersion, ReadsValue};
-ghost use Rattle.shared_nand.specs.Shown.{value_numbered, sector_shown, ShowsArray, with_value, with_trimmed, HasPublished, AreGivenBelow, KeepsBytes};
+ghost use Rattle.shared_nand.specs.Shown.{value_numbered, sector_shown, ShowsArray, with_value, with_trimmed, HasPublished};
+ghost use Rattle.shared_nand.specs.Shown.{AreGivenBelow, number_found, KeepsBytes};
+ghost use Rattle.version_map.specs.declared.calls.Place.{Place as Where};
 
 /// A token that is a number tells that the version with this number has these two bytes.
 pub fn reads()
@@ -25,9 +27,12 @@ pub fn shown()
     ensures some { value_numbered (λ n. n ∷ (n + 1) ∷ []) 9 ≡ Some (9 ∷ 10 ∷ []) }
     ensures newest { sector_shown (λ n. n ∷ []) ((1, 0) ∷ (2, 9) ∷ (1, 8) ∷ []) 2 ≡ Some (9 ∷ []) }
     ensures emptied { sector_shown (λ n. n ∷ []) ((1, 0) ∷ (2, 9) ∷ (1, 8) ∷ []) 1 ≡ None }
-    ensures array { (array : ℕ → Sector) → ShowsArray (λ n. n ∷ []) ((2, 9) ∷ []) array
+    ensures array { (array : ℕ → Sector) → ShowsArray 3 (λ n. n ∷ []) ((2, 9) ∷ []) array
         → (array 2 ≡ Some (9 ∷ [])) × (array 1 ≡ None) }
-    ensures empty { ShowsArray (λ n. n ∷ []) [] (λ s. None) }
+    ensures empty { ShowsArray 3 (λ n. n ∷ []) [] (λ s. None) }
+    ensures beyond { ShowsArray 0 (λ n. n ∷ []) [] (λ s. Some (7 ∷ [])) }
+    ensures found { (place : Where) → place.number ≡ 9 → number_found (Some place) ≡ 9 }
+    ensures not_found { number_found None ≡ 0 }
     ensures kept { KeepsBytes 4 (λ n. n ∷ []) (λ n. n ∷ []) }
     ensures lost { ¬ (KeepsBytes 4 (λ n. n ∷ []) (λ n. [])) }
     ensures not_given { KeepsBytes 0 (λ n. n ∷ []) (λ n. []) }

@@ -1,6 +1,6 @@
-ghost use Rattle.std.specs.Prelude.{◌≡◌, ◌<◌, ◌≤◌, ◌⊎◌, ℕ, List, length, Some, IfOk, OnOk, OnErr};
+ghost use Rattle.std.specs.Prelude.{◌≡◌, ◌<◌, ◌≤◌, ◌⊎◌, ℕ, List, length, Some, IfOk, IfSome, OnOk, OnErr};
 ghost use Rattle.geometry.specs.Sectors.{Sector};
-ghost use Rattle.shared_nand.specs.Shown.{with_value, with_trimmed, KeepsBytes};
+ghost use Rattle.shared_nand.specs.Shown.{value_numbered, with_value, with_trimmed, number_found, KeepsBytes};
 
 use version_map::Place;
 
@@ -64,8 +64,25 @@ pub trait Layer {
         ensures tells { (token : Self.Token) (n : ℕ) (bytes : List ℕ)
             → tells self.old token n bytes → tells self.new token n bytes };
 
+    /// A page that has the sector's newest version, with its number; none if the sector is empty.
+    fn locate(&mut self, sector: u32) -> Result<Option<Place>, Self::Failure>
+        ensures found { (array : ℕ → Sector) → holds self.old array → IfOk result
+            (λ found. array sector ≡ value_numbered (bytes_of self.old) (number_found found)) }
+        ensures given { IfOk result (λ found. IfSome found
+            (λ place. (0 < place.number) × (place.number < next_number self.old))) }
+        ensures page { IfOk result (λ found. IfSome found (λ place. place.page < pages self.old)) }
+        ensures holds { (array : ℕ → Sector) → holds self.old array → holds self.new array }
+        ensures bytes { bytes_of self.new ≡ bytes_of self.old }
+        ensures next { next_number self.new ≡ next_number self.old }
+        ensures pages { pages self.new ≡ pages self.old }
+        ensures page_bytes { page_bytes self.new ≡ page_bytes self.old }
+        ensures tells { (token : Self.Token) (n : ℕ) (bytes : List ℕ)
+            → tells self.old token n bytes → tells self.new token n bytes };
+
     /// What a token tells of a version is what was programmed with its number. It does nothing.
     fn knows(&self, token: &Self::Token)
+        requires { (n : ℕ) × (bytes : List ℕ) × (n < next_number self.now)
+            × tells self.now token.now n bytes }
         ensures { (n : ℕ) (bytes : List ℕ) → n < next_number self.now
             → tells self.now token.now n bytes → bytes ≡ bytes_of self.now n };
 }

@@ -20,13 +20,46 @@ pub enum OwnerFailure<F> {
 }
 
 impl<L: Layer> Owner<L> {
-    /// The owner of a device whose sectors are empty in the map.
+    /// The owner of a device, of which the map has nothing yet. `load` comes next.
     pub fn new(layer: L, publisher: Publisher) -> Owner<L>
         requires { history_published publisher ≡ [] }
         ensures layer { result.layer ≡ layer }
         ensures publisher { result.publisher ≡ publisher }
     {
         Owner { layer, publisher }
+    }
+
+    /// Publishes the version of each sector of a layer that was opened, so that readers see its array from then on.
+    pub fn load(&mut self, map: &VersionMap) -> Result<(), OwnerFailure<L::Failure>>
+        requires publisher { IsPublisherOf map.now self.old.publisher }
+        requires none { history_published self.old.publisher ≡ [] }
+        requires pages { L.pages self.old.layer ≤ map_pages map.now }
+        ensures shows { (array : ℕ → Sector) → L.holds self.old.layer array
+            → OnOk result (ShowsArray (map_sectors map.now) (L.bytes_of self.new.layer)
+            (history_published self.new.publisher) array) }
+        ensures holds { (array : ℕ → Sector) → L.holds self.old.layer array → L.holds self.new.layer array }
+        ensures bytes { L.bytes_of self.new.layer ≡ L.bytes_of self.old.layer }
+        ensures next { L.next_number self.new.layer ≡ L.next_number self.old.layer }
+        ensures numbers { result ≡ Err no_number
+            → numbers_below map.now < L.next_number self.new.layer }
+        ensures pages { L.pages self.new.layer ≡ L.pages self.old.layer }
+        ensures page_bytes { L.page_bytes self.new.layer ≡ L.page_bytes self.old.layer }
+        ensures tells { (token : L.Token) (n : ℕ) (bytes : List ℕ)
+            → L.tells self.old.layer token n bytes → L.tells self.new.layer token n bytes }
+        ensures publisher { IsPublisherOf map.now self.new.publisher }
+    {
+        for sector in 0..map.sectors() {
+            match self.layer.locate(sector) {
+                Ok(Some(place)) => {
+                    let Ok(()) = map.publish(&mut self.publisher, sector, place) else {
+                        return Err(OwnerFailure::NoNumber);
+                    };
+                }
+                Ok(None) => {}
+                Err(cause) => return Err(OwnerFailure::Failed(cause)),
+            }
+        }
+        Ok(())
     }
 
     /// Writes a sector. Its page is programmed before the map names it.
@@ -45,11 +78,13 @@ impl<L: Layer> Owner<L> {
         ensures acknowledged { (array : ℕ → Sector) → L.holds self.old.layer array
             → OnOk result (L.holds self.new.layer (with_value array sector (Some bytes.now))) }
         ensures shows { (array : ℕ → Sector)
-            → ShowsArray (L.bytes_of self.old.layer) (history_published self.old.publisher) array
+            → ShowsArray (map_sectors map.now) (L.bytes_of self.old.layer)
+            (history_published self.old.publisher) array
             → MatchResult result
-            (λ _. ShowsArray (L.bytes_of self.new.layer) (history_published self.new.publisher)
+            (λ _. ShowsArray (map_sectors map.now) (L.bytes_of self.new.layer) (history_published self.new.publisher)
             (with_value array sector (Some bytes.now)))
-            (λ _. ShowsArray (L.bytes_of self.new.layer) (history_published self.new.publisher) array) }
+            (λ _. ShowsArray (map_sectors map.now) (L.bytes_of self.new.layer)
+            (history_published self.new.publisher) array) }
         ensures published { OnOk result (HasPublished (L.bytes_of self.new.layer)
             (history_published self.old.publisher) (history_published self.new.publisher)
             sector (Some bytes.now)) }
@@ -91,11 +126,13 @@ impl<L: Layer> Owner<L> {
         ensures acknowledged { (array : ℕ → Sector) → L.holds self.old.layer array
             → OnOk result (L.holds self.new.layer (with_trimmed array first count)) }
         ensures shows { (array : ℕ → Sector)
-            → ShowsArray (L.bytes_of self.old.layer) (history_published self.old.publisher) array
+            → ShowsArray (map_sectors map.now) (L.bytes_of self.old.layer)
+            (history_published self.old.publisher) array
             → MatchResult result
-            (λ _. ShowsArray (L.bytes_of self.new.layer) (history_published self.new.publisher)
+            (λ _. ShowsArray (map_sectors map.now) (L.bytes_of self.new.layer) (history_published self.new.publisher)
             (with_trimmed array first count))
-            (λ _. ShowsArray (L.bytes_of self.new.layer) (history_published self.new.publisher) array) }
+            (λ _. ShowsArray (map_sectors map.now) (L.bytes_of self.new.layer)
+            (history_published self.new.publisher) array) }
         ensures published { MatchResult result
             (λ _. history_published self.new.publisher
             ≡ cleared_after (history_published self.old.publisher) first count)
@@ -128,15 +165,23 @@ impl<L: Layer> Owner<L> {
         map.reader(&mut self.publisher)
     }
 
-    /// Checks what a reader has read last against what was written: the sector's value after the history that it has seen, a beginning of what the owner
-    /// has done. It does nothing, and no read needs it.
-    pub fn check_read(&mut self, map: &VersionMap, reader: Reader, found: &Option<L::Token>)
+    /// Checks what a reader has read last against what was written: it is the sector's value after the history that the reader has seen, a beginning of
+    /// what the owner has done. This does nothing, and no read needs it.
+    pub fn check_read(
+        &mut self,
+        map: &VersionMap,
+        reader: Reader,
+        sector: u32,
+        found: &Option<L::Token>,
+        out: &[u8],
+    )
         requires publisher { IsPublisherOf map.now self.old.publisher }
         requires reader { IsReaderOf map.now reader }
+        requires read { ReadsVersion (L.tells self.old.layer)
+            (version_after (history_seen reader) sector) found.now out.now }
         ensures part { Continues (history_published self.old.publisher) (history_seen reader) }
-        ensures value { (s : ℕ) (out : List ℕ)
-            → ReadsVersion (L.tells self.old.layer) (version_after (history_seen reader) s) found.now out
-            → ReadsValue (sector_shown (L.bytes_of self.old.layer) (history_seen reader) s) found.now out }
+        ensures value { ReadsValue (sector_shown (L.bytes_of self.old.layer) (history_seen reader) sector)
+            found.now out.now }
         ensures layer { self.new.layer ≡ self.old.layer }
         ensures same { history_published self.new.publisher ≡ history_published self.old.publisher }
         ensures publisher { IsPublisherOf map.now self.new.publisher }
