@@ -8,7 +8,7 @@ from gate import tree
 # The clauses of these crates are laws and callers of the other crates' definitions, and so are those of a file src/laws.rt.
 LAWS = ("laws", "uses")
 # These crates only call the others, so their clauses are no public contracts either.
-CALLERS = ("acceptance", "shared_acceptance", "run_acceptance", "session_acceptance", "durable_acceptance", "one_thread", "two_threads")
+CALLERS = ("acceptance", "shared_acceptance", "run_acceptance", "session_acceptance", "durable_acceptance", "one_thread", "two_threads", "shared_nand_uses")
 GROUPS = {
     "named": "are named by a law (a clause of `laws`, or of the module `laws` of another crate) or by a clause of a caller in `uses`",
     "reached": "are reached by a law only through another definition, so that a change may or may not make its clauses false",
