@@ -9,7 +9,7 @@ from functools import cache
 
 from gate import tree
 
-CRATES = ("geometry", "flash_rule", "flash_table", "host", "broom", "erase_queue", "volume", "handles", "exports")
+CRATES = ("geometry", "flash_rule", "flash_table", "host", "broom", "erase_queue", "volume", "handles", "exports", "version_map", "shared_nand")
 # The other crates that these may use. A call of one of them by its path is one of CALLS.
 OTHERS = ("atomic_table", "core", "crossbeam_queue", "ftl_one", "std", "std_alloc", "std_heap", "thiserror")
 # Each loop, as its head with what the names of its bound stand for, why it ends after a number of turns that no other thread can raise, and where it is.
@@ -38,6 +38,8 @@ for handle in handles.iter_mut() :: the handles :: exports/shared/opening.rt clo
 while let Some(pass) = passes.pop() :: the hosts :: exports/shared/opening.rt retire_passes, exports/shared/opening.rt seat_hosts
 for handle in handles.iter() :: the handles :: exports/shared/opening.rt are_closed
 for i in 0..count :: the sectors of a trim :: version_map/calls.rt VersionMap::clear
+for sector in 0..map.sectors() :: the sectors :: shared_nand/owning.rt Owner::load
+for _ in 0..tries :: the looks that the caller gives :: shared_nand/reading.rt read
 for sector in 0..map.sectors() :: the sectors :: shared_nand/owning.rt Owner::load
 for _ in 0..tries :: the looks that the caller gives :: shared_nand/reading.rt read
 """.strip().splitlines()
