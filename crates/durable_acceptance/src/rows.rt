@@ -288,8 +288,8 @@ fn each_block_tells_its_live_sectors(rt: HostRuntime) -> Result<(), Fail> {
     Ok(())
 }
 
-// Block 0 has lost its first page, whose sector has a newer one, so the open tells a loss. The erase of block 2 fails then: the call goes on,
-// since its mount finds no loss more.
+// Block 0 has lost its first page, whose sector has a newer one, so the open tells a loss. The erase of block 2 fails then: the call goes on, and tells
+// no loss more.
 #[test]
 fn a_loss_that_was_told_stops_no_call(rt: HostRuntime) -> Result<(), Fail> {
     let Some(mut layer) = open(&rt, chip(rt.alloc(), 6, 2)?, 3) else {

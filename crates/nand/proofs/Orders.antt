@@ -1,35 +1,36 @@
--- A chip's blocks in the layer's order.
+-- The numbers of a chip's blocks.
 use Rattle.std.proofs.Common.{◌≡◌, ◌≢◌, ◌∙◌, ⊎_elim, ◌+◌, ◌<◌, ◌≤◌, ℕ, zero, suc, Bool, true, false, List, []}
-use Rattle.std.proofs.Common.{Some, min, max, ◌-◌, ◌*◌, ◌/◌, if◌then◌else◌, refl, sym, ap, subst, arith}
+use Rattle.std.proofs.Common.{Some, ◌==◌, min, max, ◌-◌, ◌*◌, ◌/◌, if◌then◌else◌, nat_lt, length, refl, sym, ap, subst, arith}
 use Rattle.std.proofs.lemmas.Bool.{cases_eq, cases_lt, false≢true}
 use Rattle.std.proofs.lemmas.Bool.Decides.{nat_tests}
+use Rattle.std.proofs.lemmas.List.{get_or_default, get_or_past}
+use Rattle.std.proofs.lemmas.List.Edits.{get_or-insert_above, get_or-insert_at, get_or-insert_below, length-insert}
 use Rattle.std.proofs.Math.Nat.{div-mul-le_self, lt-div-mul-add, mul-le-mul_right}
-use Rattle.std.specs.List.{swap}
+use Rattle.std.specs.List.{insert}
 use Rattle.geometry.specs.Sectors.{Sector}
 use Rattle.durable.specs.Flash.{Flash, HoldsNewest, IsErased}
 use Rattle.durable.specs.Device.{IsWrittenOn}
 use Rattle.durable.specs.Collecting.{HasCapacity}
-use Rattle.durable.specs.Failures.{IsRenumbered, swapped}
+use Rattle.durable.specs.Failures.{IsRenumbered}
 use Rattle.durable.specs.Promise.{IsRecoverable}
 use Rattle.durable.specs.Spare.{IsDuplicated}
 use Rattle.durable.specs.Updates.{Update}
 use Rattle.durable.proofs.Cells.{erased_holds_none, erased_has_none}
 use Rattle.durable.proofs.Promises.{erased_recoverable, version_before, readable, readable_renumbered, written_renumbered}
-use Rattle.durable.proofs.Reserves.{swapped_first, swapped_other, swapped_second, swapped_twice}
 use Rattle.nand.specs.declared.flash.Shape.{Shape}
 use Rattle.nand.specs.Numbers.{IsOrder, chip_block, good_before, is_marked, most_in_use, numbered}
 use Rattle.nand.specs.Opened.{CanSpare, IsOpenable, IsReserveBlank, device_on, most_used, used_blocks}
 
--- the order as it is made
-pub first_order : (numbers : List ℕ) (bad : List Bool) → ((c : ℕ) → chip_block numbers c ≡ c) → IsOrder numbers bad 0
-first_order numbers bad same = record {
+-- no block has a number yet
+pub first_order : (bad : List Bool) (most : ℕ) → IsOrder [] bad 0 most
+first_order bad most = record {
+  all = refl;
   to = λ b. b;
-  found = same;
-  put = same;
+  found = λ c. refl;
+  put = λ b. refl;
   good = λ c lt. absurd (omega (arith, lt));
-  ranked = λ c lt. absurd (omega (arith, lt));
+  reserved = λ c le lt. absurd (omega (arith, lt));
   others = λ c le lt. absurd (omega (arith, lt));
-  rest = λ c le. same c;
 }
 
 pub next_good : (bad : List Bool) (i : ℕ) (marked : Bool) → is_marked bad i ≡ marked → good_before bad (i + 1) ≡ good_before bad i + (if marked then 0 else 1)
@@ -42,6 +43,23 @@ one_or_none false = omega arith
 pub few_good : (bad : List Bool) (b : ℕ) → good_before bad b ≤ b
 few_good bad zero = omega arith
 few_good bad (suc b) = omega (arith, few_good bad b, one_or_none (is_marked bad b))
+
+pub good_grows : (bad : List Bool) (a b : ℕ) → a ≤ b → good_before bad a ≤ good_before bad b
+good_grows bad a zero le = omega (arith, ap (good_before bad) {x = a} {y = 0} (omega (arith, le)))
+good_grows bad a (suc b) le = ⊎_elim
+    (λ here. omega (arith, ap (good_before bad) here))
+    (λ differs. omega (arith, good_grows bad a b (omega (arith, le, differs))))
+    (cases_eq a (suc b))
+
+-- as many good blocks come before no two good ones
+not_before : (bad : List Bool) (a b : ℕ) → is_marked bad a ≡ false → good_before bad b ≡ good_before bad a → b ≤ a
+not_before bad a b good same = ⊎_elim
+    (λ before. absurd (omega (arith, good_grows bad (a + 1) b (omega (arith, before)), next_good bad a false good, same)))
+    (λ le. le)
+    (cases_lt a b)
+
+same_rank : (bad : List Bool) (a b : ℕ) → is_marked bad a ≡ false → is_marked bad b ≡ false → good_before bad a ≡ good_before bad b → a ≡ b
+same_rank bad a b first second same = omega (arith, not_before bad a b first (sym same), not_before bad b a second same)
 
 -- some block is good and the first of them, if they aren't none
 abbrev HasFirst : List Bool → ℕ → Type 0
@@ -63,8 +81,8 @@ first_good bad (suc n) some = last_good bad n (is_marked bad n) refl (first_good
 pub fewer : (a b c : ℕ) → c < min a b → (c < a) × (c < b)
 fewer a b c lt = (grind (arith, nat_tests, lt), grind (arith, nat_tests, lt))
 
-pub below : (a b c : ℕ) → c < a → c < b → c < min a b
-below a b c first second = grind (arith, nat_tests)
+pub least : (a b c : ℕ) → c < a → c < b → c < min a b
+least a b c first second = grind (arith, nat_tests)
 
 pub least_first : (a b : ℕ) → a ≤ b → min a b ≡ a
 least_first a b le = grind (arith, nat_tests)
@@ -77,6 +95,155 @@ no_greater a b = (grind (arith, nat_tests), grind (arith, nat_tests))
 
 at_least : (a b : ℕ) → b ≤ max a b
 at_least a b = grind (arith, nat_tests)
+
+-- a number past the blocks stands for itself
+pub past : (numbers : List ℕ) (c : ℕ) → length numbers ≤ c → chip_block numbers c ≡ c
+past numbers c le = get_or_past numbers c c le
+
+-- where the last of these numbers goes to the place of the first, and each of the others to the next one; and back
+abbrev later : ℕ → ℕ → ℕ → ℕ
+later p i c = if nat_lt c p then c else if nat_lt c i then c + 1 else if c == i then p else c
+
+abbrev earlier : ℕ → ℕ → ℕ → ℕ
+earlier p i c = if nat_lt c p then c else if c == p then i else if nat_lt i c then c else c - 1
+
+later_earlier : (p i c : ℕ) → p ≤ i → later p i (earlier p i c) ≡ c
+later_earlier p i c le = grind (arith, nat_tests, le)
+
+earlier_later : (p i c : ℕ) → p ≤ i → earlier p i (later p i c) ≡ c
+earlier_later p i c le = grind (arith, nat_tests, le)
+
+earlier_below : (p i c : ℕ) → c < p → earlier p i c ≡ c
+earlier_below p i c lt = grind (arith, nat_tests, lt)
+
+earlier_here : (p i : ℕ) → earlier p i p ≡ i
+earlier_here p i = grind (arith, nat_tests)
+
+earlier_above : (p i c : ℕ) → p ≤ c → c < i → earlier p i (c + 1) ≡ c
+earlier_above p i c le lt = grind (arith, nat_tests, le, lt)
+
+earlier_past : (p i c : ℕ) → p ≤ i → i < c → earlier p i c ≡ c
+earlier_past p i c le lt = grind (arith, nat_tests, le, lt)
+
+-- the next block is put in this place
+module _ (numbers : List ℕ) (bad : List Bool) (i most : ℕ) (is : IsOrder numbers bad i most) (p : ℕ) (le : p ≤ i) where
+  below : (c : ℕ) → c < p → chip_block (insert numbers p i) c ≡ chip_block numbers c
+  below c lt = get_or-insert_below numbers p i c c lt (omega (arith, le, is.all))
+
+  here : chip_block (insert numbers p i) p ≡ i
+  here = get_or-insert_at numbers p i p (omega (arith, le, is.all))
+
+  above : (c : ℕ) → p ≤ c → c < i → chip_block (insert numbers p i) (c + 1) ≡ chip_block numbers c
+  above c after lt = get_or-insert_above numbers p i (c + 1) c after (omega (arith, le, is.all))
+      ∙ get_or_default numbers c (c + 1) c (omega (arith, lt, is.all))
+
+  one_more : length (insert numbers p i) ≡ i + 1
+  one_more = omega (arith, length-insert numbers p i (omega (arith, le, is.all)), is.all)
+
+  moved : (c : ℕ) → chip_block (insert numbers p i) c ≡ chip_block numbers (earlier p i c)
+  moved c = ⊎_elim
+      (λ lt. below c lt ∙ ap (chip_block numbers) (sym (earlier_below p i c lt)))
+      (λ not_below. ⊎_elim
+      (λ e. ap (chip_block (insert numbers p i)) e ∙ (here ∙ (sym (past numbers i (omega (arith, is.all)))
+      ∙ ap (chip_block numbers) (sym (ap (earlier p i) e ∙ earlier_here p i)))))
+      (λ differs. ⊎_elim
+      (λ beyond. past (insert numbers p i) c (omega (arith, beyond, one_more)) ∙ (sym (past numbers c (omega (arith, beyond, is.all)))
+      ∙ ap (chip_block numbers) (sym (earlier_past p i c le beyond))))
+      (λ within.
+      let one : (c - 1) + 1 ≡ c = omega (arith, not_below, differs) in
+      ap (chip_block (insert numbers p i)) (sym one)
+      ∙ (above (c - 1) (omega (arith, not_below, differs)) (omega (arith, within, not_below, differs))
+      ∙ ap (chip_block numbers) (sym (ap (earlier p i) (sym one)
+      ∙ earlier_above p i (c - 1) (omega (arith, not_below, differs)) (omega (arith, within, not_below, differs))))))
+      (cases_lt i c))
+      (cases_eq c p))
+      (cases_lt c p)
+
+-- a bad block takes the last number
+pub places_bad : (numbers : List ℕ) (bad : List Bool) (i most : ℕ) → is_marked bad i ≡ true → IsOrder numbers bad i most
+    → IsOrder (insert numbers i i) bad (i + 1) most
+places_bad numbers bad i most marked is =
+    let new = insert numbers i i in
+    let le : i ≤ i = omega arith in
+    let now : good_before bad (i + 1) ≡ good_before bad i = omega (arith, next_good bad i true marked) in
+    let same : (c : ℕ) → c < i → chip_block new c ≡ chip_block numbers c = below numbers bad i most is i le in
+    let few = few_good bad i in
+    record {
+      all = one_more numbers bad i most is i le;
+      to = λ b. later i i (is.to b);
+      found = λ c. ap (λ (b : ℕ). later i i (is.to b)) (moved numbers bad i most is i le c)
+          ∙ (ap (later i i) (is.found (earlier i i c)) ∙ later_earlier i i c le);
+      put = λ b. moved numbers bad i most is i le (later i i (is.to b))
+          ∙ (ap (chip_block numbers) (earlier_later i i (is.to b) le) ∙ is.put b);
+      good = λ c lt. ap (is_marked bad) (same c (omega (arith, lt, now, few))) ∙ is.good c (omega (arith, lt, now));
+      reserved = λ c past lt. omega (
+        arith,
+        ap (good_before bad) (same c (omega (arith, lt, now, few))),
+        is.reserved c past (omega (arith, lt, now)),
+        now,
+      );
+      others = λ c past lt. ⊎_elim
+          (λ e. ap (is_marked bad) (ap (chip_block new) e ∙ here numbers bad i most is i le) ∙ marked)
+          (λ differs. ap (is_marked bad) (same c (omega (arith, lt, differs)))
+          ∙ is.others c (omega (arith, past, now)) (omega (arith, lt, differs)))
+          (cases_eq c i);
+    }
+
+-- a good block takes the number behind those in use
+pub places_good : (numbers : List ℕ) (bad : List Bool) (i most p : ℕ) → p ≡ min (good_before bad i) most → is_marked bad i ≡ false
+    → IsOrder numbers bad i most → IsOrder (insert numbers p i) bad (i + 1) most
+places_good numbers bad i most p place good is =
+    let new = insert numbers p i in
+    let g = good_before bad i in
+    let few = few_good bad i in
+    let first : p ≤ g = omega (arith, place, (no_greater g most).0) in
+    let second : p ≤ most = omega (arith, place, (no_greater g most).1) in
+    let le : p ≤ i = omega (arith, first, few) in
+    let now : good_before bad (i + 1) ≡ g + 1 = next_good bad i false good in
+    let at_most : p < most → p ≡ g = λ lt. ⊎_elim
+    (λ under. absurd (omega (arith, place, lt, least_second g most under)))
+    (λ fits. place ∙ least_first g most fits)
+    (cases_lt most g) in
+    let low = below numbers bad i most is p le in
+    let mid : chip_block new p ≡ i = here numbers bad i most is p le in
+    let high : (c : ℕ) → p < c → c ≤ i → chip_block new c ≡ chip_block numbers (c - 1) = λ c after within.
+    let one : (c - 1) + 1 ≡ c = omega (arith, after) in
+    ap (chip_block new) (sym one) ∙ above numbers bad i most is p le (c - 1) (omega (arith, after)) (omega (arith, after, within)) in
+    record {
+      all = one_more numbers bad i most is p le;
+      to = λ b. later p i (is.to b);
+      found = λ c. ap (λ (b : ℕ). later p i (is.to b)) (moved numbers bad i most is p le c)
+          ∙ (ap (later p i) (is.found (earlier p i c)) ∙ later_earlier p i c le);
+      put = λ b. moved numbers bad i most is p le (later p i (is.to b))
+          ∙ (ap (chip_block numbers) (earlier_later p i (is.to b) le) ∙ is.put b);
+      good = λ c lt. ⊎_elim
+          (λ under. ap (is_marked bad) (low c under) ∙ is.good c (omega (arith, under, first)))
+          (λ not_under. ⊎_elim
+          (λ e. ap (is_marked bad) (ap (chip_block new) e ∙ mid) ∙ good)
+          (λ differs. ap (is_marked bad) (high c (omega (arith, not_under, differs)) (omega (arith, lt, now, few)))
+          ∙ is.good (c - 1) (omega (arith, lt, now, not_under, differs)))
+          (cases_eq c p))
+          (cases_lt c p);
+      reserved = λ c past lt.
+          let last : p ≡ most = ⊎_elim
+          (λ under. absurd (omega (arith, at_most under, under, past, lt, now)))
+          (λ not_under. omega (arith, not_under, second))
+          (cases_lt p most) in
+          ⊎_elim
+          (λ e. omega (arith, ap (good_before bad) (ap (chip_block new) e ∙ mid), e, last, now))
+          (λ differs. omega (
+            arith,
+            ap (good_before bad) (high c (omega (arith, past, last, differs)) (omega (arith, lt, now, few))),
+            is.reserved (c - 1) (omega (arith, past, last, differs)) (omega (arith, lt, now, past, last, differs)),
+            now,
+            past,
+            last,
+            differs,
+          ))
+          (cases_eq c p);
+      others = λ c past lt. ap (is_marked bad) (high c (omega (arith, past, now, first)) (omega (arith, lt)))
+          ∙ is.others (c - 1) (omega (arith, past, now)) (omega (arith, past, now, lt));
+    }
 
 has_pages : (sectors blocks pages : ℕ) → sectors < blocks * pages → 0 < pages
 has_pages sectors blocks zero lt = absurd (omega (arith, lt))
@@ -126,7 +293,7 @@ erased_opens f shape bad sectors erased some =
     let device = device_on shape bad sectors in
     let good = first_good bad shape.blocks some in
     let used : 0 < device.blocks =
-    below (good_before bad shape.blocks) (most_used shape sectors) 0 some (omega (arith, at_least_two shape sectors)) in
+    least (good_before bad shape.blocks) (most_used shape sectors) 0 some (omega (arith, at_least_two shape sectors)) in
     record {
       readable = readable f device [] [] (erased_recoverable f device erased used);
       frees = (
@@ -138,48 +305,19 @@ erased_opens f shape bad sectors erased some =
       blank = λ b lt is p s n v held. erased_holds_none s n v (sym (erased b p) ∙ held);
     }
 
--- a good block takes the next number of the good ones
-pub takes : (old new : List ℕ) (bad : List Bool) (i : ℕ) → is_marked bad i ≡ false → IsOrder old bad i
-    → ((c : ℕ) → chip_block new c ≡ chip_block old (swapped (good_before bad i) i c)) → IsOrder new bad (i + 1)
-takes old new bad i marked is swap =
-    let g = good_before bad i in
-    let few : g ≤ i = few_good bad i in
-    let now : good_before bad (i + 1) ≡ g + 1 = next_good bad i false marked in
-    let stays : (c : ℕ) → c ≢ g → c ≢ i → chip_block new c ≡ chip_block old c = λ c a b. swap c ∙ ap (chip_block old) (swapped_other g i c a b) in
-    let first : chip_block new g ≡ i = swap g ∙ (ap (chip_block old) (swapped_first g i) ∙ is.rest i (omega arith)) in
-    let last : chip_block new i ≡ chip_block old g = swap i ∙ ap (chip_block old) (swapped_second g i) in
-    record {
-      to = λ b. swapped g i (is.to b);
-      found = λ c. ap (λ (b : ℕ). swapped g i (is.to b)) (swap c) ∙ (ap (swapped g i) (is.found (swapped g i c)) ∙ swapped_twice g i c);
-      put = λ b. swap (swapped g i (is.to b)) ∙ (ap (chip_block old) (swapped_twice g i (is.to b)) ∙ is.put b);
-      good = λ c lt. ⊎_elim
-          (λ here. ap (is_marked bad) (ap (chip_block new) here ∙ first) ∙ marked)
-          (λ differs. ap (is_marked bad) (stays c differs (λ e. omega (arith, e, lt, now, few, differs)))
-          ∙ is.good c (omega (arith, lt, now, differs)))
-          (cases_eq c g);
-      ranked = λ c lt. ⊎_elim
-          (λ here. ap (good_before bad) (ap (chip_block new) here ∙ first) ∙ sym here)
-          (λ differs. ap (good_before bad) (stays c differs (λ e. omega (arith, e, lt, now, few, differs)))
-          ∙ is.ranked c (omega (arith, lt, now, differs)))
-          (cases_eq c g);
-      others = λ c le lt. ⊎_elim
-          (λ here. ap (is_marked bad) (ap (chip_block new) here ∙ last) ∙ is.others g (omega arith) (omega (arith, here, le, now)))
-          (λ differs. ap (is_marked bad) (stays c (λ e. omega (arith, e, le, now)) differs)
-          ∙ is.others c (omega (arith, le, now)) (omega (arith, lt, differs)))
-          (cases_eq c i);
-      rest = λ c le. stays c (λ e. omega (arith, e, le, few)) (λ e. omega (arith, e, le)) ∙ is.rest c (omega (arith, le));
-    }
-
 -- the pages of the blocks in this order are those of a flash that is numbered anew
-module _ (numbers : List ℕ) (bad : List Bool) (blocks : ℕ) (is : IsOrder numbers bad blocks) where
+module _ (numbers : List ℕ) (bad : List Bool) (blocks most : ℕ) (is : IsOrder numbers bad blocks most) where
+  rest : (c : ℕ) → blocks ≤ c → chip_block numbers c ≡ c
+  rest c le = past numbers c (omega (arith, is.all, le))
+
   -- those of the chip are the chip's, since each other one has its own number
   pub within : (b : ℕ) → b < blocks → is.to b < blocks
-  within b lt = ⊎_elim (λ lt. lt) (λ past. absurd (omega (arith, is.rest (is.to b) past, is.put b, past, lt))) (cases_lt (is.to b) blocks)
+  within b lt = ⊎_elim (λ lt. lt) (λ le. absurd (omega (arith, rest (is.to b) le, is.put b, le, lt))) (cases_lt (is.to b) blocks)
 
   pub lies : (c : ℕ) → c < blocks → chip_block numbers c < blocks
   lies c lt = ⊎_elim
       (λ lt. lt)
-      (λ past. absurd (omega (arith, is.found (chip_block numbers c), ap is.to (is.rest (chip_block numbers c) past), is.found c, past, lt)))
+      (λ le. absurd (omega (arith, is.found (chip_block numbers c), ap is.to (rest (chip_block numbers c) le), is.found c, le, lt)))
       (cases_lt (chip_block numbers c) blocks)
 
   abbrev pub anew : (f : Flash) → IsRenumbered f (numbered numbers f) blocks
@@ -187,6 +325,25 @@ module _ (numbers : List ℕ) (bad : List Bool) (blocks : ℕ) (is : IsOrder num
 
   abbrev pub back : (f : Flash) → IsRenumbered (numbered numbers f) f blocks
   back f = record { to = chip_block numbers; from = is.to; inverse = is.put; moved = λ b p. refl; within = lies }
+
+  -- those in use come before the reserve
+  pub used_rank : (c : ℕ) → c < most → c < good_before bad blocks → good_before bad (chip_block numbers c) < most
+  used_rank c few lt =
+      let b = chip_block numbers c in
+      let good = is.good c lt in
+      ⊎_elim
+      (λ under. under)
+      (λ many.
+      let r = good_before bad b in
+      let total = good_grows bad (suc b) blocks (lies c (omega (arith, lt, few_good bad blocks))) in
+      let one = next_good bad b false good in
+      let below : r < good_before bad blocks = omega (arith, total, one, ap (good_before bad) {x = suc b} {y = b + 1} (omega arith)) in
+      let d = most + good_before bad blocks - 1 - r in
+      let there : good_before bad (chip_block numbers d) ≡ r =
+      omega (arith, is.reserved d (omega (arith, below)) (omega (arith, many, below)), many, below) in
+      let same = same_rank bad (chip_block numbers d) b (is.good d (omega (arith, many, below))) good there in
+      absurd (omega (arith, sym (is.found d) ∙ (ap is.to same ∙ is.found c), few, below)))
+      (cases_lt (good_before bad b) most)
 
   pub other_chip_block : (c d : ℕ) → d ≢ c → chip_block numbers d ≢ chip_block numbers c
   other_chip_block c d differs e = differs (sym (is.found d) ∙ (ap is.to e ∙ is.found c))
@@ -198,8 +355,21 @@ module _ (numbers : List ℕ) (bad : List Bool) (blocks : ℕ) (is : IsOrder num
       (λ past. absurd (false≢true (sym good ∙ (sym (ap (is_marked bad) (is.put b)) ∙ is.others (is.to b) past (within b lt)))))
       (cases_lt (is.to b) (good_before bad blocks))
 
-  pub rank : (b : ℕ) → b < blocks → is_marked bad b ≡ false → good_before bad b ≡ is.to b
-  rank b lt good = sym (ap (good_before bad) (is.put b)) ∙ is.ranked (is.to b) (first_numbers b lt good)
+  -- of these, one in use has one of the first, and one in reserve another
+  pub in_use_first : (b : ℕ) → b < blocks → is_marked bad b ≡ false → good_before bad b < most → is.to b < min (good_before bad blocks) most
+  in_use_first b lt good few =
+      let first = first_numbers b lt good in
+      let rank = ap (good_before bad) (is.put b) in
+      least (good_before bad blocks) most (is.to b) first (⊎_elim
+          (λ under. under)
+          (λ le. absurd (omega (arith, is.reserved (is.to b) le first, rank, first, few)))
+          (cases_lt (is.to b) most))
+
+  pub in_reserve_past : (b : ℕ) → b < blocks → is_marked bad b ≡ false → most ≤ good_before bad b → most ≤ is.to b
+  in_reserve_past b lt good many =
+      let first = first_numbers b lt good in
+      let rank = ap (good_before bad) (is.put b) in
+      ⊎_elim (λ under. absurd (omega (arith, used_rank (is.to b) under first, rank, many))) (λ le. le) (cases_lt (is.to b) most)
 
 -- a block's newest versions, after the blocks were numbered anew
 module _ (f t : Flash) (blocks sectors : ℕ) (r : IsRenumbered f t blocks) (whole : (b : ℕ) → r.from (r.to b) ≡ b) where
@@ -232,12 +402,13 @@ module _ (f t : Flash) (blocks sectors : ℕ) (r : IsRenumbered f t blocks) (who
       )
 
 -- what a mount needs, told of the chip's own blocks and of those in order
-module _ (f : Flash) (shape : Shape) (bad : List Bool) (numbers : List ℕ) (sectors : ℕ) (is : IsOrder numbers bad shape.blocks) where
+module _ (f : Flash) (shape : Shape) (bad : List Bool) (numbers : List ℕ) (sectors : ℕ)
+    (is : IsOrder numbers bad shape.blocks (most_used shape sectors)) where
   pub openable : (updates : List Update) → IsRecoverable (numbered numbers f) (device_on shape bad sectors) updates updates
       → IsReserveBlank f shape bad sectors → IsOpenable f shape bad sectors updates
   openable updates mounts blank =
       let device = device_on shape bad sectors in
-      let again = back numbers bad shape.blocks is f in
+      let again = back numbers bad shape.blocks (most_used shape sectors) is f in
       let spare = mounts.spare in
       let first = fewer (good_before bad shape.blocks) (most_used shape sectors) spare.0 spare.1 in
       record {
@@ -245,8 +416,11 @@ module _ (f : Flash) (shape : Shape) (bad : List Bool) (numbers : List ℕ) (sec
             (readable (numbered numbers f) device updates updates mounts);
         frees = (
           chip_block numbers spare.0,
-          lies numbers bad shape.blocks is spare.0 (omega (arith, first.0, few_good bad shape.blocks)),
-          (is.good spare.0 first.0, omega (arith, is.ranked spare.0 first.0, first.1)),
+          lies numbers bad shape.blocks (most_used shape sectors) is spare.0 (omega (arith, first.0, few_good bad shape.blocks)),
+          (
+            is.good spare.0 first.0,
+            used_rank numbers bad shape.blocks (most_used shape sectors) is spare.0 first.1 first.0,
+          ),
           duplicated_there (numbered numbers f) f shape.blocks sectors again is.found spare.0 spare.2,
         );
         blank = blank;
@@ -256,7 +430,7 @@ module _ (f : Flash) (shape : Shape) (bad : List Bool) (numbers : List ℕ) (sec
       → IsRecoverable (numbered numbers f) (device_on shape bad sectors) updates updates
   mountable updates opens =
       let device = device_on shape bad sectors in
-      let order = anew numbers bad shape.blocks is f in
+      let order = anew numbers bad shape.blocks (most_used shape sectors) is f in
       let there = readable_renumbered f (numbered numbers f) device device updates updates order (refl, refl, refl) opens.readable in
       let free = opens.frees in
       record {
@@ -264,13 +438,12 @@ module _ (f : Flash) (shape : Shape) (bad : List Bool) (numbers : List ℕ) (sec
         written = there.written;
         spare = (
           is.to free.0,
-          below (good_before bad shape.blocks) (most_used shape sectors) (is.to free.0)
-              (first_numbers numbers bad shape.blocks is free.0 free.1 free.2.0)
-              (omega (arith, free.2.1, rank numbers bad shape.blocks is free.0 free.1 free.2.0)),
+          in_use_first numbers bad shape.blocks (most_used shape sectors) is free.0 free.1 free.2.0 free.2.1,
           duplicated_there f (numbered numbers f) shape.blocks sectors order is.put free.0 free.3,
         );
       }
 
   pub written_in_order : IsWrittenOn (device_on shape bad sectors) f → IsWrittenOn (device_on shape bad sectors) (numbered numbers f)
   written_in_order written = let device = device_on shape bad sectors in
-      written_renumbered f (numbered numbers f) shape.blocks (anew numbers bad shape.blocks is f) device device (refl, refl, refl) refl written
+      written_renumbered f (numbered numbers f) shape.blocks (anew numbers bad shape.blocks (most_used shape sectors) is f) device device
+          (refl, refl, refl) refl written

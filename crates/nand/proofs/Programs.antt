@@ -47,7 +47,7 @@ completes_none f t (Erase c) s x is does b p e m v held = ⊎_elim
 completes_none f t Refused s x is does b p e m v held = (b, p, sym (does b p) ∙ held)
 
 -- a command on the blocks in their order, which changed flash g of a call that began with f
-module _ (f g t : Flash) (numbers : List ℕ) (bad : List Bool) (blocks : ℕ) (order : IsOrder numbers bad blocks) (had : HasNoNew f g) where
+module _ (f g t : Flash) (numbers : List ℕ) (bad : List Bool) (blocks most : ℕ) (order : IsOrder numbers bad blocks most) (had : HasNoNew f g) where
   pub still_none : (m : Command) (s : Extent) (x : Sector) → is_program m ≡ false → Completes m s x (numbered numbers g) (numbered numbers t)
       → HasNoNew f t
   still_none m s x is does b p e n v held =

@@ -13,9 +13,11 @@ use Rattle.durable.specs.declared.extent.Extent.{Extent}
 use Rattle.durable.proofs.Extents.{covered}
 use Rattle.nand.specs.declared.failure.Failure.{Failure}
 use Rattle.nand.specs.Stored.{AreEmptyBefore, ReadsStored, TellsStored, WereStored, stored_value, told_of, value_at, value_for}
-use Rattle.nand.specs.Nand.{ReadsMain}
+use Rattle.nand.specs.Nand.{ReadsMain, ReadsStamp}
 use Rattle.nand.specs.Numbers.{chip_page, numbered}
+use Rattle.nand.specs.declared.flash.Reading.TheVariants as outcome
 use Rattle.nand.specs.declared.flash.Shape.{Shape}
+use Rattle.nand.specs.declared.flash.Stamp.{Stamp}
 use Rattle.nand.specs.declared.layer.Durable.{Durable}
 use Rattle.nand.specs.Opened.{IsOpenLayer, ReadsSector, layer_sectors}
 use Rattle.nand.proofs.Steps.{array_is}
@@ -107,3 +109,10 @@ module _ {N : Type 0} (flash : N → Flash) (layer : Durable N) (s : ℕ) where
 
     pub told_there : (result : Result Was Failure) → result ≡ told_of (stored_value flash layer s) → result ≡ Ok (was_of (array_after updates s))
     told_there result told = told ∙ ap told_of in_array
+
+-- a page that is read as a version has one
+pub has_version : (f : Flash) (b p : ℕ) (page : PageContents) (stamp : Stamp) → f b p ≡ page → ReadsStamp page (outcome.Version stamp)
+    → (e : Extent) × (m : ℕ) × (v : Sector) × (f b p ≡ Version e m v)
+has_version f b p (Version e m v) stamp is reads = (e, m, v, is)
+has_version f b p Erased stamp is reads = absurd reads
+has_version f b p Torn stamp is reads = absurd reads

@@ -1,6 +1,6 @@
 -- The commands of one call.
-use Rattle.std.proofs.Common.{◌≡◌, ◌≢◌, ◌⊎◌, ◌∙◌, inl, ⊎_elim, ◌<◌, ◌+◌, ◌-◌, ◌%◌, ◌^◌, ℕ, Bool, true, false}
-use Rattle.std.proofs.Common.{List, Vec, ◌∷◌, None, Some, Result, Ok, Err, OnOk, IfErr, sym, refl}
+use Rattle.std.proofs.Common.{◌≡◌, ◌≢◌, ◌⊎◌, ◌∙◌, inl, ⊎_elim, ◌+◌, ◌-◌, ◌%◌, ◌^◌, ℕ, Bool, true, false}
+use Rattle.std.proofs.Common.{List, Vec, ◌∷◌, None, Some, Result, Ok, Err, OnOk, OnErr, IfErr, sym, refl}
 use Rattle.std.proofs.Common.{ap, subst, arith}
 use Rattle.std.proofs.lemmas.Bool.{false≢true}
 use Rattle.geometry.specs.Sectors.{Sector, was_of}
@@ -11,7 +11,7 @@ use Rattle.durable.specs.declared.command.Command.TheVariants.{Program, Copy, Er
 use Rattle.durable.specs.declared.memory.Core.{Core}
 use Rattle.durable.specs.Choice.{number_after}
 use Rattle.durable.specs.Commands.{is_program, updates_with}
-use Rattle.durable.specs.Device.{Device, device_of, losses_of}
+use Rattle.durable.specs.Device.{Device, device_of}
 use Rattle.durable.specs.Flash.{Flash}
 use Rattle.durable.specs.Promise.{IsConsistent, IsRecoverable}
 use Rattle.durable.specs.Memory.{Represents, map_entry}
@@ -28,8 +28,8 @@ use Rattle.nand.specs.declared.flash.Shape.{Shape}
 use Rattle.nand.specs.declared.flash.Tally.{Tally}
 use Rattle.nand.specs.declared.layer.Durable.{Durable}
 use Rattle.nand.specs.Numbers.{IsOrder, good_before, numbered}
-use Rattle.nand.specs.Opened.{CanOpen, Fails, HasMarkedFailed, IsOpenLayer, IsSpent, IsTrueCause, device_on}
-use Rattle.nand.specs.Opened.{layer_sectors, number_of, update_of}
+use Rattle.nand.specs.Opened.{CanOpen, Fails, HasMarkedFailed, IsOpenLayer, IsRefusal, IsSpent, IsTrueCause, device_on}
+use Rattle.nand.specs.Opened.{layer_sectors, most_used, number_of, update_of}
 use Rattle.nand.specs.Stored.{stored_value, value_at}
 use Rattle.nand.specs.Looks.{Looks}
 use Rattle.nand.specs.Programs.{ProgramsOnce, TalliesOnce}
@@ -74,9 +74,11 @@ device_there core a b x y sectors is chip marks = is ∙ (ap (λ (s : Shape). de
     ∙ (ap (λ (m : List Bool). device_on b m sectors) (sym marks) ∙ ap (λ (d : Device). device_on b y d.sectors) (sym is)))
 
 -- the order is that of the chip as before
-pub same_order : (numbers : List ℕ) (a b : Shape) (x y : List Bool) → b ≡ a → y ≡ x → IsOrder numbers x a.blocks → IsOrder numbers y b.blocks
-same_order numbers a b x y chip marks is = subst (λ (m : List Bool). IsOrder numbers m b.blocks) (sym marks)
-    (subst (λ (s : Shape). IsOrder numbers x s.blocks) (sym chip) is)
+pub same_order : (numbers : List ℕ) (a b : Shape) (x y : List Bool) (s t : ℕ) → b ≡ a → y ≡ x → t ≡ s
+    → IsOrder numbers x a.blocks (most_used a s) → IsOrder numbers y b.blocks (most_used b t)
+same_order numbers a b x y s t chip marks sectors is = subst (λ (n : ℕ). IsOrder numbers y b.blocks (most_used b n)) (sym sectors)
+    (subst (λ (m : List Bool). IsOrder numbers m b.blocks (most_used b s)) (sym marks)
+    (subst (λ (c : Shape). IsOrder numbers x c.blocks (most_used c s)) (sym chip) is))
 
 -- a power cut between two calls
 pub left_open : {N : Type 0} (flash : N → Flash) (shape : N → Shape) (bad : N → List Bool) (layer : Durable N) (updates : List Update)
@@ -128,12 +130,10 @@ module _ {N : Type 0} {flash : N → Flash} {shape : N → Shape} {bad : N → L
   pub true_after : (new : Durable N) (cause : Failure) → IsTrueCause faults mid new cause → IsTrueCause faults old new cause
   true_after new failure.PowerGone is = λ e. is (e ∙ sym (looks.counts fault.PowerGone))
   true_after new failure.Failed is = λ e. is (e ∙ sym (looks.counts fault.Failed))
-  true_after new failure.OutOfMemory is = λ e. is (e ∙ sym (looks.counts fault.Failed))
   true_after new failure.Closed is = sym looks.mounted ∙ is
   true_after new failure.NoNumber is = omega (arith, looks.number, is)
   true_after new failure.Written is = tt
   true_after new failure.Lost is = tt
-  true_after new failure.PagesLost is = subst (λ (core : Core). losses_of core < losses_of new.core) looks.core is
 
   -- what was marked
   pub marked_after : (new : Durable N) → HasMarkedFailed shape bad faults mid new → HasMarkedFailed shape bad faults old new
@@ -182,6 +182,7 @@ module _ {N : Type 0} {flash : N → Flash} {shape : N → Shape} {bad : N → L
     numbers = more.numbers ∙ looks.numbers;
     device = record {
       sectors = more.device.sectors ∙ looks.device.sectors;
+      number = more.number ∙ looks.number;
       chip = more.device.chip ∙ looks.device.chip;
       marks = more.device.marks ∙ looks.device.marks;
     };
@@ -192,6 +193,25 @@ not_failed {T} cause is failed = cc (is, failed)
 
 pub not_lost : {T : Type 0} (cause : Failure) → ◌≡◌ {A = Result T Failure} (Err cause) (Err failure.PowerGone) → cause ≢ failure.Lost
 not_lost {T} cause is lost = cc (is, lost)
+
+pub not_refused : {T : Type 0} (cause : Failure) → ◌≡◌ {A = Result T Failure} (Err cause) (Err failure.PowerGone) → IsRefusal cause → ⊥
+not_refused {T} cause is refused =
+    let e : cause ≡ failure.PowerGone = cc is in
+    subst IsRefusal e refused
+
+pub on_ok : {T P : Type 0} (result : Result T Failure) → P → OnOk result P
+on_ok (Ok v) is = is
+on_ok (Err cause) is = tt
+
+-- a look that fails without a fault has found the sector lost
+pub lost_is_true : {N T : Type 0} (faults : N → Fault → ℕ) (old new : Durable N) (result : Result T Failure) → OnErr result (result ≡ Err failure.Lost)
+    → IfErr result (IsTrueCause faults old new)
+lost_is_true faults old new (Ok found) is = tt
+lost_is_true faults old new (Err cause) is = let e : cause ≡ failure.Lost = cc is in subst (IsTrueCause faults old new) (sym e) tt
+
+pub lost_not_written : {T : Type 0} (result : Result T Failure) → OnErr result (result ≡ Err failure.Lost) → result ≢ Err failure.Written
+lost_not_written (Ok found) is e = cc e
+lost_not_written (Err cause) is e = cc (is, e)
 
 pub power_gone : (failure.PowerGone ≢ failure.Lost) × (failure.PowerGone ≢ failure.Failed)
 power_gone = (λ e. cc e, λ e. cc e)
@@ -220,7 +240,7 @@ trims_nothing {N} flash shape bad layer e updates is empty =
       mounted = is.mounted;
       order = is.order;
       device = is.device;
-      reserve = is.reserve;
+      good = is.good;
       blank = is.blank;
       consistent = record {
         updates = more;

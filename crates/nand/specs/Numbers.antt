@@ -1,6 +1,6 @@
--- The blocks of a chip in the order in which the layer numbers them: the good ones, of which the first are in use and the others are a reserve, and
--- then those that are marked bad.
-use Rattle.std.specs.Prelude.{◌≡◌, ◌≢◌, ◌<◌, ◌≤◌, ◌+◌, ◌-◌, ◌/◌, ℕ, max, zero, suc, Bool, true, false, List, if◌then◌else◌, slice_index_or}
+-- The numbers that the layer gives to the blocks of a chip: first to the good ones, of which some are in use and the others are a reserve, and then to
+-- those that are marked bad.
+use Rattle.std.specs.Prelude.{◌≡◌, ◌≢◌, ◌<◌, ◌≤◌, ◌+◌, ◌-◌, ◌/◌, ℕ, max, zero, suc, Bool, true, false, List, if◌then◌else◌, length, slice_index_or}
 use Rattle.geometry.specs.declared.page_addr.PageAddr.{PageAddr}
 use Rattle.durable.specs.Flash.{Flash}
 
@@ -41,12 +41,13 @@ IsInReserve bad most b = (is_marked bad b ≡ false) × (most ≤ good_before ba
 abbrev pub Marks : List Bool → List Bool → ℕ → Type 0
 Marks before now b = (is_marked now b ≡ true) × ((d : ℕ) → d ≢ b → is_marked now d ≡ is_marked before d)
 
--- each block has one number: of those before block i first the good ones in their order, then the bad ones, and the others have their own
-pub record IsOrder (numbers : List ℕ) (bad : List Bool) (i : ℕ) : Type 0 where
+-- each of so many blocks has one number. First come the good ones: those in use, in any order, and then the reserve, from its last block to its first;
+-- and then come the bad ones. A number past them stands for itself
+pub record IsOrder (numbers : List ℕ) (bad : List Bool) (blocks most : ℕ) : Type 0 where
+  pub all : length numbers ≡ blocks
   pub to : ℕ → ℕ
   pub found : (c : ℕ) → to (chip_block numbers c) ≡ c
   pub put : (b : ℕ) → chip_block numbers (to b) ≡ b
-  pub good : (c : ℕ) → c < good_before bad i → is_marked bad (chip_block numbers c) ≡ false
-  pub ranked : (c : ℕ) → c < good_before bad i → good_before bad (chip_block numbers c) ≡ c
-  pub others : (c : ℕ) → good_before bad i ≤ c → c < i → is_marked bad (chip_block numbers c) ≡ true
-  pub rest : (c : ℕ) → i ≤ c → chip_block numbers c ≡ c
+  pub good : (c : ℕ) → c < good_before bad blocks → is_marked bad (chip_block numbers c) ≡ false
+  pub reserved : (c : ℕ) → most ≤ c → c < good_before bad blocks → good_before bad (chip_block numbers c) + c + 1 ≡ most + good_before bad blocks
+  pub others : (c : ℕ) → good_before bad blocks ≤ c → c < blocks → is_marked bad (chip_block numbers c) ≡ true

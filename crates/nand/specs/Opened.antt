@@ -79,15 +79,15 @@ CanOpen {N} flash shape bad nand sectors updates = IsOpenable (flash nand) (shap
 
 -- how many blocks the layer has in reserve
 abbrev pub reserve_of : {N : Type 0} → Durable N → ℕ
-reserve_of {N} layer = layer.reserve
+reserve_of {N} layer = layer.good - (device_of layer.core).blocks
 
 -- the layer is open, uses no bad block and none of the reserve, and holds the array after these updates, the newest first
 pub record IsOpenLayer {N : Type 0} (flash : N → Flash) (shape : N → Shape) (bad : N → List Bool) (layer : Durable N) (updates : List Update)
     : Type 0 where
   pub mounted : layer.mounted ≡ true
-  pub order : IsOrder layer.numbers.items (bad layer.nand) (shape layer.nand).blocks
+  pub order : IsOrder layer.numbers.items (bad layer.nand) (shape layer.nand).blocks (most_used (shape layer.nand) (layer_sectors layer))
   pub device : device_of layer.core ≡ device_on (shape layer.nand) (bad layer.nand) (layer_sectors layer)
-  pub reserve : reserve_of layer + (device_of layer.core).blocks ≡ good_before (bad layer.nand) (shape layer.nand).blocks
+  pub good : layer.good ≡ good_before (bad layer.nand) (shape layer.nand).blocks
   pub blank : IsReserveBlank (flash layer.nand) (shape layer.nand) (bad layer.nand) (layer_sectors layer)
   pub consistent : IsConsistent (numbered layer.numbers.items (flash layer.nand)) layer.core updates updates
 
@@ -95,15 +95,19 @@ pub record IsOpenLayer {N : Type 0} (flash : N → Flash) (shape : N → Shape) 
 abbrev pub IsUnmounted : {N : Type 0} → Durable N → Type 0
 IsUnmounted {N} layer = layer.mounted ≡ false
 
--- the layer has as many sectors as before, and its chip is as large and has the same bad blocks
+-- the layer has as many sectors as before, and the same next number, and its chip is as large and has the same bad blocks
 pub record IsSameDevice {N : Type 0} (shape : N → Shape) (bad : N → List Bool) (old new : Durable N) : Type 0 where
   pub sectors : layer_sectors new ≡ layer_sectors old
+  pub number : number_of new ≡ number_of old
   pub chip : shape new.nand ≡ shape old.nand
   pub marks : bad new.nand ≡ bad old.nand
 
--- the layer has as many sectors as before, and its chip is as large; a mark stays, and there are more only if a command has failed
+-- the layer has as many sectors as before, gives no number again, and tells as many losses, and its chip is as large; a mark stays, and there are more
+-- only if a command has failed
 pub record KeepsDevice {N : Type 0} (shape : N → Shape) (bad : N → List Bool) (faults : N → Fault → ℕ) (old new : Durable N) : Type 0 where
   pub sectors : layer_sectors new ≡ layer_sectors old
+  pub number : number_of old ≤ number_of new
+  pub losses : losses_of new.core ≡ losses_of old.core
   pub chip : shape new.nand ≡ shape old.nand
   pub marks : (b : ℕ) → is_marked (bad old.nand) b ≡ true → is_marked (bad new.nand) b ≡ true
   pub same : faults new.nand fault.Failed ≡ faults old.nand fault.Failed → bad new.nand ≡ bad old.nand
@@ -127,12 +131,10 @@ MarksFailed flash shape bad faults old new =
 abbrev pub IsRefusal : Failure → Type 0
 IsRefusal failure.PowerGone = ⊥
 IsRefusal failure.Failed = ⊥
-IsRefusal failure.OutOfMemory = ⊥
 IsRefusal failure.Closed = ⊥
 IsRefusal failure.NoNumber = Unit {0}
 IsRefusal failure.Written = Unit {0}
 IsRefusal failure.Lost = ⊥
-IsRefusal failure.PagesLost = ⊥
 
 -- no block is in reserve, or the numbers have run out
 abbrev pub IsSpent : Shape → List Bool → ℕ → ℕ → Type 0
@@ -148,17 +150,14 @@ pub record Fails {N : Type 0} (flash : N → Flash) (shape : N → Shape) (bad :
   pub readable : cause ≢ failure.Lost
   pub spent : cause ≡ failure.Failed → IsSpent (shape new.nand) (bad new.nand) (layer_sectors old) (number_of new)
 
--- the cause that a call tells is the true one: the chip has counted the fault, the layer was closed, the numbers have run out, or a
--- mount has found more losses than were known
+-- the cause that a call tells is the true one: the chip has counted the fault, the layer was closed, or the numbers have run out
 abbrev pub IsTrueCause : {N : Type 0} → (N → Fault → ℕ) → Durable N → Durable N → Failure → Type 0
 IsTrueCause {N} faults old new failure.PowerGone = faults new.nand fault.PowerGone ≢ faults old.nand fault.PowerGone
 IsTrueCause {N} faults old new failure.Failed = faults new.nand fault.Failed ≢ faults old.nand fault.Failed
-IsTrueCause {N} faults old new failure.OutOfMemory = faults new.nand fault.Failed ≢ faults old.nand fault.Failed
 IsTrueCause {N} faults old new failure.Closed = IsUnmounted old
 IsTrueCause {N} faults old new failure.NoNumber = 2 ^ 64 ≤ number_of old + 1
 IsTrueCause {N} faults old new failure.Written = Unit {0}
 IsTrueCause {N} faults old new failure.Lost = Unit {0}
-IsTrueCause {N} faults old new failure.PagesLost = losses_of old.core < losses_of new.core
 
 -- an update of an open layer with such an array has failed for a true cause: the power went, a command failed, or the numbers had run out
 pub record HasFailed {N : Type 0} (flash : N → Flash) (shape : N → Shape) (bad : N → List Bool) (faults : N → Fault → ℕ) (update : Update)

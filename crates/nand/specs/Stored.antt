@@ -55,10 +55,8 @@ StopsLook has extent failure.Lost = HasLostSector has extent
 StopsLook has extent failure.PowerGone = Unit {0}
 StopsLook has extent failure.Closed = Unit {0}
 StopsLook has extent failure.Failed = ⊥
-StopsLook has extent failure.OutOfMemory = ⊥
 StopsLook has extent failure.NoNumber = ⊥
 StopsLook has extent failure.Written = ⊥
-StopsLook has extent failure.PagesLost = ⊥
 
 -- what a look at the sectors of an extent tells
 abbrev pub TellsStored : (ℕ → Option Sector) → Extent → Result Was Failure → Type 0
@@ -71,10 +69,8 @@ StopsUpdate wanted has extent failure.Lost = HasLostSector has extent
 StopsUpdate wanted has extent failure.PowerGone = Unit {0}
 StopsUpdate wanted has extent failure.Closed = Unit {0}
 StopsUpdate wanted has extent failure.Failed = WereStored has extent wanted
-StopsUpdate wanted has extent failure.OutOfMemory = WereStored has extent wanted
 StopsUpdate wanted has extent failure.NoNumber = WereStored has extent wanted
 StopsUpdate wanted has extent failure.Written = WereStored has extent was.Written
-StopsUpdate wanted has extent failure.PagesLost = WereStored has extent wanted
 
 -- what is told of a sector that has this value
 abbrev pub told_of : Option Sector → Result Was Failure

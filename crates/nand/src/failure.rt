@@ -7,15 +7,9 @@ pub enum Failure {
     /// The power is gone. Open the chip again once it is back.
     #[error("the power is gone")]
     PowerGone,
-    /// A command has failed, and no block is in reserve. Open the chip again.
+    /// A command has failed, and no block is in reserve, or the next one has sectors. Open the chip again.
     #[error("a command has failed")]
     Failed,
-    /// A command has failed, and there is too little memory to go on without its block. Open the chip again.
-    #[error("out of memory after a command has failed")]
-    OutOfMemory,
-    /// A command has failed, and without its block more pages can't be read than the open told. Open the chip again.
-    #[error("pages have become unreadable")]
-    PagesLost,
     /// An earlier call has failed, and the chip wasn't opened again.
     #[error("the chip has to be opened again")]
     Closed,

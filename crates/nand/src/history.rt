@@ -35,9 +35,6 @@ impl<N: Nand> Durable<N> {
         ensures idle { IsUnmounted self.old → N.tally self.new.nand ≡ N.tally self.old.nand }
         ensures device { KeepsDevice N.shape N.bad N.faults self.old self.new }
         ensures marks { OnOk result (MarksFailed N.flash N.shape N.bad N.faults self.old self.new) }
-        ensures losses { OnOk result (losses_of self.new.core ≤ losses_of self.old.core) }
-        ensures memory { result ≡ Err failure.OutOfMemory
-            → MarksFailed N.flash N.shape N.bad N.faults self.old self.new }
         ensures overwrites { result ≢ Err failure.Written }
         ensures once { (updates : List Update) → IsOpenLayer N.flash N.shape N.bad self.old updates
             → OnOk result ((N.flash self.new.nand ≡ N.flash self.old.nand)

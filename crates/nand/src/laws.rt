@@ -142,12 +142,8 @@ pub fn failed_looks()
     ensures power { (has : ℕ → Option Sector) → StopsLook has (sole 7) failure.PowerGone }
     ensures closed { (has : ℕ → Option Sector) → StopsLook has (sole 7) failure.Closed }
     ensures failed { (has : ℕ → Option Sector) → ¬ StopsLook has (sole 7) failure.Failed }
-    ensures memory { (has : ℕ → Option Sector) → ¬ StopsLook has (sole 7) failure.OutOfMemory }
     ensures number { (has : ℕ → Option Sector) → ¬ StopsLook has (sole 7) failure.NoNumber }
     ensures written { (has : ℕ → Option Sector) → ¬ StopsLook has (sole 7) failure.Written }
-    ensures pages_lost { (has : ℕ → Option Sector) → ¬ StopsLook has (sole 7) failure.PagesLost }
-    ensures update_pages_lost { (has : ℕ → Option Sector) → has 7 ≡ None
-        → ¬ StopsUpdate was.Empty has (sole 7) failure.PagesLost }
     ensures update_lost { (has : ℕ → Option Sector) → has 7 ≡ None
         → StopsUpdate was.Empty has (sole 7) failure.Lost }
     ensures update_there { (has : ℕ → Option Sector) → has 7 ≡ Some None
@@ -160,8 +156,6 @@ pub fn failed_looks()
         → StopsUpdate was.Written has (sole 7) failure.Failed }
     ensures update_failed { (has : ℕ → Option Sector) → has 7 ≡ None
         → ¬ StopsUpdate was.Empty has (sole 7) failure.Failed }
-    ensures update_memory { (has : ℕ → Option Sector) → has 7 ≡ None
-        → ¬ StopsUpdate was.Empty has (sole 7) failure.OutOfMemory }
     ensures update_number { (has : ℕ → Option Sector) → has 7 ≡ None
         → ¬ StopsUpdate was.Empty has (sole 7) failure.NoNumber }
     ensures update_written { (has : ℕ → Option Sector) → has 7 ≡ None
@@ -358,10 +352,8 @@ pub fn failures()
     ensures is_written { IsRefusal failure.Written }
     ensures no_power { ¬ IsRefusal failure.PowerGone }
     ensures no_command { ¬ IsRefusal failure.Failed }
-    ensures no_memory { ¬ IsRefusal failure.OutOfMemory }
     ensures is_closed { ¬ IsRefusal failure.Closed }
     ensures is_lost { ¬ IsRefusal failure.Lost }
-    ensures pages_lost { ¬ IsRefusal failure.PagesLost }
 {}
 
 /// An open layer on a modelled chip, and a chip that can be opened.
@@ -385,7 +377,8 @@ pub fn opened()
     ensures below { (f : Flash) (v : Sector) → f 0 0 ≡ Version (sole 7) 5 v
         → ¬ NumbersBelow f 5 }
     ensures none_below { (f : Flash) → IsErased f → NumbersBelow f 0 }
-    ensures rest { (layer : Layer Modelled) → layer.reserve ≡ 2 → reserve_of layer ≡ 2 }
+    ensures rest { (layer : Layer Modelled)
+        → layer.good ≡ 5 → (device_of layer.core).blocks ≡ 3 → reserve_of layer ≡ 2 }
     ensures is_closed { (layer : Layer Modelled) → layer.mounted ≡ false → IsUnmounted layer }
     ensures closed { (layer : Layer Modelled) (updates : List Update) → IsUnmounted layer
         → ¬ IsOpenLayer chip_flash chip_shape chip_bad layer updates }
@@ -448,19 +441,23 @@ pub fn orders()
         ≡ record { block = 2; page = 4 } }
     ensures numbers { (f : Flash) → numbered (2 ∷ 0 ∷ 1 ∷ []) f 0 4 ≡ f 2 4 }
     ensures first { (numbers : List ℕ)
-        → IsOrder numbers (true ∷ false ∷ []) 2 → chip_block numbers 0 ≢ 0 }
+        → IsOrder numbers (true ∷ false ∷ []) 2 2 → chip_block numbers 0 ≢ 0 }
     ensures last { (numbers : List ℕ)
-        → IsOrder numbers (false ∷ true ∷ []) 2 → chip_block numbers 1 ≡ 1 }
+        → IsOrder numbers (false ∷ true ∷ []) 2 2 → chip_block numbers 1 ≡ 1 }
     ensures once { (numbers : List ℕ) (bad : List Bool)
-        → IsOrder numbers bad 2 → chip_block numbers 0 ≢ chip_block numbers 1 }
-    ensures every { (numbers : List ℕ) (bad : List Bool) → IsOrder numbers bad 2
+        → IsOrder numbers bad 2 2 → chip_block numbers 0 ≢ chip_block numbers 1 }
+    ensures every { (numbers : List ℕ) (bad : List Bool) → IsOrder numbers bad 2 2
         → (c : ℕ) × (c < 2) × (chip_block numbers c ≡ 1) }
     ensures lies { (numbers : List ℕ) (bad : List Bool)
-        → IsOrder numbers bad 2 → chip_block numbers 1 < 2 }
-    ensures rest { (numbers : List ℕ) → IsOrder numbers [] 2 → chip_block numbers 5 ≡ 5 }
-    ensures in_order { IsOrder [] [] 2 }
-    ensures bad_last { IsOrder (1 ∷ 0 ∷ []) (true ∷ false ∷ []) 2 }
-    ensures ranked { (numbers : List ℕ) → IsOrder numbers [] 2 → chip_block numbers 1 ≡ 1 }
+        → IsOrder numbers bad 2 2 → chip_block numbers 1 < 2 }
+    ensures rest { (numbers : List ℕ) → IsOrder numbers [] 2 2 → chip_block numbers 5 ≡ 5 }
+    ensures in_order { IsOrder (0 ∷ 1 ∷ []) [] 2 2 }
+    ensures any_order { IsOrder (1 ∷ 0 ∷ []) [] 2 2 }
+    ensures bad_last { IsOrder (1 ∷ 0 ∷ []) (true ∷ false ∷ []) 2 2 }
+    ensures in_use_first { (numbers : List ℕ)
+        → IsOrder numbers [] 2 1 → chip_block numbers 0 ≡ 0 }
+    ensures reserve_backwards { (numbers : List ℕ)
+        → IsOrder numbers [] 3 1 → (chip_block numbers 1 ≡ 2) × (chip_block numbers 2 ≡ 1) }
     ensures most { most_in_use 100 3 4 8 ≡ 97 }
     ensures least { most_in_use 3 2 2 3 ≡ 3 }
     ensures in_use { IsInUse (true ∷ false ∷ []) 1 1 }
@@ -573,26 +570,27 @@ pub fn failing()
     ensures failed { (old new : Layer Modelled)
         → chip_faults old.nand fault.Failed ≡ 2 → chip_faults new.nand fault.Failed ≡ 2
         → ¬ IsTrueCause chip_faults old new failure.Failed }
-    ensures memory { (old new : Layer Modelled)
-        → chip_faults old.nand fault.Failed ≡ 2 → chip_faults new.nand fault.Failed ≡ 2
-        → ¬ IsTrueCause chip_faults old new failure.OutOfMemory }
     ensures open { (old new : Layer Modelled) → old.mounted ≡ true
         → ¬ IsTrueCause chip_faults old new failure.Closed }
     ensures number { (old new : Layer Modelled) → number_of old ≡ 5
         → ¬ IsTrueCause chip_faults old new failure.NoNumber }
     ensures last_number { (old new : Layer Modelled) → number_of old ≡ 2 ^ 64 - 1
         → IsTrueCause chip_faults old new failure.NoNumber }
-    ensures more_losses { (old new : Layer Modelled) → losses_of old.core ≡ 1
-        → losses_of new.core ≡ 1 → ¬ IsTrueCause chip_faults old new failure.PagesLost }
     ensures sectors { (old new : Layer Modelled) → layer_sectors old ≡ 8
         → layer_sectors new ≡ 7 → ¬ IsSameDevice chip_shape chip_bad old new }
     ensures chip { (old new : Layer Modelled) → (chip_shape old.nand).pages ≡ 4
         → (chip_shape new.nand).pages ≡ 5 → ¬ IsSameDevice chip_shape chip_bad old new }
+    ensures same_number { (old new : Layer Modelled) → number_of old ≡ 5
+        → number_of new ≡ 6 → ¬ IsSameDevice chip_shape chip_bad old new }
     ensures marks { (old new : Layer Modelled) → chip_bad old.nand ≢ chip_bad new.nand
         → ¬ IsSameDevice chip_shape chip_bad old new }
     ensures kept_sectors { (old new : Layer Modelled)
         → layer_sectors old ≡ 8 → layer_sectors new ≡ 7
         → ¬ KeepsDevice chip_shape chip_bad chip_faults old new }
+    ensures kept_number { (old new : Layer Modelled) → number_of old ≡ 5
+        → number_of new ≡ 4 → ¬ KeepsDevice chip_shape chip_bad chip_faults old new }
+    ensures kept_losses { (old new : Layer Modelled) → losses_of old.core ≡ 1
+        → losses_of new.core ≡ 0 → ¬ KeepsDevice chip_shape chip_bad chip_faults old new }
     ensures kept_chip { (old new : Layer Modelled)
         → (chip_shape old.nand).pages ≡ 4 → (chip_shape new.nand).pages ≡ 5
         → ¬ KeepsDevice chip_shape chip_bad chip_faults old new }

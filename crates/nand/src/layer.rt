@@ -32,13 +32,11 @@ use std::alloc::Global;
 #[derive(Drop)]
 pub struct Durable<N: Nand> {
     pub(crate) nand: N,
-    // For the mount that follows a command that has failed.
-    pub(crate) alloc: Global,
     // The chip's block of each of the core's.
     pub(crate) numbers: Vec<u32>,
     pub(crate) core: Core,
-    // How many good blocks aren't in use.
-    pub(crate) reserve: u32,
+    // How many blocks are good: those in use, and the reserve.
+    pub(crate) good: u32,
     // The core knows what the chip holds.
     pub(crate) mounted: bool,
 }
@@ -135,10 +133,9 @@ impl<N: Nand> Durable<N> {
         match mount(alloc, &mut nand, sectors) {
             Ok(mounted) => Ok(Durable {
                 nand,
-                alloc,
                 numbers: mounted.numbers,
                 core: mounted.core,
-                reserve: mounted.reserve,
+                good: mounted.good,
                 mounted: true,
             }),
             Err(why) => Err(NotOpened { nand, why }),
@@ -161,8 +158,8 @@ impl<N: Nand> Durable<N> {
         self.core.sectors()
     }
 
-    /// How many losses the open has found, or the mount after the last command that failed: pages that have become unreadable before others of their
-    /// blocks, which have newest versions still. An older version may stand for each of theirs.
+    /// How many losses the open has found: pages that have become unreadable before others of their blocks, which have newest versions still. An older
+    /// version may stand for each of theirs.
     pub fn losses(&self) -> u64
         ensures { result ≡ losses_of self.now.core }
     {
@@ -173,7 +170,7 @@ impl<N: Nand> Durable<N> {
     pub fn reserve(&self) -> u32
         ensures reserve { result ≡ reserve_of self.now }
     {
-        self.reserve
+        self.good.saturating_sub(self.core.blocks())
     }
 
     /// How many sectors have their page in one of the chip's blocks, if it is in use: one that is bad or in reserve isn't.
@@ -193,7 +190,7 @@ impl<N: Nand> Durable<N> {
     }
 
     /// How often each of the chip's blocks was erased before the open. Of a few blocks that are as good the least erased is taken, so a chip that was
-    /// opened often wears evenly too. The layer forgets this when a command fails.
+    /// opened often wears evenly too. A block of the reserve that comes in use takes over the count of the block that it replaces.
     pub fn erased_before(&mut self, erases: &[u32])
         ensures { self.new ≡ self.old }
     {
@@ -278,9 +275,7 @@ impl<N: Nand> Durable<N> {
         ensures idle { IsUnmounted self.old → N.tally self.new.nand ≡ N.tally self.old.nand }
         ensures device { KeepsDevice N.shape N.bad N.faults self.old self.new }
         ensures marks { OnOk result (MarksFailed N.flash N.shape N.bad N.faults self.old self.new) }
-        ensures losses { OnOk result (losses_of self.new.core ≤ losses_of self.old.core) }
-        ensures memory { result ≡ Err failure.OutOfMemory
-            → MarksFailed N.flash N.shape N.bad N.faults self.old self.new }
+        ensures number { OnOk result (number_of self.old < number_of self.new) }
         ensures once { (updates : List Update) → IsOpenLayer N.flash N.shape N.bad self.old updates
             → OnOk result
             (ProgramsOnce N.flash N.shape N.bad N.tally self.old self.new
@@ -325,9 +320,7 @@ impl<N: Nand> Durable<N> {
             → N.tally self.new.nand ≡ N.tally self.old.nand }
         ensures device { KeepsDevice N.shape N.bad N.faults self.old self.new }
         ensures marks { OnOk result (MarksFailed N.flash N.shape N.bad N.faults self.old self.new) }
-        ensures losses { OnOk result (losses_of self.new.core ≤ losses_of self.old.core) }
-        ensures memory { result ≡ Err failure.OutOfMemory
-            → MarksFailed N.flash N.shape N.bad N.faults self.old self.new }
+        ensures number { OnOk result (number_of self.old < number_of self.new) }
         ensures once { (updates : List Update) → IsOpenLayer N.flash N.shape N.bad self.old updates
             → OnOk result
             (ProgramsOnce N.flash N.shape N.bad N.tally self.old self.new
@@ -367,9 +360,7 @@ impl<N: Nand> Durable<N> {
         ensures idle { IsUnmounted self.old → N.tally self.new.nand ≡ N.tally self.old.nand }
         ensures device { KeepsDevice N.shape N.bad N.faults self.old self.new }
         ensures marks { OnOk result (MarksFailed N.flash N.shape N.bad N.faults self.old self.new) }
-        ensures losses { OnOk result (losses_of self.new.core ≤ losses_of self.old.core) }
-        ensures memory { result ≡ Err failure.OutOfMemory
-            → MarksFailed N.flash N.shape N.bad N.faults self.old self.new }
+        ensures number { result ≡ Ok was.Written → number_of self.old < number_of self.new }
         ensures once { (updates : List Update) → IsOpenLayer N.flash N.shape N.bad self.old updates
             → result ≡ Ok was.Written
             → ProgramsOnce N.flash N.shape N.bad N.tally self.old self.new (update_of extent None) }

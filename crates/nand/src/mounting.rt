@@ -7,7 +7,7 @@ ghost use Rattle.durable.specs.Promise.{IsConsistent, IsReadable, IsRecoverable}
 ghost use Rattle.durable.specs.declared.fault.MountFault.TheVariants as mount_fault;
 ghost use Rattle.nand.specs.Nand.{noted_of};
 ghost use Rattle.nand.specs.Numbers.{IsOrder, good_before, numbered};
-ghost use Rattle.nand.specs.Opened.{CanOpen, NumbersBelow, device_on, device_using, used_blocks};
+ghost use Rattle.nand.specs.Opened.{CanOpen, NumbersBelow, device_on, device_using, most_used};
 ghost use Rattle.nand.specs.declared.flash.Fault.{Fault as Cause};
 ghost use Rattle.nand.specs.declared.flash.Fault.TheVariants as fault;
 ghost use Rattle.nand.specs.declared.failure.OpenFailure.TheVariants as why;
@@ -32,12 +32,12 @@ fn noted(reading: Reading) -> Option<durable::Stamp>
     }
 }
 
-/// What a mount gives: the numbers of the chip's blocks, the core that knows the blocks by them, and how many are in reserve.
+/// What a mount gives: the numbers of the chip's blocks, the core that knows the blocks by them, and how many are good.
 #[derive(Drop)]
 pub struct Mounted {
     pub numbers: Vec<u32>,
     pub core: Core,
-    pub reserve: u32,
+    pub good: u32,
 }
 
 /// Mounts what the chip holds: asks for its bad blocks, and reads each page's stamp, block by block.
@@ -47,13 +47,13 @@ pub fn mount<N: Nand>(alloc: Global, nand: &mut N, sectors: u32) -> Result<Mount
     ensures bad { N.bad nand.new ≡ N.bad nand.old }
     ensures tally { N.tally nand.new ≡ N.tally nand.old }
     ensures order { IfOk result
-        (λ mounted. IsOrder mounted.numbers.items (N.bad nand.old) (N.shape nand.old).blocks) }
+        (λ mounted. IsOrder mounted.numbers.items (N.bad nand.old) (N.shape nand.old).blocks
+        (most_used (N.shape nand.old) sectors)) }
     ensures device { IfOk result
         (λ mounted. device_of mounted.core
         ≡ device_on (N.shape nand.old) (N.bad nand.old) sectors) }
-    ensures reserve { IfOk result
-        (λ mounted. mounted.reserve + used_blocks (N.shape nand.old) (N.bad nand.old) sectors
-        ≡ good_before (N.bad nand.old) (N.shape nand.old).blocks) }
+    ensures good { IfOk result
+        (λ mounted. mounted.good ≡ good_before (N.bad nand.old) (N.shape nand.old).blocks) }
     ensures number { IfOk result (λ mounted. (n : ℕ) → NumbersBelow (N.flash nand.old) n
         → next_number_of mounted.core ≤ n) }
     ensures consistent { (updates : List Update)
@@ -90,15 +90,14 @@ pub fn mount<N: Nand>(alloc: Global, nand: &mut N, sectors: u32) -> Result<Mount
         → N.faults nand.new fault.PowerGone ≢ N.faults nand.old fault.PowerGone }
     ensures faults { OnOk result ((cause : Cause)
         → N.faults nand.new cause ≡ N.faults nand.old cause) }
-    ensures failures { N.faults nand.new fault.Failed ≡ N.faults nand.old fault.Failed }
 {
-    let order = order_of(alloc, nand)?;
+    let order = order_of(alloc, nand, sectors)?;
     let used = used_of(nand.shape(), order.good, sectors);
     match mount_in_order(alloc, nand, &order.numbers, used, sectors) {
         Ok(core) => Ok(Mounted {
             numbers: order.numbers,
             core,
-            reserve: order.good - used,
+            good: order.good,
         }),
         Err(why) => Err(why),
     }
@@ -157,7 +156,6 @@ fn mount_in_order<N: Nand>(
         → N.faults nand.new fault.PowerGone ≢ N.faults nand.old fault.PowerGone }
     ensures faults { OnOk result ((cause : Cause)
         → N.faults nand.new cause ≡ N.faults nand.old cause) }
-    ensures failures { N.faults nand.new fault.Failed ≡ N.faults nand.old fault.Failed }
 {
     let shape = nand.shape();
     let mut mount = match Mount::begin_over(alloc, shape.blocks, used, shape.pages, sectors) {

@@ -1,23 +1,26 @@
 //! How sectors get a new version, and how the layer goes on after a command that has failed.
-ghost use Rattle.std.specs.Prelude.{◌≡◌, ◌≢◌, ◌⊎◌, ◌<◌, ◌≤◌, ◌+◌, ◌^◌, ℕ, Bool, true, false, List, ◌∷◌, length, Ok, Err, OnOk, OnErr, IfErr};
+ghost use Rattle.std.specs.Prelude.{◌≡◌, ◌≢◌, ◌⊎◌, ◌<◌, ◌≤◌, ◌+◌, ◌^◌, ℕ, Bool, true, false, List, ◌∷◌, length, Ok, Err, OnOk, OnErr, IfOk, IfErr};
+ghost use Rattle.geometry.specs.Sectors.{Sector};
+ghost use Rattle.durable.specs.Choice.{IsNextCommand};
 ghost use Rattle.durable.specs.Device.{device_of, losses_of};
+ghost use Rattle.durable.specs.Failures.{Changes};
+ghost use Rattle.durable.specs.Retiring.{HasLeftVersion};
 ghost use Rattle.durable.specs.Updates.{LiesWithin, Update};
-ghost use Rattle.nand.specs.Attempts.{CanReplace, CountsStop, Leaves, StopsAt, TalliesAttempt};
-ghost use Rattle.nand.specs.Nand.{CountsCommand, CountsFault, Performs, value_with};
-ghost use Rattle.nand.specs.Numbers.{IsOrder, chip_block as block_of, good_before, is_marked, numbered};
-ghost use Rattle.nand.specs.Opened.{CanOpen, Fails, IsUnmounted, IsOpenLayer, IsSameDevice, IsTrueCause, KeepsDevice, MarksFailed};
-ghost use Rattle.nand.specs.Opened.{layer_sectors, number_of, reserve_of, update_of};
+ghost use Rattle.nand.specs.Attempts.{CountsStop, IsOpenAgain, IsCutShort, Leaves, Reopens, StopsAt, TalliesAttempt};
+ghost use Rattle.nand.specs.Nand.{CountsCommand, CountsCut, CountsFault, Performs, value_with};
+ghost use Rattle.nand.specs.Numbers.{IsOrder, Marks, chip_block as block_of, good_before, is_marked, numbered};
+ghost use Rattle.nand.specs.Opened.{Fails, IsUnmounted, IsOpenLayer, IsTrueCause, KeepsDevice, MarksFailed};
+ghost use Rattle.nand.specs.Opened.{layer_sectors, number_of, update_of};
 ghost use Rattle.nand.specs.Programs.{AddsVersion, ProgramsOnce};
 ghost use Rattle.nand.specs.declared.failure.Failure.TheVariants as failure;
 ghost use Rattle.nand.specs.declared.flash.Fault.{Fault as Cause};
 ghost use Rattle.nand.specs.declared.flash.Fault.TheVariants as fault;
 ghost use Rattle.nand.specs.declared.updating.Stop.TheVariants as stop;
 
-use crate::failure::{Failure, OpenFailure};
-use crate::flash::{Fault, Nand, PowerGone, Stamp};
+use crate::failure::Failure;
+use crate::flash::{Fault, Nand, PowerGone, Reading, Stamp};
 use crate::layer::Durable;
-use crate::mounting::mount;
-use crate::numbers::{chip_block, chip_page};
+use crate::numbers::{chip_block, chip_page, exchange};
 use durable::{Command, Extent};
 
 // Why an attempt to update sectors came to no end.
@@ -25,8 +28,8 @@ use durable::{Command, Extent};
 pub(crate) enum Stop {
     // The numbers of versions have run out.
     NoNumber,
-    // The fault of a command that changes pages of the block with this number.
-    Fault(Fault, u32),
+    // The fault of a command.
+    Fault(Fault, Command),
 }
 
 // Has the chip do a command.
@@ -40,7 +43,7 @@ fn perform<N: Nand>(
 ) -> Result<(), Fault>
     requires { trimmed ≡ false → length main.now ≡ (N.shape nand.old).page_bytes }
     ensures tally { CountsCommand command (N.tally nand.old) (N.tally nand.new) result }
-    ensures does { (bad : List Bool) (blocks : ℕ) → IsOrder numbers.now bad blocks
+    ensures does { (bad : List Bool) (blocks most : ℕ) → IsOrder numbers.now bad blocks most
         → Performs command extent (value_with trimmed main.now) result
         (numbered numbers.now (N.flash nand.old)) (numbered numbers.now (N.flash nand.new)) }
     ensures shape { N.shape nand.new ≡ N.shape nand.old }
@@ -68,6 +71,25 @@ fn perform<N: Nand>(
     }
 }
 
+// Whether a program that has failed has left a version in its page.
+fn has_left<N: Nand>(nand: &mut N, numbers: &[u32], command: Command) -> Result<bool, PowerGone>
+    ensures left { IfOk result (HasLeftVersion (numbered numbers.now (N.flash nand.old)) command) }
+    ensures flash { N.flash nand.new ≡ N.flash nand.old }
+    ensures shape { N.shape nand.new ≡ N.shape nand.old }
+    ensures bad { N.bad nand.new ≡ N.bad nand.old }
+    ensures tally { N.tally nand.new ≡ N.tally nand.old }
+    ensures cause { CountsCut (N.faults nand.old) (N.faults nand.new) result }
+{
+    let Command::Program(at, _) = command else {
+        return Ok(false);
+    };
+    match nand.stamp(chip_page(numbers, at)) {
+        Ok(Reading::Version(_)) => Ok(true),
+        Ok(Reading::Erased | Reading::Unreadable) => Ok(false),
+        Err(gone) => Err(gone),
+    }
+}
+
 impl<N: Nand> Durable<N> {
     // Gives the sectors of an extent a new version. A block whose command fails is replaced by one of the reserve, and the call goes on.
     pub(crate) fn update(
@@ -92,9 +114,7 @@ impl<N: Nand> Durable<N> {
         ensures idle { IsUnmounted self.old → N.tally self.new.nand ≡ N.tally self.old.nand }
         ensures device { KeepsDevice N.shape N.bad N.faults self.old self.new }
         ensures marks { OnOk result (MarksFailed N.flash N.shape N.bad N.faults self.old self.new) }
-        ensures losses { OnOk result (losses_of self.new.core ≤ losses_of self.old.core) }
-        ensures memory { result ≡ Err failure.OutOfMemory
-            → MarksFailed N.flash N.shape N.bad N.faults self.old self.new }
+        ensures number { OnOk result (number_of self.old < number_of self.new) }
         ensures overwrites { result ≢ Err failure.Written }
         ensures lost { result ≢ Err failure.Lost }
         ensures once { (updates : List Update) → IsOpenLayer N.flash N.shape N.bad self.old updates
@@ -105,9 +125,7 @@ impl<N: Nand> Durable<N> {
         if !self.mounted {
             return Err(Failure::Closed);
         }
-        let reserve = self.reserve;
-        let losses = self.core.losses();
-        let mut failed = 0;
+        let mut failed = 0u32;
         loop {
             match self.attempt(extent, trimmed, main) {
                 Ok(()) => return Ok(()),
@@ -119,11 +137,11 @@ impl<N: Nand> Durable<N> {
                     return Err(Failure::Failed);
                 }
                 Err(Stop::Fault(Fault::PowerGone, _)) => return Err(Failure::PowerGone),
-                Err(Stop::Fault(Fault::Failed, number)) => {
-                    if failed >= reserve {
+                Err(Stop::Fault(Fault::Failed, command)) => {
+                    if self.reserve() == 0 {
                         return Err(Failure::Failed);
                     }
-                    if let Err(failure) = self.replace(number, losses) {
+                    if let Err(failure) = self.replace(extent, command) {
                         return Err(failure);
                     }
                 }
@@ -146,12 +164,15 @@ impl<N: Nand> Durable<N> {
             → IfErr result
             (Leaves N.flash N.shape N.bad self.new
             (update_of extent (value_with trimmed main.now)) updates) }
-        ensures number { result ≡ Err stop.NoNumber
-            → (number_of self.new ≡ number_of self.old) × (2 ^ 64 ≤ number_of self.new + 1) }
+        ensures number { OnOk result (number_of self.new ≡ number_of self.old + 1)
+            × OnErr result (number_of self.new ≡ number_of self.old) }
+        ensures spent { result ≡ Err stop.NoNumber → 2 ^ 64 ≤ number_of self.new + 1 }
         ensures at { StopsAt self.new result }
         ensures counts { CountsStop (N.faults self.old.nand) (N.faults self.new.nand) result }
-        ensures device { IsSameDevice N.shape N.bad self.old self.new }
-        ensures reserve { reserve_of self.new ≡ reserve_of self.old }
+        ensures sectors { layer_sectors self.new ≡ layer_sectors self.old }
+        ensures shape { N.shape self.new.nand ≡ N.shape self.old.nand }
+        ensures bad { N.bad self.new.nand ≡ N.bad self.old.nand }
+        ensures good { self.new.good ≡ self.old.good }
         ensures losses { losses_of self.new.core ≡ losses_of self.old.core }
         ensures adds { (updates : List Update) → IsOpenLayer N.flash N.shape N.bad self.old updates
             → OnOk result
@@ -175,7 +196,7 @@ impl<N: Nand> Durable<N> {
                 main,
             ) {
                 self.mounted = false;
-                return Err(Stop::Fault(fault, command.changed_block()));
+                return Err(Stop::Fault(fault, command));
             }
             self.core.done(extent, command);
             if command.is_last() {
@@ -184,57 +205,58 @@ impl<N: Nand> Durable<N> {
         }
     }
 
-    // Marks the block with this number bad, and mounts again with the next block of the reserve in its stead. The mount may find so many losses, and no more.
-    fn replace(&mut self, number: u32, losses: u64) -> Result<(), Failure>
-        ensures replaced { (updates : List Update)
-            → CanReplace N.flash N.shape N.bad self.old number updates → 0 < reserve_of self.old
-            → OnOk result (IsOpenLayer N.flash N.shape N.bad self.new updates
-            × (reserve_of self.new + 1 ≡ reserve_of self.old)
+    // Marks the block of a command that has failed, and goes on with the next block of the reserve in its stead.
+    fn replace(&mut self, extent: Extent, command: Command) -> Result<(), Failure>
+        requires within { LiesWithin (layer_sectors self.old) extent }
+        requires next { IsNextCommand self.old.core command }
+        requires some { (device_of self.old.core).blocks < self.old.good }
+        ensures replaced { (value : Sector) (updates : List Update)
+            → IsCutShort N.flash N.shape N.bad self.old (update_of extent value) command updates
+            → OnOk result (IsOpenAgain N.flash N.shape N.bad self.new (update_of extent value) updates
             × (good_before (N.bad self.new.nand) (N.shape self.old.nand).blocks + 1
             ≡ good_before (N.bad self.old.nand) (N.shape self.old.nand).blocks)) }
-        ensures closed { (updates : List Update)
-            → CanReplace N.flash N.shape N.bad self.old number updates → 0 < reserve_of self.old
-            → OnErr result (IsUnmounted self.new
-            × CanOpen N.flash N.shape N.bad self.new.nand (layer_sectors self.old) updates) }
-        ensures marked { (updates : List Update)
-            → CanReplace N.flash N.shape N.bad self.old number updates
-            → result ≡ Err failure.OutOfMemory
-            → good_before (N.bad self.new.nand) (N.shape self.old.nand).blocks + 1
-            ≡ good_before (N.bad self.old.nand) (N.shape self.old.nand).blocks }
-        ensures causes { OnErr result ((result ≡ Err failure.PowerGone)
-            ⊎ (result ≡ Err failure.OutOfMemory) ⊎ (result ≡ Err failure.PagesLost)) }
-        ensures losses { OnOk result (losses_of self.new.core ≤ losses) }
-        ensures lost { result ≡ Err failure.PagesLost → losses < losses_of self.new.core }
+        ensures closed { (value : Sector) (updates : List Update)
+            → IsCutShort N.flash N.shape N.bad self.old (update_of extent value) command updates
+            → OnErr result ((result ≡ Err failure.PowerGone) × IsUnmounted self.new
+            × Reopens N.flash N.shape N.bad self.new.nand (layer_sectors self.old)
+            (update_of extent value) updates) }
+        ensures marked { (b : ℕ) → Changes command b
+            → block_of self.old.numbers.items b < (N.shape self.old.nand).blocks
+            → OnOk result (Marks (N.bad self.old.nand) (N.bad self.new.nand)
+            (block_of self.old.numbers.items b)) }
+        ensures no_other { (b c : ℕ) → Changes command b → c ≢ block_of self.old.numbers.items b
+            → is_marked (N.bad self.new.nand) c ≡ is_marked (N.bad self.old.nand) c }
+        ensures marks { (b : ℕ) → is_marked (N.bad self.old.nand) b ≡ true
+            → is_marked (N.bad self.new.nand) b ≡ true }
+        ensures good { OnOk result (self.new.good + 1 ≡ self.old.good) }
+        ensures number { number_of self.old ≤ number_of self.new }
+        ensures losses { losses_of self.new.core ≡ losses_of self.old.core }
+        ensures causes { OnErr result ((result ≡ Err failure.PowerGone) ⊎ (result ≡ Err failure.Failed)) }
         ensures failures { N.faults self.new.nand fault.Failed
             ≡ N.faults self.old.nand fault.Failed }
         ensures faults { OnOk result ((cause : Cause)
             → N.faults self.new.nand cause ≡ N.faults self.old.nand cause) }
         ensures power { result ≡ Err failure.PowerGone
             → N.faults self.new.nand fault.PowerGone ≢ N.faults self.old.nand fault.PowerGone }
-        ensures marks { (b : ℕ) → is_marked (N.bad self.old.nand) b ≡ true
-            → is_marked (N.bad self.new.nand) b ≡ true }
-        ensures no_other { (b : ℕ) → b ≢ block_of self.old.numbers.items number
-            → is_marked (N.bad self.new.nand) b ≡ is_marked (N.bad self.old.nand) b }
         ensures tally { N.tally self.new.nand ≡ N.tally self.old.nand }
         ensures shape { N.shape self.new.nand ≡ N.shape self.old.nand }
         ensures sectors { layer_sectors self.new ≡ layer_sectors self.old }
     {
+        let number = command.changed_block();
         if let Err(PowerGone) = self.nand.mark_bad(chip_block(&self.numbers, number)) {
             return Err(Failure::PowerGone);
         }
-        match mount(self.alloc, &mut self.nand, self.core.sectors()) {
-            Ok(mounted) => {
-                self.numbers = mounted.numbers;
-                self.core = mounted.core;
-                self.reserve = mounted.reserve;
-                if self.core.losses() > losses {
-                    return Err(Failure::PagesLost);
-                }
-                self.mounted = true;
-                Ok(())
-            }
-            Err(OpenFailure::PowerGone) => Err(Failure::PowerGone),
-            Err(OpenFailure::Refused(_)) => Err(Failure::OutOfMemory),
+        let left = match has_left(&mut self.nand, &self.numbers, command) {
+            Ok(left) => left,
+            Err(PowerGone) => return Err(Failure::PowerGone),
+        };
+        let spare = self.good - 1;
+        if !self.core.retire(extent, command, left, spare) {
+            return Err(Failure::Failed);
         }
+        exchange(&mut self.numbers, number, spare);
+        self.good = spare;
+        self.mounted = true;
+        Ok(())
     }
 }

@@ -1,6 +1,7 @@
-use Rattle.std.proofs.Common.{◌∙◌, sym, ap, ⊎_elim, ◌≡◌, ◌<◌, ◌≤◌, ℕ, zero, suc, true, false, [], ◌∷◌, refl, arith}
+use Rattle.std.proofs.Common.{⊎_elim, ◌≡◌, ◌<◌, ◌≤◌, ℕ, zero, suc, true, false, [], ◌∷◌, refl, arith}
 use Rattle.std.proofs.lemmas.Bool.{cases_lt}
 use Rattle.nand.specs.Numbers.{chip_block, good_before, is_marked}
+use Rattle.nand.proofs.Orders.{lies, past, used_rank}
 use Rattle.nand.proofs.laws.orders.Goals as goal
 
 all_good : (n : ℕ) → good_before [] n ≡ n
@@ -9,26 +10,39 @@ all_good (suc n) = omega (arith, all_good n)
 
 pub returns-clause-every : goal.returns-clause-every
 returns-clause-every c numbers bad is =
-    let few = ⊎_elim (λ lt. lt) (λ past. absurd (omega (arith, is.rest (is.to 1) past, is.put 1, past))) (cases_lt (is.to 1) 2) in
+    let few = ⊎_elim (λ lt. lt) (λ le. absurd (omega (arith, past numbers (is.to 1) (omega (arith, le, is.all)), is.put 1, le))) (cases_lt (is.to 1) 2) in
     (is.to 1, few, is.put 1)
 
 pub returns-clause-lies : goal.returns-clause-lies
-returns-clause-lies c numbers bad is =
-    let b = chip_block numbers 1 in
-    ⊎_elim (λ lt. lt) (λ past. absurd (omega (arith, is.found b, ap is.to (is.rest b past), is.found 1, past))) (cases_lt b 2)
+returns-clause-lies c numbers bad is = lies numbers bad 2 2 is 1 (omega arith)
 
-pub returns-clause-ranked : goal.returns-clause-ranked
-returns-clause-ranked c numbers is = sym (all_good (chip_block numbers 1)) ∙ is.ranked 1 (omega arith)
+pub returns-clause-rest : goal.returns-clause-rest
+returns-clause-rest c numbers is = past numbers 5 (omega (arith, is.all))
+
+pub returns-clause-in_use_first : goal.returns-clause-in_use_first
+returns-clause-in_use_first c numbers is =
+    omega (arith, used_rank numbers [] 2 1 is 0 (omega arith) (omega arith), all_good (chip_block numbers 0))
+
+pub returns-clause-reserve_backwards : goal.returns-clause-reserve_backwards
+returns-clause-reserve_backwards c numbers is = (
+  omega (arith, is.reserved 1 (omega arith) (omega arith), all_good (chip_block numbers 1)),
+  omega (arith, is.reserved 2 (omega arith) (omega arith), all_good (chip_block numbers 2)),
+)
+
+same : (b : ℕ) → chip_block (0 ∷ 1 ∷ []) b ≡ b
+same zero = refl
+same (suc zero) = refl
+same (suc (suc b)) = refl
 
 pub returns-clause-in_order : goal.returns-clause-in_order
 returns-clause-in_order c = record {
+  all = refl;
   to = λ b. b;
-  found = λ c. refl;
-  put = λ b. refl;
+  found = same;
+  put = same;
   good = λ c lt. refl;
-  ranked = λ c lt. all_good c;
+  reserved = λ c le lt. absurd (omega (arith, le, lt));
   others = λ c le lt. absurd (omega (arith, le, lt));
-  rest = λ c le. refl;
 }
 
 -- two blocks that have each other's number
@@ -37,31 +51,33 @@ exchanged zero = refl
 exchanged (suc zero) = refl
 exchanged (suc (suc b)) = refl
 
+pub returns-clause-any_order : goal.returns-clause-any_order
+returns-clause-any_order c = record {
+  all = refl;
+  to = chip_block (1 ∷ 0 ∷ []);
+  found = exchanged;
+  put = exchanged;
+  good = λ c lt. refl;
+  reserved = λ c le lt. absurd (omega (arith, le, lt));
+  others = λ c le lt. absurd (omega (arith, le, lt));
+}
+
 good_first : (c : ℕ) → c < 1 → is_marked (true ∷ false ∷ []) (chip_block (1 ∷ 0 ∷ []) c) ≡ false
 good_first zero lt = refl
 good_first (suc c) lt = absurd (omega (arith, lt))
-
-ranked_first : (c : ℕ) → c < 1 → good_before (true ∷ false ∷ []) (chip_block (1 ∷ 0 ∷ []) c) ≡ c
-ranked_first zero lt = refl
-ranked_first (suc c) lt = absurd (omega (arith, lt))
 
 bad_second : (c : ℕ) → 1 ≤ c → c < 2 → is_marked (true ∷ false ∷ []) (chip_block (1 ∷ 0 ∷ []) c) ≡ true
 bad_second zero le lt = absurd (omega (arith, le))
 bad_second (suc zero) le lt = refl
 bad_second (suc (suc c)) le lt = absurd (omega (arith, lt))
 
-own_after : (c : ℕ) → 2 ≤ c → chip_block (1 ∷ 0 ∷ []) c ≡ c
-own_after zero le = absurd (omega (arith, le))
-own_after (suc zero) le = absurd (omega (arith, le))
-own_after (suc (suc c)) le = refl
-
 pub returns-clause-bad_last : goal.returns-clause-bad_last
 returns-clause-bad_last c = record {
+  all = refl;
   to = chip_block (1 ∷ 0 ∷ []);
   found = exchanged;
   put = exchanged;
   good = good_first;
-  ranked = ranked_first;
+  reserved = λ c le lt. absurd (omega (arith, le, lt));
   others = bad_second;
-  rest = own_after;
 }

@@ -1,16 +1,10 @@
-use Rattle.std.proofs.Common.{◌≡◌, ◌∙◌, Err, ap, arith}
+use Rattle.std.proofs.Common.{◌≡◌, ◌∙◌, Err, ap}
 use Rattle.durable.specs.declared.fault.MountFault.TheVariants as mount_fault
 use Rattle.nand.specs.declared.failure.OpenFailure.TheVariants as why
 use Rattle.nand.specs.Numbers.{chip_block, good_before}
 use Rattle.nand.specs.Opened.{used_blocks}
 use Rattle.nand.proofs.Orders.{capacity_of_used, mountable, written_in_order}
 use Rattle.nand.proofs.mounting.mount.Goals as goal
-
-pub returns-in-Ok-clause-reserve : goal.returns-in-Ok-clause-reserve
-returns-in-Ok-clause-reserve g c =
-    let used : c.used_of-used.result ≡ used_blocks (g.N.Nand.shape c.args.nand.now) (g.N.Nand.bad c.args.nand.now) c.args.sectors =
-    rw (c.shape.ensures, c.order_of.ensures.shape, c.in_ok-order.ensures.good) at c.used_of-used.ensures.used in
-    omega (arith, used, c.used_of-used.ensures.few, c.in_ok-order.ensures.good)
 
 pub returns-in-Ok-clause-number : goal.returns-in-Ok-clause-number
 returns-in-Ok-clause-number g c n below =

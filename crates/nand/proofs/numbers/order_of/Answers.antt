@@ -1,5 +1,7 @@
-use Rattle.std.proofs.Common.{◌∙◌, refl, ap, arith}
+use Rattle.std.proofs.Common.{ℕ, List, length, refl, sym, ap, subst, arith}
 use Rattle.nand.specs.declared.flash.Shape.{Shape}
+use Rattle.nand.specs.Numbers.{IsOrder}
+use Rattle.nand.specs.Opened.{most_used}
 use Rattle.nand.proofs.Orders.{few_good, first_order}
 use Rattle.nand.proofs.numbers.order_of.Goals as goal
 
@@ -10,9 +12,10 @@ loop-block-init g c = record {
   bad = refl;
   tally = refl;
   faults = λ cause. refl;
-  sized = c.in-Ok.ensures.all ∙ ap (λ (s : Shape). s.blocks) c.shape-blocks.ensures;
+  all = ap length c.new-numbers.ensures.items;
   good = refl;
-  made = first_order c.in-Ok.numbers.items (g.N.Nand.bad c.args.nand.now) c.in-Ok.ensures.same;
+  made = subst (λ (ns : List ℕ). IsOrder ns (g.N.Nand.bad c.args.nand.now) 0 (most_used (g.N.Nand.shape c.args.nand.now) c.args.sectors))
+      (sym c.new-numbers.ensures.items) (first_order (g.N.Nand.bad c.args.nand.now) (most_used (g.N.Nand.shape c.args.nand.now) c.args.sectors));
 }
 
 pub returns-clause-few : goal.returns-clause-few
@@ -21,5 +24,8 @@ returns-clause-few g c = omega (
   c.loop-block.invariant.good,
   few_good (g.N.Nand.bad c.args.nand.now) c.loop-block.block,
   c.loop-block.auto.block-end,
-  ap (λ (s : Shape). s.blocks) c.shape-blocks.ensures,
+  ap (λ (s : Shape). s.blocks) c.shape-shape.ensures,
 )
+
+pub place-requires-clause-few : goal.place-requires-clause-few
+place-requires-clause-few g c = omega (arith, c.loop-block.invariant.good, few_good (g.N.Nand.bad c.args.nand.now) c.loop-block.block)

@@ -1,5 +1,6 @@
 use Rattle.std.proofs.Common.{◌≡◌, length}
 use Rattle.nand.specs.Numbers.{IsOrder, good_before}
+use Rattle.nand.specs.Opened.{most_used}
 use Rattle.nand.specs.declared.flash.Fault.{Fault}
 use Rattle.nand.proofs.numbers.order_of.Given as goal
 
@@ -10,7 +11,7 @@ invariant-loop-block g l = record {
   bad : g.N.Nand.bad l.nand ≡ g.N.Nand.bad l.fn.nand;
   tally : g.N.Nand.tally l.nand ≡ g.N.Nand.tally l.fn.nand;
   faults : (cause : Fault) → g.N.Nand.faults l.nand cause ≡ g.N.Nand.faults l.fn.nand cause;
-  sized : length l.numbers.items ≡ (g.N.Nand.shape l.fn.nand).blocks;
+  all : length l.numbers.items ≡ l.block;
   good : l.good ≡ good_before (g.N.Nand.bad l.fn.nand) l.block;
-  made : IsOrder l.numbers.items (g.N.Nand.bad l.fn.nand) l.block;
+  made : IsOrder l.numbers.items (g.N.Nand.bad l.fn.nand) l.block (most_used (g.N.Nand.shape l.fn.nand) l.fn.sectors);
 }

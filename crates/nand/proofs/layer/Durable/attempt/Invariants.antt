@@ -4,7 +4,7 @@ use Rattle.durable.specs.Device.{device_of, losses_of, next_number_of}
 use Rattle.durable.specs.Promise.{IsConsistent}
 use Rattle.durable.specs.Updates.{Update}
 use Rattle.nand.specs.Numbers.{IsOrder, numbered}
-use Rattle.nand.specs.Opened.{IsOpenLayer, IsReserveBlank, layer_sectors, reserve_of}
+use Rattle.nand.specs.Opened.{IsOpenLayer, IsReserveBlank, layer_sectors, most_used}
 use Rattle.nand.specs.declared.flash.Fault.{Fault}
 use Rattle.nand.proofs.Programs.{HasNoNew, HasSpent}
 use Rattle.nand.proofs.layer.Durable.attempt.Given as goal
@@ -19,9 +19,10 @@ invariant-loop-self g l = record {
   number : next_number_of l.self.core ≡ next_number_of l.fn.self.core;
   faults : (cause : Fault) → g.N.Nand.faults l.self.nand cause ≡ g.N.Nand.faults l.fn.self.nand cause;
   spent : HasSpent (g.N.Nand.tally l.fn.self.nand) (g.N.Nand.tally l.self.nand) (device_of l.fn.self.core).pages (left l.self.core);
-  reserve : reserve_of l.self ≡ reserve_of l.fn.self;
+  good : l.self.good ≡ l.fn.self.good;
   order : (updates : List Update) → IsOpenLayer g.N.Nand.flash g.N.Nand.shape g.N.Nand.bad l.fn.self updates
-      → IsOrder l.self.numbers.items (g.N.Nand.bad l.self.nand) (g.N.Nand.shape l.self.nand).blocks;
+      → IsOrder l.self.numbers.items (g.N.Nand.bad l.self.nand) (g.N.Nand.shape l.self.nand).blocks
+      (most_used (g.N.Nand.shape l.self.nand) (layer_sectors l.self));
   blank : (updates : List Update) → IsOpenLayer g.N.Nand.flash g.N.Nand.shape g.N.Nand.bad l.fn.self updates
       → IsReserveBlank (g.N.Nand.flash l.self.nand) (g.N.Nand.shape l.self.nand) (g.N.Nand.bad l.self.nand) (layer_sectors l.self);
   had : (updates : List Update) → IsOpenLayer g.N.Nand.flash g.N.Nand.shape g.N.Nand.bad l.fn.self updates

@@ -1,9 +1,8 @@
-use Rattle.std.proofs.Common.{◌≡◌, ◌∷◌, ◌∙◌, ℕ, List, Some, Ok, Err, OnOk, sym, ap, subst}
+use Rattle.std.proofs.Common.{◌∷◌, ◌∙◌, ℕ, List, Some, Ok, OnOk, sym, ap, subst}
 use Rattle.durable.specs.Updates.{Update, sole}
 use Rattle.nand.specs.Histories.{update_by}
 use Rattle.nand.specs.Opened.{Fails, IsOpenLayer, update_of}
 use Rattle.nand.specs.Programs.{ProgramsOnce}
-use Rattle.nand.specs.declared.failure.Failure.TheVariants as failure
 use Rattle.nand.specs.declared.history.Change.{Change}
 use Rattle.nand.proofs.Programs.{by_answer, or_once}
 use Rattle.nand.proofs.layer.Durable.make.Goals as goal
@@ -31,7 +30,3 @@ returns-in-Ok-clause-once g c updates is = by_answer c.in-Ok.field-0
     (λ written. subst
     (λ (x : Change). ProgramsOnce g.N.Nand.flash g.N.Nand.shape g.N.Nand.bad g.N.Nand.tally c.args.self.now c.trim.new.self (update_by x))
     (sym c.in-Trim.is) (c.in-Ok.ensures.once updates is (ap Ok written)))
-
-pub returns-in-Err-clause-memory : goal.returns-in-Err-clause-memory
-returns-in-Err-clause-memory g c told updates is =
-    let memory : c.in-Err.failure ≡ failure.OutOfMemory = cc told in c.in-Err.ensures.memory (ap Err memory) updates is

@@ -1,14 +1,16 @@
-use Rattle.std.proofs.Common.{[], ap, Err, refl}
+use Rattle.std.proofs.Common.{[], ◌-◌, ap, Err, refl, arith}
+use Rattle.durable.specs.Device.{Device, device_of}
 use Rattle.nand.specs.Numbers.{good_before}
 use Rattle.nand.proofs.Mounted.{has_blocks, remaining_causes}
-use Rattle.nand.proofs.Orders.{erased_opens, spares_reserved}
+use Rattle.nand.specs.Opened.{most_used}
+use Rattle.nand.proofs.Orders.{erased_opens, no_greater, spares_reserved}
 use Rattle.nand.proofs.Replacing.{mounted_open}
 use Rattle.nand.proofs.layer.Durable.open.Goals as goal
 
 pub returns-in-Ok-clause-open : goal.returns-in-Ok-clause-open
 returns-in-Ok-clause-open g c updates is =
     mounted_open g.N.Nand.flash g.N.Nand.shape g.N.Nand.bad c.args.nand _ c.args.sectors updates refl
-    (c.mount.ensures.flash, c.mount.ensures.shape, c.mount.ensures.bad) c.in-Ok.ensures.order c.in-Ok.ensures.device c.in-Ok.ensures.reserve is.blank
+    (c.mount.ensures.flash, c.mount.ensures.shape, c.mount.ensures.bad) c.in-Ok.ensures.order c.in-Ok.ensures.device c.in-Ok.ensures.good is.blank
     (c.in-Ok.ensures.consistent updates is)
 
 pub returns-in-Ok-clause-new : goal.returns-in-Ok-clause-new
@@ -19,8 +21,16 @@ returns-in-Ok-clause-new g c erased =
     returns-in-Ok-clause-open g c [] (erased_opens (g.N.Nand.flash c.args.nand) shape bad c.args.sectors erased blocks)
 
 pub returns-in-Ok-clause-spares : goal.returns-in-Ok-clause-spares
-returns-in-Ok-clause-spares g c n can = spares_reserved (g.N.Nand.shape c.args.nand) (g.N.Nand.bad c.args.nand) c.args.sectors n c.in-Ok.mounted.reserve
-    can c.in-Ok.ensures.reserve
+returns-in-Ok-clause-spares g c n can =
+    let shape = g.N.Nand.shape c.args.nand in
+    let bad = g.N.Nand.bad c.args.nand in
+    let used = ap (λ (d : Device). d.blocks) c.in-Ok.ensures.device in
+    spares_reserved shape bad c.args.sectors n (c.in-Ok.mounted.good - (device_of c.in-Ok.mounted.core).blocks) can (omega (
+      arith,
+      used,
+      c.in-Ok.ensures.good,
+      (no_greater (good_before bad shape.blocks) (most_used shape c.args.sectors)).0,
+    ))
 
 pub returns-in-Err-clause-frees : goal.returns-in-Err-clause-frees
 returns-in-Err-clause-frees g c updates is = λ e. c.in-Err.ensures.frees updates is (ap Err e)

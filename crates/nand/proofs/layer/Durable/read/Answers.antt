@@ -3,6 +3,7 @@ use Rattle.geometry.specs.Sectors.{Sector}
 use Rattle.geometry.specs.declared.answer.Got.TheVariants as got
 use Rattle.nand.specs.Stored.{ReadsStored}
 use Rattle.nand.proofs.Readings.{data_in, empty_there, gives, in_page, no_page}
+use Rattle.nand.proofs.Replacing.{still_open}
 use Rattle.nand.proofs.layer.Durable.read.Goals as goal
 
 pub returns-in_default-clause-stored : goal.returns-in_default-clause-stored
@@ -42,3 +43,13 @@ pub returns-in-Ok-Written-clause-gives : goal.returns-in-Ok-Written-clause-gives
 returns-in-Ok-Written-clause-gives g c updates is =
     gives g.N.Nand.flash c.args.self.now c.args.sector g.N.Nand.shape g.N.Nand.bad updates is c.requires.sector got.Data c.read.new.out
     (returns-in-Ok-Written-clause-stored g c)
+
+pub returns-in-Ok-Empty-clause-open : goal.returns-in-Ok-Empty-clause-open
+returns-in-Ok-Empty-clause-open g c updates is =
+    still_open g.N.Nand.flash g.N.Nand.shape g.N.Nand.bad c.args.self.now c.read.new.self updates c.read.ensures.flash c.read.ensures.shape
+    c.read.ensures.bad is
+
+pub returns-in-Ok-Written-clause-open : goal.returns-in-Ok-Written-clause-open
+returns-in-Ok-Written-clause-open g c updates is =
+    still_open g.N.Nand.flash g.N.Nand.shape g.N.Nand.bad c.args.self.now c.read.new.self updates c.read.ensures.flash c.read.ensures.shape
+    c.read.ensures.bad is

@@ -1,7 +1,6 @@
-use Rattle.std.proofs.Common.{◌≡◌, None, Err, ap, subst}
+use Rattle.std.proofs.Common.{None, subst}
 use Rattle.durable.specs.Updates.{array_after}
 use Rattle.nand.specs.Opened.{Were, update_of}
-use Rattle.nand.specs.declared.failure.Failure.TheVariants as failure
 use Rattle.nand.proofs.Steps.{fails_after, fails_open, marked_after, not_failed, not_lost, once_after}
 use Rattle.nand.proofs.Steps.{trims_nothing}
 use Rattle.nand.proofs.layer.Durable.trim.Goals as goal
@@ -29,12 +28,6 @@ returns-in-Ok-clause-once g c updates is _ = once_after c.in-Ok-Written.ensures.
 pub returns-in-Ok-clause-marks : goal.returns-in-Ok-clause-marks
 returns-in-Ok-clause-marks g c updates is =
     marked_after c.in-Ok-Written.ensures.looks c.update.new.self (c.in-Ok.ensures.marks updates (c.were.ensures.looks.opens updates is))
-
-pub returns-in-Err-update-clause-memory : goal.returns-in-Err-update-clause-memory
-returns-in-Err-update-clause-memory g c told updates is =
-    let memory : c.in-Err-update.failure ≡ failure.OutOfMemory = cc told in
-    marked_after c.in-Ok-Written.ensures.looks c.update.new.self
-    (c.in-Err-update.ensures.memory (ap Err memory) updates (c.were.ensures.looks.opens updates is))
 
 pub returns-in-Err-update-clause-fails : goal.returns-in-Err-update-clause-fails
 returns-in-Err-update-clause-fails g c updates is =

@@ -15,10 +15,6 @@ returns-in-Ok-Empty-clause-marks g c =
     if_ok c.update.result (λ marked updates is. marked_after c.in-Ok-Empty.ensures.looks c.update.new.self
     (marked updates (c.was.ensures.looks.opens updates is))) c.update.ensures.marks
 
-pub returns-in-Ok-Empty-clause-memory : goal.returns-in-Ok-Empty-clause-memory
-returns-in-Ok-Empty-clause-memory g c told updates is =
-    marked_after c.in-Ok-Empty.ensures.looks c.update.new.self (c.update.ensures.memory told updates (c.was.ensures.looks.opens updates is))
-
 pub returns-in-Ok-Empty-clause-once : goal.returns-in-Ok-Empty-clause-once
 returns-in-Ok-Empty-clause-once g c updates is =
     if_ok c.update.result (λ once. once_after c.in-Ok-Empty.ensures.looks c.update.new.self (update_of (sole c.args.sector) (Some c.args.bytes.now)) once)
