@@ -361,9 +361,9 @@ module _ (numbers : List ℕ) (bad : List Bool) (blocks most : ℕ) (is : IsOrde
       let first = first_numbers b lt good in
       let rank = ap (good_before bad) (is.put b) in
       least (good_before bad blocks) most (is.to b) first (⊎_elim
-          (λ under. under)
-          (λ le. absurd (omega (arith, is.reserved (is.to b) le first, rank, first, few)))
-          (cases_lt (is.to b) most))
+      (λ under. under)
+      (λ le. absurd (omega (arith, is.reserved (is.to b) le first, rank, first, few)))
+      (cases_lt (is.to b) most))
 
   pub in_reserve_past : (b : ℕ) → b < blocks → is_marked bad b ≡ false → most ≤ good_before bad b → most ≤ is.to b
   in_reserve_past b lt good many =
@@ -446,4 +446,4 @@ module _ (f : Flash) (shape : Shape) (bad : List Bool) (numbers : List ℕ) (sec
   pub written_in_order : IsWrittenOn (device_on shape bad sectors) f → IsWrittenOn (device_on shape bad sectors) (numbered numbers f)
   written_in_order written = let device = device_on shape bad sectors in
       written_renumbered f (numbered numbers f) shape.blocks (anew numbers bad shape.blocks (most_used shape sectors) is f) device device
-          (refl, refl, refl) refl written
+      (refl, refl, refl) refl written

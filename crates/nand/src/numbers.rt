@@ -53,11 +53,7 @@ pub struct Order {
 }
 
 /// Asks a chip for its bad blocks, and numbers them.
-pub fn order_of<N: Nand>(
-    alloc: Global,
-    nand: &mut N,
-    sectors: u32,
-) -> Result<Order, OpenFailure>
+pub fn order_of<N: Nand>(alloc: Global, nand: &mut N, sectors: u32) -> Result<Order, OpenFailure>
     ensures order { IfOk result
         (λ order. IsOrder order.numbers.items (N.bad nand.old) (N.shape nand.old).blocks
         (most_used (N.shape nand.old) sectors)) }
