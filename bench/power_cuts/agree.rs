@@ -91,6 +91,10 @@ impl Follower {
     fn line(&mut self, words: &[&str]) -> Result<(), String> {
         match words {
             ["device", sizes @ ..] => self.start(&numbers(sizes)?),
+            ["apart"] => {
+                (self.rule.hosts, self.rule.choices) = (1, u8::MAX);
+                Ok(())
+            }
             ["call", call @ ..] => self.begin(&numbers(call)?),
             ["nothing"] => self.done(Command::Nothing),
             ["mount", entries @ .., "losses", losses] => self.mount(entries, Some(losses)),
@@ -139,6 +143,7 @@ impl Follower {
             return Err("the call before has not come to its end".to_string());
         }
         self.device.call = Some(Version { first: *first as u8, count: *count as u8, number: 0, value: *value as u8 });
+        self.device.choices = self.rule.choices;
         self.compared.calls += 1;
         Ok(())
     }
@@ -152,7 +157,7 @@ impl Follower {
                 let copy = Command::Copy { from: (*block, *page), sector: *sector as u8, block: *to };
                 (copy, None, Some((*to, *to_page)))
             }
-            ("erase", [block]) => (Command::Erase { block: *block, for_copies: true }, None, None),
+            ("erase", [block]) => (Command::Erase { block: *block, for_copies: !self.rule.opens_for_hosts(&self.device) }, None, None),
             _ => return Err("it is no command".to_string()),
         };
         if number.is_some_and(|number| number + 1 != self.device.next_number as usize) {

@@ -543,6 +543,12 @@ impl Rule {
         Room { hosts: device.open_blocks(false), copies: device.open_blocks(true), free, needed }
     }
 
+    /// Whether the proved core opens a block for hosts next, and not for copies: if it can.
+    pub fn opens_for_hosts(&self, device: &Device) -> bool {
+        let room = self.room(device);
+        self.hosts > 0 && room.hosts.is_empty() && (!room.copies.is_empty() || room.free.len() > room.needed)
+    }
+
     /// What a mount after a cut rests on: a block is free, or the only open one has nothing but copies of pages that still stand.
     pub fn leaves_spare(&self, device: &Device) -> bool {
         let room = self.room(device);

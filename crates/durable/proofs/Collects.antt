@@ -1,55 +1,65 @@
--- There is room to collect after each command, and each brings the call nearer to its end.
-use Rattle.std.proofs.Common.{get_or, ◌≡◌, ◌≢◌, ◌+◌, ◌-◌, ◌*◌, ◌<◌, ◌≤◌, ℕ, zero, suc, List, length, Option, None, Some, IfSome, set, refl, sym, ◌∙◌}
-use Rattle.std.proofs.Common.{ap, subst, arith}
+-- There is room to collect after each command, and what is left of a call is enough for it.
+use Rattle.std.proofs.Common.{get_or, ◌≡◌, ◌≢◌, ◌⊎◌, inr, ⊎_elim, ◌+◌, ◌-◌, ◌*◌, ◌<◌, ◌≤◌, ℕ, zero, suc, List, length, Option, None, Some, set, refl, sym}
+use Rattle.std.proofs.Common.{◌∙◌, ap, subst, arith}
+use Rattle.std.proofs.lemmas.Bool.{cases_eq}
 use Rattle.geometry.specs.declared.page_addr.PageAddr.{PageAddr}
 use Rattle.durable.specs.declared.extent.Extent.{Extent}
 use Rattle.durable.specs.declared.command.Command.{Command}
 use Rattle.durable.specs.declared.command.Command.TheVariants.{Program, Copy, Erase, Refused}
 use Rattle.durable.specs.declared.memory.Core.{Core}
-use Rattle.durable.specs.Collecting.{IsFree, MapsAll, weight, live_in, CanCollect, IsPageOn}
-use Rattle.durable.specs.Next.{IsFewestBeside}
-use Rattle.durable.specs.Choice.{IsNextCommand, left_at, Spends}
+use Rattle.durable.specs.declared.next_pages.NextPages.{NextPages}
+use Rattle.durable.specs.Collecting.{AreInTwoBlocks, ArePagesOn, CanCollect, IsCopied, IsEnough, IsFree, IsProgrammed, MapsAll, first_page, live_in, weight}
+use Rattle.durable.specs.Next.{HasFree, IsFewestBeside, Opens}
+use Rattle.durable.specs.Choice.{IsNextCommand}
 use Rattle.durable.proofs.Counts.{weight_here, weight_elsewhere, kept_in_set, kept_there, none_counted, other_has_room}
-use Rattle.durable.proofs.Extents.{none_all}
-use Rattle.durable.proofs.Done.{IsPageAfter, Becomes}
+use Rattle.durable.proofs.Done.{Becomes}
+use Rattle.durable.proofs.Opened.{after_copied, after_programmed, apart_copied, apart_programmed, free_copied, free_or_copies, free_programmed, is_open}
+use Rattle.durable.proofs.Opened.{none_or_some, none_some, opens_apart, opens_on, page_after_is, some_free, some_not_none, some_same, stays_on}
 
-pub none_some : (at : PageAddr) → None ≢ Some at
-none_some at e = cc e
+-- with a free block there is room to collect
+pub free_collects : (map : List (Option PageAddr)) (blocks pages : ℕ) (next : NextPages) → HasFree blocks map next → ArePagesOn blocks pages next
+    → CanCollect map blocks pages next
+free_collects map blocks pages next free on =
+    let none = none_counted free.0 map free.3 in (
+      (λ hosts live. omega (arith, live free.0 free.1 free.2, none)),
+      (λ hosts copies live. omega (arith, live free.0 free.1 free.2, none)),
+      (λ to hosts copies full. omega (arith, full free.0 free.1 (free.2 to (inr copies)), none, (on to (inr copies)).1)),
+    )
 
-some_same : (at to : PageAddr) → Some at ≡ Some to → at ≡ to
-some_same at to e = cc e
+-- a block of a device with room has pages
+pub some_pages : (blocks pages sectors : ℕ) → sectors < (blocks - 1) * pages → 0 < pages
+some_pages blocks zero sectors few = absurd (omega (arith, few))
+some_pages blocks (suc pages) sectors few = omega arith
 
--- the page after one, where there is one
-pub page_after_is : (at to : PageAddr) (pages : ℕ) (next : Option PageAddr) → IsPageAfter at pages next → next ≡ Some to → (to.block ≡ at.block) ×
-    (to.page ≡ at.page + 1) × (to.page < pages)
-page_after_is at to pages next after is = subst (λ (k : Option PageAddr). IfSome k (λ to. (to.block ≡ at.block) × (to.page ≡ at.page + 1) ×
-    (to.page < pages))) is after.0
-
--- a free block stays free as a sector is mapped to another
-pub stays_free : (map : List (Option PageAddr)) (s : ℕ) (at : PageAddr) (b : ℕ) → s < length map → IsFree map b → b ≢ at.block
-    → live_in b (set map s (Some at)) ≡ 0
-stays_free map s at b lt free differs = omega (arith, kept_in_set b map s (Some at) lt, weight_elsewhere b at (λ e. differs (sym e)), none_counted b map free)
+-- while a block is open for hosts, another one is free
+pub free_beside_hosts : (core : Core) → core.next_pages.hosts ≢ None → HasFree core.blocks core.map.items core.next_pages
+free_beside_hosts core some = some_free core.blocks core.map.items core.next_pages (core.can_collect.0 some)
 
 module _ (core : Core) (s : Extent) where
-  program_collects : (at : PageAddr) (n : ℕ) (map : List (Option PageAddr)) (next : Option PageAddr) → IsNextCommand core (Program at n)
-      → MapsAll core.map.items map s at → IsPageAfter at core.pages next → CanCollect map core.blocks core.pages next
-  program_collects at n map next is maps after =
-      let b = is.3.0 in
-      let free = none_counted b map (none_all core.map.items map s at b maps is.3.3 is.3.2) in (
-        (λ closed live. omega (arith, live b is.3.1, free)),
-        (λ to opened full.
-            let e = page_after_is at to core.pages next after opened in
-            omega (arith, full b is.3.1 (λ here. is.3.2 (here ∙ e.0)), free, e.2)),
-      )
+  pub program_collects : (at : PageAddr) (n : ℕ) (map : List (Option PageAddr)) (next : NextPages) → IsNextCommand core (Program at n)
+      → MapsAll core.map.items map s at → IsProgrammed core.next_pages at core.pages next → CanCollect map core.blocks core.pages next
+  program_collects at n map next is maps used =
+      let opened = is_open core.next_pages at is.0 in
+      let after = after_programmed core.next_pages next at core.pages core.apart is.0 used in
+      free_collects map core.blocks core.pages next
+      (free_programmed core.next_pages next at core.pages opened after core.blocks core.map.items map s maps is.3)
+      (stays_on core.next_pages next at core.pages opened after core.blocks core.on_device)
 
   module _ (k : ℕ) (from to : PageAddr) (is : IsNextCommand core (Copy k from to)) where
-    -- the victim has a live page, so the open block is not full after it
-    pub not_last : to.page + 1 ≡ core.pages → ⊥
-    not_last e = core.can_collect.1 to is.0 (λ b lt differs.
-        omega (arith, e, (is.3 b lt differs).2, kept_there from.block core.map.items k from is.1 is.2 refl))
+    module _ (none : core.next_pages.hosts ≡ None) where
+      -- the victim has a live page, so the block of copies is not full after it
+      pub not_last : to.page + 1 ≡ core.pages → ⊥
+      not_last e = core.can_collect.2 to none is.0 (λ b lt differs.
+          omega (arith, e, (is.3 none b lt differs).2, kept_there from.block core.map.items k from is.1 is.2 refl))
+
+      victim_apart : from.block ≢ to.block
+      victim_apart e = core.can_collect.2 to none is.0 (λ b lt differs. absurd ((is.3 none b lt differs).1 e))
 
     pub copy_apart : from.block ≢ to.block
-    copy_apart e = core.can_collect.1 to is.0 (λ b lt differs. absurd ((is.3 b lt differs).1 e))
+    copy_apart = ⊎_elim
+        (λ none. victim_apart none)
+        (λ some. (is.4 (some_not_none core.next_pages.hosts some.0 some.1)).0 to (inr is.0))
+        (none_or_some core.next_pages.hosts)
 
     copied_out : live_in from.block (set core.map.items k (Some to)) + 1 ≡ live_in from.block core.map.items
     copied_out = omega (
@@ -60,85 +70,123 @@ module _ (core : Core) (s : Extent) where
       weight_elsewhere from.block to (λ e. copy_apart (sym e)),
     )
 
-    copy_collects : (next : Option PageAddr) → IsPageAfter to core.pages next → CanCollect (set core.map.items k (Some to)) core.blocks core.pages next
-    copy_collects next after = (
-      (λ closed live. not_last (after.1 closed)),
-      (λ on opened full.
-          let e = page_after_is to on core.pages next after opened in
-          core.can_collect.1 to is.0 (λ b lt differs.
-          let victim = is.3 b lt differs in
-          omega (arith, full from.block victim.0 (λ here. victim.1 (here ∙ e.0)), victim.2, copied_out, e.1))),
+    pub copy_collects : (next : NextPages) → IsCopied core.next_pages to core.pages next
+        → CanCollect (set core.map.items k (Some to)) core.blocks core.pages next
+    copy_collects next copied = ⊎_elim
+        (λ none. (
+          (λ some. absurd (some (copied.0 ∙ none))),
+          (λ hosts closed live. not_last none (copied.1.1 closed)),
+          (λ on hosts opened full.
+              let e = page_after_is to on core.pages next.copies copied.1 opened in
+              core.can_collect.2 to none is.0 (λ b lt differs.
+              let victim = is.3 none b lt differs in
+              omega (arith, full from.block victim.0 (λ here. victim.1 (here ∙ e.0)), victim.2, copied_out, e.1))),
+        ))
+        (λ some.
+        let after = after_copied core.next_pages next to core.pages core.apart is.0 copied in
+        free_collects (set core.map.items k (Some to)) core.blocks core.pages next
+        (free_copied core.next_pages next to core.pages (inr is.0) after core.blocks core.map.items k is.1
+        (free_beside_hosts core (some_not_none core.next_pages.hosts some.0 some.1)))
+        (stays_on core.next_pages next to core.pages (inr is.0) after core.blocks core.on_device))
+        (none_or_some core.next_pages.hosts)
+
+    -- what is left is enough still
+    pub copy_enough : (next : NextPages) (left : ℕ) → IsCopied core.next_pages to core.pages next → left + 1 ≤ core.pages → left + 1 ≤ core.left
+        → ((left + 1 ≡ core.pages) ⊎ (left + 1 ≡ core.left)) → IsEnough core.pages next left
+    copy_enough next left copied most less either = ⊎_elim
+        (λ none.
+        let more = core.enough.3 to none is.0 in
+        let on = core.on_device to (inr is.0) in
+        let room : to.page + 1 < core.pages = ⊎_elim (λ e. absurd (not_last none e)) (λ differs. omega (arith, differs, on.1))
+        (cases_eq (to.page + 1) core.pages) in (
+          ⊎_elim (λ e. omega (arith, e, room)) (λ e. omega (arith, e, more, room)) either,
+          omega (arith, most),
+          (λ hosts closed. absurd (not_last none (copied.1.1 closed))),
+          (λ on hosts opened.
+              let e = page_after_is to on core.pages next.copies copied.1 opened in
+              ⊎_elim (λ same. omega (arith, same, e.1)) (λ same. omega (arith, same, more, e.1)) either),
+        ))
+        (λ some.
+        let some_hosts = some_not_none core.next_pages.hosts some.0 some.1 in
+        let room = is.4 some_hosts in (
+          ⊎_elim (λ e. omega (arith, e, room.2)) (λ e. omega (arith, e, room.1)) either,
+          omega (arith, most),
+          (λ hosts closed. absurd (some_hosts (sym copied.0 ∙ hosts))),
+          (λ on hosts opened. absurd (some_hosts (sym copied.0 ∙ hosts))),
+        ))
+        (none_or_some core.next_pages.hosts)
+
+  module _ (b : ℕ) (next : NextPages) (is : IsNextCommand core (Erase b)) (opens : Opens core.blocks core.map.items core.next_pages b next) where
+    on_after : ArePagesOn core.blocks core.pages next
+    on_after = opens_on core.blocks core.map.items core.next_pages next b opens core.pages
+        (some_pages core.blocks core.pages (length core.map.items) core.has_capacity) is.1 core.on_device
+
+    pub erase_collects : CanCollect core.map.items core.blocks core.pages next
+    erase_collects = ⊎_elim
+        (λ free. free_collects core.map.items core.blocks core.pages next free on_after)
+        (λ copies.
+        let found = other_has_room core.blocks core.pages b core.map.items core.has_capacity in (
+          (λ some. absurd (some copies.0)),
+          (λ hosts closed. absurd (none_some (first_page b) (sym closed ∙ copies.1))),
+          (λ to hosts opened full.
+              let e : first_page b ≡ to = some_same (first_page b) to (sym copies.1 ∙ opened) in
+              omega (
+                arith,
+                full found.0 found.1 (λ here. found.2 (here ∙ sym (ap (λ (at : PageAddr). at.block) e))),
+                found.3,
+                ap (λ (at : PageAddr). at.page) e,
+              )),
+        ))
+        (free_or_copies core.blocks core.map.items core.next_pages next b opens is.5)
+
+    pub erase_enough : IsEnough core.pages next core.pages
+    erase_enough = (
+      some_pages core.blocks core.pages (length core.map.items) core.has_capacity,
+      omega arith,
+      (λ hosts copies. ⊎_elim
+          (λ mine. absurd (none_some (first_page b) (sym hosts ∙ mine.0)))
+          (λ mine. absurd (none_some (first_page b) (sym copies ∙ mine.1)))
+          opens),
+      (λ to hosts copies. omega arith),
     )
 
-    copy_spends : (next : Option PageAddr) → IsPageAfter to core.pages next → left_at core.pages next + 1 ≡ core.pages - to.page
-    copy_spends None after = absurd (not_last (after.1 refl))
-    copy_spends (Some on) after = omega (arith, after.0.1, after.0.2)
-
-  erase_collects : (b : ℕ) → CanCollect core.map.items core.blocks core.pages (Some (record { block = b; page = 0 }))
-  erase_collects b =
-      let found = other_has_room core.blocks core.pages b core.map.items core.has_capacity in (
-        (λ closed. absurd (none_some (record { block = b; page = 0 }) (sym closed))),
-        (λ to is full.
-            let e : record { block = b; page = 0 } ≡ to = some_same (record { block = b; page = 0 }) to is in
-            omega (
-              arith,
-              full found.0 found.1 (λ here. found.2 (here ∙ sym (ap (λ (at : PageAddr). at.block) e))),
-              found.3,
-              ap
-                  (λ (at : PageAddr). at.page) e,
-            )),
-      )
-
-  pub collects_after : (m : Command) (map : List (Option PageAddr)) (number : ℕ) (next : Option PageAddr) → IsNextCommand core m
+  pub collects_after : (m : Command) (map : List (Option PageAddr)) (number : ℕ) (next : NextPages) → IsNextCommand core m
       → Becomes core s m map number next → CanCollect map core.blocks core.pages next
   collects_after (Program at n) map number next is becomes = program_collects at n map next is becomes.0 becomes.2
   collects_after (Copy k from to) map number next is becomes = subst (λ (m : List (Option PageAddr)). CanCollect m core.blocks core.pages next)
       (sym becomes.0)
       (copy_collects k from to is next becomes.2)
   collects_after (Erase b) map number next is becomes = subst (λ (m : List (Option PageAddr)). CanCollect m core.blocks core.pages next) (sym becomes.0)
-      (subst (CanCollect core.map.items core.blocks core.pages) (sym becomes.2) (erase_collects b))
+      (erase_collects b next is becomes.2)
   collects_after Refused map number next is becomes = subst (λ (m : List (Option PageAddr)). CanCollect m core.blocks core.pages next) (sym becomes.0)
       (subst (CanCollect core.map.items core.blocks core.pages) (sym becomes.2) core.can_collect)
 
-  pub spends_after : (m : Command) (map : List (Option PageAddr)) (number : ℕ) (next : Option PageAddr) → IsNextCommand core m
-      → Becomes core s m map number next → Spends m core.pages (left_at core.pages core.next_page) (left_at core.pages next)
-  spends_after (Program at n) map number next is becomes =
-      let on = core.on_device at is.0 in
-      subst (λ (t : Option PageAddr). 0 < left_at core.pages t) (sym is.0) (omega (arith, on.1))
-  spends_after (Copy k from to) map number next is becomes =
-      subst (λ (t : Option PageAddr). (left_at core.pages t ≤ core.pages) × (left_at core.pages next + 1 ≡ left_at core.pages t)) (sym is.0)
-      (omega arith, copy_spends k from to is next becomes.2)
-  spends_after (Erase b) map number next is becomes = (ap (left_at core.pages) is.0, omega (arith, ap (left_at core.pages) becomes.2))
-  spends_after Refused map number next is becomes = ap (left_at core.pages) becomes.2
+  -- the next pages are on the device, and in two blocks
+  pub on_device_after : (m : Command) (map : List (Option PageAddr)) (number : ℕ) (next : NextPages) → IsNextCommand core m
+      → Becomes core s m map number next → ArePagesOn core.blocks core.pages next
+  on_device_after (Program at n) map number next is becomes =
+      stays_on core.next_pages next at core.pages (is_open core.next_pages at is.0)
+      (after_programmed core.next_pages next at core.pages core.apart is.0 becomes.2) core.blocks core.on_device
+  on_device_after (Copy k from to) map number next is becomes =
+      stays_on core.next_pages next to core.pages (inr is.0) (after_copied core.next_pages next to core.pages core.apart is.0 becomes.2) core.blocks
+      core.on_device
+  on_device_after (Erase b) map number next is becomes = on_after b next is becomes.2
+  on_device_after Refused map number next is becomes = subst (ArePagesOn core.blocks core.pages) (sym becomes.2) core.on_device
 
--- with a block open, the block with the fewest live pages beside it is not free if it has some
-pub stuck : (core : Core) (to : PageAddr) (victim : ℕ) → core.next_page ≡ Some to
+  pub apart_after : (m : Command) (map : List (Option PageAddr)) (number : ℕ) (next : NextPages) → IsNextCommand core m
+      → Becomes core s m map number next → AreInTwoBlocks next
+  apart_after (Program at n) map number next is becomes = apart_programmed core.next_pages next at core.pages core.apart is.0 becomes.2
+  apart_after (Copy k from to) map number next is becomes = apart_copied core.next_pages next to core.pages core.apart is.0 becomes.2
+  apart_after (Erase b) map number next is becomes = opens_apart core.blocks core.map.items core.next_pages next b becomes.2 is.3
+  apart_after Refused map number next is becomes = subst AreInTwoBlocks (sym becomes.2) core.apart
+
+-- with only the block of copies open, the block with the fewest live pages beside it is not free if it has some
+pub stuck : (core : Core) (to : PageAddr) (victim : ℕ) → core.next_pages.hosts ≡ None → core.next_pages.copies ≡ Some to
     → (victim < core.blocks → victim ≢ to.block → 0 < live_in victim core.map.items)
     → IsFewestBeside core.blocks core.map.items to.block victim → IsFree core.map.items victim → ⊥
-stuck core to victim is live fewest free = core.can_collect.1 to is (λ b lt differs.
+stuck core to victim hosts copies live fewest free = core.can_collect.2 to hosts copies (λ b lt differs.
     let found = fewest b lt differs in
     absurd (omega (arith, live found.0 found.1, none_counted victim core.map.items free)))
-
--- the page after one on the device is on the device too
-pub page_after_on : (blocks pages : ℕ) (at : PageAddr) (next : Option PageAddr) → at.block < blocks → IsPageAfter at pages next → IsPageOn blocks pages next
-page_after_on blocks pages at next lt after = λ to is. let e = page_after_is at to pages next after is in (omega (arith, e.0, lt), e.2)
-
--- the first page of a block is on the device
-pub first_page_on : (core : Core) (b : ℕ) → b < core.blocks → IsPageOn core.blocks core.pages (Some (record { block = b; page = 0 }))
-first_page_on core b lt = λ to is.
-    let e : record { block = b; page = 0 } ≡ to = some_same (record { block = b; page = 0 }) to is in (
-      omega (arith, lt, ap (λ (at : PageAddr). at.block) e),
-      omega (
-        arith,
-        some_pages core.blocks core.pages (length core.map.items) core.has_capacity,
-        ap
-            (λ (at : PageAddr). at.page) e,
-      ),
-    )
-  where
-    some_pages : (blocks pages sectors : ℕ) → sectors < (blocks - 1) * pages → 0 < pages
-    some_pages blocks zero sectors few = absurd (omega (arith, few))
-    some_pages blocks (suc pages) sectors few = omega arith
 
 -- the block with the least count has the fewest live pages
 pub fewest_beside : (core : Core) (opened victim : ℕ) (counts : List ℕ) → counts ≡ core.counts

@@ -1,5 +1,5 @@
 -- Which block is free after a mount.
-use Rattle.std.proofs.Common.{◌≡◌, ◌≢◌, ⊎_elim, ◌<◌, ◌≤◌, ℕ, List, [], length, Option, None, Some, get_or, refl, sym, ◌∙◌, subst, arith}
+use Rattle.std.proofs.Common.{◌≡◌, ◌≢◌, inl, ⊎_elim, ◌<◌, ◌≤◌, ℕ, List, [], length, Option, None, Some, get_or, refl, sym, ◌∙◌, subst, arith}
 use Rattle.geometry.specs.Sectors.{Sector}
 use Rattle.geometry.specs.declared.page_addr.PageAddr.{PageAddr}
 use Rattle.durable.specs.declared.found.Candidate.{Candidate}
@@ -7,14 +7,14 @@ use Rattle.durable.specs.declared.memory.Core.{Core}
 use Rattle.durable.specs.declared.extent.Extent.{Extent}
 use Rattle.durable.specs.Flash.{Version, Flash, HasVersion, HoldsNewest, Recovers}
 use Rattle.durable.specs.Collecting.{IsFree, CanCollect}
-use Rattle.durable.specs.Spare.{IsDuplicated, IsSparedAt, LeavesSpare}
+use Rattle.durable.specs.Spare.{IsDuplicated, LeavesSpare}
 use Rattle.durable.specs.Candidates.{IsEntryOf, HasTwin, IsFreeable}
 use Rattle.durable.specs.Mounting.{IsRead}
 use Rattle.durable.proofs.Cells.{same_version}
 use Rattle.durable.proofs.Kept.{Keeps}
 use Rattle.durable.proofs.Scans.{seen, shows_best}
-use Rattle.durable.proofs.Counts.{none_counted}
-use Rattle.durable.proofs.Collects.{none_some}
+use Rattle.durable.proofs.Collects.{free_collects}
+use Rattle.durable.proofs.Opened.{NoneOpen, none_some, nothing_open}
 
 -- a version that was found in another block too has a twin there
 twin_there : (found : Candidate) (b : ℕ) → found.at.block ≡ b → ((t : PageAddr) → found.twin ≡ Some t → t.block ≢ found.at.block) → (k : Option PageAddr)
@@ -36,8 +36,11 @@ module _ (found : List (Option Candidate)) (map : List (Option PageAddr)) (avoid
   avoided_free = λ s at lt is. let inside : s < length found = omega (arith, lt, size) in away_from s at (get_or found s None) inside refl (entries s inside) is
 
 -- with a free block there is room to collect, while none is open
-pub free_collects : (map : List (Option PageAddr)) (blocks pages b : ℕ) → b < blocks → IsFree map b → CanCollect map blocks pages None
-free_collects map blocks pages b lt free = ((λ closed live. omega (arith, live b lt, none_counted b map free)), (λ at is. absurd (none_some at is)))
+pub closed_collects : (map : List (Option PageAddr)) (blocks pages b : ℕ) → b < blocks → IsFree map b
+    → CanCollect map blocks pages (record { hosts = None; copies = None })
+closed_collects map blocks pages b lt free = free_collects map blocks pages (record { hosts = None; copies = None })
+    (b, lt, (λ at opened. absurd (nothing_open at opened)), free)
+    (λ at opened. absurd (nothing_open at opened))
 
 module _ (f : Flash) (array : ℕ → Sector) (pages b p : ℕ) (kept : List (Option Candidate)) (are : Keeps f pages b p kept)
     (all : (d q : ℕ) (e : Extent) (m : ℕ) (v : Sector) → f d q ≡ Version e m v → IsRead pages b p d q) (recovers : Recovers f (length kept) array) where
@@ -59,5 +62,5 @@ module _ (f : Flash) (array : ℕ → Sector) (pages b p : ℕ) (kept : List (Op
       (seen f pages b p all s other.0 other.1 other.4.number other.2 other.4.held)
       (subst (λ (n : ℕ). HasVersion f other.0 other.1 s n other.2) number other.4.held) ∙ here))
 
-pub spares : (f : Flash) (core : Core) (avoided : ℕ) → core.next_page ≡ None → avoided < core.blocks → IsFree core.map.items avoided → LeavesSpare f core
-spares f core avoided closed lt free = subst (IsSparedAt f core.map.items core.blocks) (sym closed) (avoided, lt, free)
+pub spares : (f : Flash) (core : Core) (avoided : ℕ) → NoneOpen core.next_pages → avoided < core.blocks → IsFree core.map.items avoided → LeavesSpare f core
+spares f core avoided closed lt free = inl (avoided, lt, (λ at opened. absurd (closed at opened)), free)

@@ -12,7 +12,8 @@ use Rattle.durable.specs.declared.found.Stamp.{Stamp}
 use Rattle.durable.specs.declared.memory.Core.{Core}
 use Rattle.durable.specs.Updates.{Covers}
 use Rattle.durable.specs.Flash.{Version, Flash, HasVersion, HasValue, HoldsNoValue, RecoversSector, Recovers, is_trim}
-use Rattle.durable.specs.Memory.{IsMappedTo, IsErasedFrom, Represents}
+use Rattle.durable.specs.Memory.{IsMappedTo, Represents}
+use Rattle.durable.proofs.Opened.{NoneOpen}
 use Rattle.durable.specs.Marks.{IsMarkedWith, MarksAll, MarksValues, is_valued}
 use Rattle.durable.specs.Candidates.{AreNeeded, IsEntryOf, IsFoundWith, needed_of}
 use Rattle.std.specs.Int.{bit_at}
@@ -185,11 +186,11 @@ module _ (f : Flash) (pages b p : ℕ) (kept : List (Option Candidate)) (are : K
       → ((c q : ℕ) (e : Extent) (m : ℕ) (v : Sector) → IsRead pages b p c q → f c q ≡ Version e m v → m < below)
       → ((d q : ℕ) (e : Extent) (m : ℕ) (v : Sector) → f d q ≡ Version e m v → IsRead pages b p d q) → Recovers f (length kept) array
       → length core.map.items ≡ length kept
-      → ((s : ℕ) → s < length kept → IsEntryOf (get_or kept s None) (get_or core.map.items s None)) → core.next_page ≡ None → core.next_number ≡ below
+      → ((s : ℕ) → s < length kept → IsEntryOf (get_or kept s None) (get_or core.map.items s None)) → NoneOpen core.next_pages → core.next_number ≡ below
       → Represents f core array
   finished array below core numbers all recovers size entries closed number = record {
     mapped = λ s lt. let inside : s < length kept = omega (arith, lt, size) in
         kept_page s (array s) (get_or kept s None) (get_or core.map.items s None) inside refl (seen f pages b p all s) (recovers s inside) (entries s inside);
     numbers = λ c q s m d e. let below = numbers c q s m d (all c q s m d e) e in omega (arith, below, number);
-    erased = subst (IsErasedFrom f) (sym closed) tt;
+    erased = λ at opened. absurd (closed at opened);
   }

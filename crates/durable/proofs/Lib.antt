@@ -1,10 +1,12 @@
 pub mod Extents
 pub mod Cells
+pub mod Counts
+pub mod Opened
 pub mod Moments
 pub mod Done
-pub mod Counts
 pub mod Collects
 pub mod Known
+pub mod Same
 pub mod Spares
 pub mod Scans
 pub mod Kept

@@ -1,5 +1,5 @@
 -- What each command leaves, whether a crash cuts it short or it succeeds.
-use Rattle.std.proofs.Common.{◌≡◌, ◌≢◌, inl, inr, ⊎_elim, ◌+◌, ◌<◌, ℕ, List, length, Option, None, Some, IfSome, get_or, set, sym, ◌∙◌, subst, arith}
+use Rattle.std.proofs.Common.{◌≡◌, ◌≢◌, inl, inr, ⊎_elim, ◌<◌, ℕ, List, length, Option, None, Some, get_or, set, sym, ◌∙◌, subst, arith}
 use Rattle.std.proofs.lemmas.Bool.{cases_eq}
 use Rattle.std.proofs.lemmas.List.{get_or-set_same, get_or-set_other}
 use Rattle.geometry.specs.Sectors.{Sector}
@@ -8,9 +8,11 @@ use Rattle.durable.specs.declared.memory.Core.{Core}
 use Rattle.durable.specs.Flash.{PageContents, Erased, Torn, Version, Flash, HoldsNewest, RecoversSector, Recovers, SetsPage, LosesPages}
 use Rattle.durable.specs.declared.extent.Extent.{Extent}
 use Rattle.durable.specs.Updates.{Covers, changed}
-use Rattle.durable.specs.Collecting.{IsFree, MapsAll}
-use Rattle.durable.specs.Memory.{map_entry, IsMappedTo, IsErasedFrom, Represents}
+use Rattle.durable.specs.declared.next_pages.NextPages.{NextPages}
+use Rattle.durable.specs.Collecting.{IsFree, IsOpenAt, MapsAll}
+use Rattle.durable.specs.Memory.{map_entry, IsMappedTo, AreErasedFrom, Represents}
 use Rattle.durable.proofs.Extents.{cases_covered, changed_here, changed_elsewhere}
+use Rattle.durable.proofs.Opened.{IsAfter}
 use Rattle.durable.proofs.Cells.{torn_has_none, version_is, reads_kept, kept_in_loss, kept_beside, program_shows, copy_shows}
 
 module _ (f t : Flash) (core : Core) (array : ℕ → Sector) (stands : Represents f core array) where
@@ -25,30 +27,30 @@ module _ (f t : Flash) (core : Core) (array : ℕ → Sector) (stands : Represen
   lost_mounts b none loses s lt = reads_kept t s (array s) (map_entry core s) (kept_in_loss f t b s (array s) (map_entry core s) (stands.mapped s lt)
       (λ at is. none s at lt is) loses)
 
-  pub erased_next : (at : PageAddr) → core.next_page ≡ Some at → f at.block at.page ≡ Erased
-  erased_next at is = subst (IsErasedFrom f) is stands.erased at.page (omega arith)
+  pub erased_next : (at : PageAddr) → IsOpenAt core.next_pages at → f at.block at.page ≡ Erased
+  erased_next at is = stands.erased at is at.page (omega arith)
 
   -- after a torn page each sector is kept as before
-  pub torn_kept : (at : PageAddr) → core.next_page ≡ Some at → SetsPage f t at.block at.page Torn → (s : ℕ) → s < sectors
+  pub torn_kept : (at : PageAddr) → IsOpenAt core.next_pages at → SetsPage f t at.block at.page Torn → (s : ℕ) → s < sectors
       → IsMappedTo t s (array s) (map_entry core s)
   torn_kept at is puts s lt = kept_beside f t at.block at.page Torn (erased_next at is) puts s (array s) (map_entry core s) (stands.mapped s lt)
       (λ m d h. absurd (torn_has_none s m d h))
 
-  pub torn_mounts : (at : PageAddr) → core.next_page ≡ Some at → SetsPage f t at.block at.page Torn → Recovers t sectors array
+  pub torn_mounts : (at : PageAddr) → IsOpenAt core.next_pages at → SetsPage f t at.block at.page Torn → Recovers t sectors array
   torn_mounts at is puts s lt = reads_kept t s (array s) (map_entry core s) (torn_kept at is puts s lt)
 
   -- a program puts the content of its sectors there, and changes no other sector
-  pub programmed_kept : (at : PageAddr) → core.next_page ≡ Some at → (e : Extent) (n : ℕ) (c : Sector) → n ≡ core.next_number
+  pub programmed_kept : (at : PageAddr) → IsOpenAt core.next_pages at → (e : Extent) (n : ℕ) (c : Sector) → n ≡ core.next_number
       → SetsPage f t at.block at.page (Version e n c) → (s : ℕ) → s < sectors → ¬ Covers e s → IsMappedTo t s (array s) (map_entry core s)
   programmed_kept at is e n c number puts s lt out = kept_beside f t at.block at.page (Version e n c) (erased_next at is) puts s (array s)
       (map_entry core s) (stands.mapped s lt) (λ m d h. absurd (out (version_is e n c s m d h).0))
 
-  pub programmed_shows : (at : PageAddr) → core.next_page ≡ Some at → (e : Extent) (n : ℕ) (c : Sector) → n ≡ core.next_number
+  pub programmed_shows : (at : PageAddr) → IsOpenAt core.next_pages at → (e : Extent) (n : ℕ) (c : Sector) → n ≡ core.next_number
       → SetsPage f t at.block at.page (Version e n c) → (s : ℕ) → Covers e s → HoldsNewest t s c at.block at.page
   programmed_shows at is e n c number puts s has = program_shows f t at.block at.page e s n c (λ d q r m v h. subst (λ (x : ℕ). m < x) (sym number)
       (stands.numbers d q r m v h)) (erased_next at is) puts has
 
-  pub programmed_mounts : (at : PageAddr) → core.next_page ≡ Some at → (e : Extent) (n : ℕ) (c : Sector) → n ≡ core.next_number
+  pub programmed_mounts : (at : PageAddr) → IsOpenAt core.next_pages at → (e : Extent) (n : ℕ) (c : Sector) → n ≡ core.next_number
       → SetsPage f t at.block at.page (Version e n c) → Recovers t sectors (changed array e c)
   programmed_mounts at is e n c number puts s lt = ⊎_elim
       (λ has. subst (RecoversSector t s) (sym (changed_here array e c s has)) (inl (at.block, at.page, programmed_shows at is e n c number puts s has)))
@@ -60,25 +62,25 @@ module _ (f t : Flash) (core : Core) (array : ℕ → Sector) (stands : Represen
   pub source_shows : (k : ℕ) (from : PageAddr) → k < sectors → map_entry core k ≡ Some from → HoldsNewest f k (array k) from.block from.page
   source_shows k from lt is = subst (IsMappedTo f k (array k)) is (stands.mapped k lt)
 
-  pub copied_kept : (to from : PageAddr) → core.next_page ≡ Some to → SetsPage f t to.block to.page (f from.block from.page) → (s : ℕ) → s < sectors
+  pub copied_kept : (to from : PageAddr) → IsOpenAt core.next_pages to → SetsPage f t to.block to.page (f from.block from.page) → (s : ℕ) → s < sectors
       → IsMappedTo t s (array s) (map_entry core s)
   copied_kept to from is puts s lt = kept_beside f t to.block to.page (f from.block from.page) (erased_next to is) puts s (array s) (map_entry core s)
       (stands.mapped s lt) (λ m d h. (from.block, from.page, h))
 
-  pub copied_shows : (to from : PageAddr) → core.next_page ≡ Some to → (k : ℕ) → k < sectors → map_entry core k ≡ Some from → SetsPage f t to.block to.page
+  pub copied_shows : (to from : PageAddr) → IsOpenAt core.next_pages to → (k : ℕ) → k < sectors → map_entry core k ≡ Some from → SetsPage f t to.block to.page
       (f from.block from.page) → HoldsNewest t k (array k) to.block to.page
   copied_shows to from is k klt at puts = copy_shows f t from.block from.page to.block to.page k (array k) (source_shows k from klt at) (erased_next to is) puts
 
-  pub copied_mounts : (to from : PageAddr) → core.next_page ≡ Some to → SetsPage f t to.block to.page (f from.block from.page) → Recovers t sectors array
+  pub copied_mounts : (to from : PageAddr) → IsOpenAt core.next_pages to → SetsPage f t to.block to.page (f from.block from.page) → Recovers t sectors array
   copied_mounts to from is puts s lt = reads_kept t s (array s) (map_entry core s) (copied_kept to from is puts s lt)
 
--- the rest of the open block is still erased
-pub ready_next : (f t : Flash) (at : PageAddr) (x : PageContents) (k : Option PageAddr) (pages : ℕ)
-    → IfSome k (λ to. (to.block ≡ at.block) × (to.page ≡ at.page + 1) × (to.page < pages)) → IsErasedFrom f (Some at) → SetsPage f t at.block at.page x
-    → IsErasedFrom t k
-ready_next f t at x None pages given ready puts = tt
-ready_next f t at x (Some to) pages given ready puts = λ p le. puts.others to.block p (inr (omega (arith, le, given.1))) ∙
-    ((λ i. f (given.0 i) p) ∙ ready p (omega (arith, le, given.1)))
+-- the rest of each open block is still erased
+pub ready_next : (f t : Flash) (at : PageAddr) (x : PageContents) (old new : NextPages) (pages : ℕ) → IsOpenAt old at → IsAfter old at pages new
+    → AreErasedFrom f old → SetsPage f t at.block at.page x → AreErasedFrom t new
+ready_next f t at x old new pages is after ready puts to opened p le = ⊎_elim
+    (λ here. puts.others to.block p (inr (omega (arith, le, here.1))) ∙ ((λ i. f (here.0 i) p) ∙ ready at is p (omega (arith, le, here.1))))
+    (λ there. puts.others to.block p (inl there.1) ∙ ready to there.0 p le)
+    (after to opened)
 
 -- a list of places with another for one sector
 pub kept_set : (t : Flash) (kept : List (Option PageAddr)) (k : ℕ) (at : PageAddr) (array : ℕ → Sector) → k < length kept → HoldsNewest t k

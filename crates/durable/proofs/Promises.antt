@@ -17,7 +17,8 @@ use Rattle.durable.specs.Device.{Device, device_of, device_in, NamesOn, IsWritte
 use Rattle.durable.specs.Memory.{Represents}
 use Rattle.durable.specs.Choice.{IsNextCommand}
 use Rattle.durable.specs.Candidates.{AreNeeded, IsEntryOf, IsFreeable}
-use Rattle.durable.specs.Collecting.{IsFree}
+use Rattle.durable.specs.declared.next_pages.NextPages.{NextPages}
+use Rattle.durable.specs.Collecting.{IsFree, IsOpenAt}
 use Rattle.durable.specs.Mounting.{IsRead}
 use Rattle.durable.specs.Spare.{CanFree, IsDuplicated, LeavesSpare}
 use Rattle.durable.specs.Failures.{IsRenumbered, HasVersionlessBlock, IsSameFlashOf}
@@ -27,6 +28,7 @@ use Rattle.durable.specs.Retiring.{updates_left}
 use Rattle.durable.specs.Runs.{Event, Completed, Failed, Retired, CutInside, CutBetween, IsMountedFrom, Runs, acknowledged_in, begun_in}
 use Rattle.durable.proofs.Cells.{same_held, torn_holds_none, erased_holds_none, erased_has_none, erased_loses}
 use Rattle.durable.proofs.Moments.{erased_next, source_shows, same_mounts, lost_mounts, torn_mounts, programmed_mounts, copied_mounts}
+use Rattle.durable.proofs.Opened.{NoneOpen, is_open}
 use Rattle.durable.proofs.Done.{Becomes, BecomesCore, array_with, represents_after}
 use Rattle.durable.proofs.Spares.{cut_spare, spare_after, same_spare}
 use Rattle.durable.specs.declared.found.Candidate.{Candidate}
@@ -45,7 +47,7 @@ module _ (f t : Flash) (core : Core) (array : ℕ → Sector) (stands : Represen
   same_written : IsSameFlash f t → IsWrittenOn (device_of core) t
   same_written same = λ d q s m v e. written d q s m v (sym (same d q) ∙ e)
 
-  set_written : (at : PageAddr) (x : PageContents) → core.next_page ≡ Some at
+  set_written : (at : PageAddr) (x : PageContents) → IsOpenAt core.next_pages at
       → ((s : Extent) (m : ℕ) (v : Sector) → x ≡ Version s m v → LiesWithin (length core.map.items) s × (m + 1 < 2 ^ 64)) → SetsPage f t at.block at.page x
       → IsWrittenOn (device_of core) t
   set_written at x is good puts = λ d q s m v e. ⊎_elim
@@ -75,12 +77,12 @@ module _ (f t : Flash) (core : Core) (array : ℕ → Sector) (stands : Represen
   pub cut_written : (s : Extent) (x : Sector) (m : Command) → LiesWithin (length core.map.items) s → IsNextCommand core m → CutLeaves m s x f t
       → IsWrittenOn (device_of core) t
   cut_written s x (Program at n) lt next cut = ⊎_elim same_written (λ more. ⊎_elim
-      (set_written at Torn next.0 (λ r m v e. absurd (torn_holds_none r m v e)))
-      (set_written at (Version s n x) next.0 (λ r m v e. let is = same_held s n x r m v e in
+      (set_written at Torn (is_open core.next_pages at next.0) (λ r m v e. absurd (torn_holds_none r m v e)))
+      (set_written at (Version s n x) (is_open core.next_pages at next.0) (λ r m v e. let is = same_held s n x r m v e in
       (subst (LiesWithin (length core.map.items)) is.0 lt, omega (arith, is.1, next.2)))) more) cut
   cut_written s x (Copy k from to) lt next cut = ⊎_elim same_written (λ more. ⊎_elim
-      (set_written to Torn next.0 (λ r m v e. absurd (torn_holds_none r m v e)))
-      (set_written to (f from.block from.page) next.0 (λ r m v e. let w = written from.block from.page r m v e in (w.2, w.3))) more) cut
+      (set_written to Torn (inr next.0) (λ r m v e. absurd (torn_holds_none r m v e)))
+      (set_written to (f from.block from.page) (inr next.0) (λ r m v e. let w = written from.block from.page r m v e in (w.2, w.3))) more) cut
   cut_written s x (Erase b) lt next cut = λ d q r m v e. written d q r m v (cut.within d q r m v e)
   cut_written s x Refused lt next cut = same_written cut
 
@@ -88,21 +90,22 @@ module _ (f t : Flash) (core : Core) (array : ℕ → Sector) (stands : Represen
   cut_recovers : (s : Extent) (x : Sector) (m : Command) → IsNextCommand core m → CutLeaves m s x f t
       → Recovers t (length core.map.items) array ⊎ Recovers t (length core.map.items) (changed array s x)
   cut_recovers s x (Program at n) next cut = ⊎_elim (λ same. inl (same_mounts f t core array stands same)) (λ more. ⊎_elim
-      (λ torn. inl (torn_mounts f t core array stands at next.0 torn))
-      (λ put. inr (programmed_mounts f t core array stands at next.0 s n x next.1 put)) more) cut
+      (λ torn. inl (torn_mounts f t core array stands at (is_open core.next_pages at next.0) torn))
+      (λ put. inr (programmed_mounts f t core array stands at (is_open core.next_pages at next.0) s n x next.1 put)) more) cut
   cut_recovers s x (Copy k from to) next cut = ⊎_elim (λ same. inl (same_mounts f t core array stands same)) (λ more. ⊎_elim
-      (λ torn. inl (torn_mounts f t core array stands to next.0 torn))
-      (λ put. inl (copied_mounts f t core array stands to from next.0 put)) more) cut
+      (λ torn. inl (torn_mounts f t core array stands to (inr next.0) torn))
+      (λ put. inl (copied_mounts f t core array stands to from (inr next.0) put)) more) cut
   cut_recovers s x (Erase b) next cut = inl (lost_mounts f t core array stands b next.2 cut)
   cut_recovers s x Refused next cut = inl (same_mounts f t core array stands cut)
 
   -- the commands name what lies on the device, and program erased pages
   pub names : (m : Command) → IsNextCommand core m → NamesOn (device_of core) m × IsAllowed f m
-  names (Program at n) next = (core.on_device at next.0, erased_next f t core array stands at next.0)
+  names (Program at n) next =
+      let opened = is_open core.next_pages at next.0 in (core.on_device at opened, erased_next f t core array stands at opened)
   names (Copy k from to) next =
       let source = source_shows f t core array stands k from next.1 next.2 in
       let w = written from.block from.page source.held.0 source.number (array k) source.held.1 in
-      (((w.0, w.1), core.on_device to next.0), erased_next f t core array stands to next.0)
+      (((w.0, w.1), core.on_device to (inr next.0)), erased_next f t core array stands to (inr next.0))
   names (Erase b) next = (next.1, tt)
   names Refused next = (tt, tt)
 
@@ -138,7 +141,7 @@ survives_idle_cut core f acked begun is = record {
 written_on : (t : Flash) (old new : Device) → new ≡ old → IsWrittenOn old t → IsWrittenOn new t
 written_on t old new same = subst (λ (d : Device). IsWrittenOn d t) (sym same)
 
-size_after : (core : Core) (s : Extent) (m : Command) (map : List (Option PageAddr)) (number : ℕ) (next : Option PageAddr) → Becomes core s m map number next
+size_after : (core : Core) (s : Extent) (m : Command) (map : List (Option PageAddr)) (number : ℕ) (next : NextPages) → Becomes core s m map number next
     → length map ≡ length core.map.items
 size_after core s (Program at n) map number next becomes = becomes.0.size
 size_after core s (Copy k from to) map number next becomes = ap length becomes.0 ∙ length-set core.map.items k (Some to)
@@ -153,7 +156,7 @@ pub acknowledges : (core new : Core) (s : Extent) (m : Command) → LiesWithin (
     → new.blocks ≡ core.blocks
     → new.read_blocks ≡ core.read_blocks → new.pages ≡ core.pages → Acknowledges core s m new
 acknowledges core new s m lt next becomes blocks read pages f t x acked begun is does =
-    let size = size_after core s m new.map.items new.next_number new.next_page becomes in
+    let size = size_after core s m new.map.items new.next_number new.next_pages becomes in
     acknowledged m next becomes does
     (represents_after f t core new (array_after is.updates) is.represents s x m next does becomes)
     (written_on t (device_of core) (device_of new) (same_device core new blocks read pages size)
@@ -204,7 +207,8 @@ module _ (mount : Mount) (at_end : mount.read_blocks ≤ mount.block) (f : Flash
   pub remounted : (core : Core) (avoided : ℕ) → core.blocks ≡ mount.blocks → core.read_blocks ≡ mount.read_blocks
       → core.pages ≡ mount.pages → length core.map.items ≡ length kept
       → ((s : ℕ) → s < length kept → IsEntryOf (get_or kept s None) (get_or core.map.items s None))
-      → core.next_page ≡ None → core.next_number ≡ mount.next_number → avoided < core.blocks → IsFree core.map.items avoided → IsConsistent f core acked begun
+      → NoneOpen core.next_pages → core.next_number ≡ mount.next_number → avoided < core.blocks → IsFree core.map.items avoided
+      → IsConsistent f core acked begun
   remounted core avoided blocks read pages size entries closed number lt free =
       let same : device_of core ≡ device_in mount =
       λ i. record { blocks = blocks i; read_blocks = read i; pages = pages i; sectors = (size ∙ needed.0) i } in

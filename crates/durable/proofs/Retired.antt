@@ -8,13 +8,13 @@ use Rattle.durable.specs.declared.command.Command.{Command}
 use Rattle.durable.specs.declared.command.Command.TheVariants.{Program, Copy, Erase, Refused}
 use Rattle.durable.specs.declared.memory.Core.{Core}
 use Rattle.durable.specs.Choice.{IsNextCommand}
-use Rattle.durable.specs.Collecting.{IsFree}
+use Rattle.durable.specs.Collecting.{IsFree, IsOpenAt}
 use Rattle.durable.specs.Commands.{CutLeaves, IsSameFlash}
 use Rattle.durable.specs.Device.{device_of}
 use Rattle.durable.specs.Failures.{Changes, IsSwapped, swapped}
 use Rattle.durable.specs.Flash.{Torn, Version, Flash, HasVersion, HoldsNewest, SetsPage}
 use Rattle.durable.specs.Losses.{IsGapless, version_count}
-use Rattle.durable.specs.Memory.{IsErasedFrom, IsMappedTo, Represents, map_entry}
+use Rattle.durable.specs.Memory.{IsMappedTo, Represents, map_entry}
 use Rattle.durable.specs.Promise.{IsConsistent}
 use Rattle.durable.specs.Retiring.{HasLeftVersion, IsRetired, Keeps, Renumbers, Retires, swapped_entry, updates_left}
 use Rattle.durable.specs.Updates.{IsSubsequence, LiesWithin, Update, array_after, changed}
@@ -23,6 +23,7 @@ use Rattle.durable.proofs.Cells.{erased_holds_none, kept_in_loss, same_held, tor
 use Rattle.durable.proofs.Extents.{cases_covered, changed_elsewhere, changed_here, none_all}
 use Rattle.durable.proofs.Frees.{spares}
 use Rattle.durable.proofs.Moments.{copied_kept, erased_next, kept_all, programmed_kept, programmed_shows, torn_kept}
+use Rattle.durable.proofs.Opened.{NoneOpen, is_open}
 use Rattle.durable.proofs.Promises.{cut_written, written_renumbered}
 use Rattle.durable.proofs.Reserves.{renumbered, swapped_first, swapped_twice}
 use Rattle.durable.proofs.Whole.{lost_whole, opens, stay_whole}
@@ -93,7 +94,7 @@ module _ (f t : Flash) (core : Core) (array : ℕ → Sector) (stands : Represen
   same_numbers : IsSameFlash f t → SameNumbers
   same_numbers same b p e m v is = stands.numbers b p e m v (sym (same b p) ∙ is)
 
-  torn_numbers : (at : PageAddr) → core.next_page ≡ Some at → SetsPage f t at.block at.page Torn → SameNumbers
+  torn_numbers : (at : PageAddr) → IsOpenAt core.next_pages at → SetsPage f t at.block at.page Torn → SameNumbers
   torn_numbers at opened puts b p e m v is = ⊎_elim
       (λ here. absurd (torn_holds_none e m v here))
       (λ before. stands.numbers b p e m v before)
@@ -104,20 +105,20 @@ module _ (f t : Flash) (core : Core) (array : ℕ → Sector) (stands : Represen
   failed_kept (Program at n) next cut none = ⊎_elim
       (λ same. (same_kept same, same_numbers same))
       (λ more. ⊎_elim
-      (λ torn. (torn_kept f t core array stands at next.0 torn, torn_numbers at next.0 torn))
+      (λ torn. (torn_kept f t core array stands at (is_open core.next_pages at next.0) torn, torn_numbers at (is_open core.next_pages at next.0) torn))
       (λ puts. absurd (none s n x puts.put))
       more)
       cut
   failed_kept (Copy k from to) next cut none = ⊎_elim
       (λ same. (same_kept same, same_numbers same))
       (λ more. ⊎_elim
-      (λ torn. (torn_kept f t core array stands to next.0 torn, torn_numbers to next.0 torn))
+      (λ torn. (torn_kept f t core array stands to (inr next.0) torn, torn_numbers to (inr next.0) torn))
       (λ puts. (
-        copied_kept f t core array stands to from next.0 puts,
+        copied_kept f t core array stands to from (inr next.0) puts,
         λ b p e m v is. ⊎_elim
             (λ here. stands.numbers from.block from.page e m v here)
             (λ before. stands.numbers b p e m v before)
-            (was_page f t to.block to.page (f from.block from.page) (erased_next f t core array stands to next.0) puts b p e m v is),
+            (was_page f t to.block to.page (f from.block from.page) (erased_next f t core array stands to (inr next.0)) puts b p e m v is),
       ))
       more)
       cut
@@ -132,7 +133,7 @@ module _ (f t : Flash) (core : Core) (array : ℕ → Sector) (stands : Represen
       → SetsPage f t at.block at.page (Version s n x)
   puts_of at n next cut has = ⊎_elim
       (λ same. absurd (erased_holds_none has.0 has.1 has.2
-      (sym (erased_next f t core array stands at next.0) ∙ (sym (same at.block at.page) ∙ has.3))))
+      (sym (erased_next f t core array stands at (is_open core.next_pages at next.0)) ∙ (sym (same at.block at.page) ∙ has.3))))
       (λ more. ⊎_elim (λ torn. absurd (torn_holds_none has.0 has.1 has.2 (sym torn.put ∙ has.3))) (λ puts. puts) more)
       cut
 
@@ -154,13 +155,13 @@ module _ (f t : Flash) (core : Core) (array : ℕ → Sector) (stands : Represen
       record {
         mapped = kept_all t core.map.items map s at (changed array s x) keeps.0
             (λ k covered. subst (λ (v : Sector). HoldsNewest t k v at.block at.page) (sym (changed_here array s x k covered))
-            (programmed_shows f t core array stands at next.0 s n x next.1 puts k covered))
+            (programmed_shows f t core array stands at (is_open core.next_pages at next.0) s n x next.1 puts k covered))
             (λ k lt out. subst (λ (v : Sector). IsMappedTo t k v (map_entry core k)) (sym (changed_elsewhere array s x k out))
-            (programmed_kept f t core array stands at next.0 s n x next.1 puts k lt out));
+            (programmed_kept f t core array stands at (is_open core.next_pages at next.0) s n x next.1 puts k lt out));
         numbers = λ b p e m v is. ⊎_elim
             (λ here. let same = (same_held s n x e m v here).1 in omega (arith, same, keeps.1))
             (λ before. let below = stands.numbers b p e m v before in omega (arith, next.1, below, keeps.1))
-            (was_page f t at.block at.page (Version s n x) (erased_next f t core array stands at next.0) puts b p e m v is);
+            (was_page f t at.block at.page (Version s n x) (erased_next f t core array stands at (is_open core.next_pages at next.0)) puts b p e m v is);
       }
   stands_left (Program at n) false map number next cut has keeps = without (Program at n) map number keeps.0 (omega (arith, keeps.1, next.1))
       next cut has
@@ -201,7 +202,7 @@ size_left core left Refused s map number keeps = ap length keeps.0
 pub spare_is_free : (core : Core) (left : Bool) (m : Command) (s : Extent) (map : List (Option PageAddr)) (number spare : ℕ) → IsNextCommand core m
     → Keeps m left s core.map.items map core.next_number number → core.blocks ≤ spare → IsFree core.map.items spare → IsFree map spare
 spare_is_free core true (Program at n) s map number spare next keeps past free =
-    let within = (core.on_device at next.0).0 in
+    let within = (core.on_device at (is_open core.next_pages at next.0)).0 in
     none_all core.map.items map s at spare keeps.0 free (λ e. omega (arith, e, within, past))
 spare_is_free core false (Program at n) s map number spare next keeps past free =
     subst (λ (items : List (Option PageAddr)). IsFree items spare) (sym keeps.0) free
@@ -219,8 +220,8 @@ one_block (Erase c) a b first second = first ∙ sym second
 one_block Refused a b first second = absurd first
 
 pub block_in_use : (core : Core) (m : Command) (b : ℕ) → IsNextCommand core m → Changes m b → b < core.blocks
-block_in_use core (Program at n) b next is = let within = (core.on_device at next.0).0 in omega (arith, within, is)
-block_in_use core (Copy k from to) b next is = let within = (core.on_device to next.0).0 in omega (arith, within, is)
+block_in_use core (Program at n) b next is = let within = (core.on_device at (is_open core.next_pages at next.0)).0 in omega (arith, within, is)
+block_in_use core (Copy k from to) b next is = let within = (core.on_device to (inr next.0)).0 in omega (arith, within, is)
 block_in_use core (Erase c) b next is = omega (arith, next.1, is)
 block_in_use core Refused b next is = absurd is
 
@@ -234,15 +235,15 @@ module _ (f t : Flash) (core : Core) (array : ℕ → Sector) (stands : Represen
   still_gapless (Program on n) next cut k at lt is = ⊎_elim
       (λ same. same_gapless same at.block (keeps.mapped k at lt is))
       (λ more. ⊎_elim
-      (λ torn. stay_whole f t core array stands keeps on Torn next.0 torn at.block (keeps.mapped k at lt is))
-      (λ puts. stay_whole f t core array stands keeps on (Version s n x) next.0 puts at.block (keeps.mapped k at lt is))
+      (λ torn. stay_whole f t core array stands keeps on Torn (is_open core.next_pages on next.0) torn at.block (keeps.mapped k at lt is))
+      (λ puts. stay_whole f t core array stands keeps on (Version s n x) (is_open core.next_pages on next.0) puts at.block (keeps.mapped k at lt is))
       more)
       cut
   still_gapless (Copy j from to) next cut k at lt is = ⊎_elim
       (λ same. same_gapless same at.block (keeps.mapped k at lt is))
       (λ more. ⊎_elim
-      (λ torn. stay_whole f t core array stands keeps to Torn next.0 torn at.block (keeps.mapped k at lt is))
-      (λ puts. stay_whole f t core array stands keeps to (f from.block from.page) next.0 puts at.block (keeps.mapped k at lt is))
+      (λ torn. stay_whole f t core array stands keeps to Torn (inr next.0) torn at.block (keeps.mapped k at lt is))
+      (λ puts. stay_whole f t core array stands keeps to (f from.block from.page) (inr next.0) puts at.block (keeps.mapped k at lt is))
       more)
       cut
   still_gapless (Erase b) next cut k at lt is = lost_whole f t b cut at.block (next.2 k at lt is) (keeps.mapped k at lt is)
@@ -258,7 +259,7 @@ module _ (f t : Flash) (core : Core) (array : ℕ → Sector) (stands : Represen
       → IsGapless t at.block
   gapless_left (Program on n) true map number next cut has kept k at lt is = ⊎_elim
       (λ covered. subst (IsGapless t) (same_block on at (sym (kept.0.covered k covered) ∙ is))
-      (opens f t core array stands keeps on (Version s n x) next.0 (puts_of f t core array stands s x on n next cut has)))
+      (opens f t core array stands keeps on (Version s n x) (is_open core.next_pages on next.0) (puts_of f t core array stands s x on n next cut has)))
       (λ out. still_gapless (Program on n) next cut k at (omega (arith, lt, kept.0.size)) (sym (kept.0.others k out) ∙ is))
       (cases_covered s k)
   gapless_left (Program on n) false map number next cut has kept k at lt is = as_before (Program on n) map next cut kept.0 k at lt is
@@ -271,7 +272,7 @@ module _ (core new : Core) (s : Extent) (m : Command) (left : Bool) (spare block
     (within : LiesWithin (length core.map.items) s) (next : IsNextCommand core m)
     (keeps : Keeps m left s core.map.items map core.next_number new.next_number) (renumbers : Renumbers map new.map.items block spare)
     (changes : Changes m block) (past : core.blocks ≤ spare) (read : spare < core.read_blocks) (free : IsFree map spare)
-    (closed : new.next_page ≡ None) (blocks : new.blocks ≡ core.blocks)
+    (closed : NoneOpen new.next_pages) (blocks : new.blocks ≡ core.blocks)
     (reads : new.read_blocks ≡ core.read_blocks) (pages : new.pages ≡ core.pages) where
   block_is_free : IsFree new.map.items block
   block_is_free = first_is_free map new.map.items block spare renumbers free
@@ -303,7 +304,7 @@ module _ (core new : Core) (s : Extent) (m : Command) (left : Bool) (spare block
         represents = subst (λ (a : ℕ → Sector). Represents t new a) (array_is left m s x is.updates) (record {
           mapped = mapped;
           numbers = λ c p e n v at. stands.numbers (swapped block spare c) p e n v (sym (page_before failed t block spare swap c p) ∙ at);
-          erased = subst (IsErasedFrom t) (sym closed) tt;
+          erased = λ at opened. absurd (closed at opened);
         });
         written = written_renumbered failed t core.read_blocks all_renumbered (device_of core) (device_of new)
             (reads, pages, size) refl

@@ -1,5 +1,5 @@
 -- Whatever a power cut leaves, a mount can free a block.
-use Rattle.std.proofs.Common.{◌≡◌, ◌≢◌, ◌⊎◌, inl, inr, ⊎_elim, ◌+◌, ◌<◌, ℕ, List, length, Option, None, Some, set, refl, sym, subst, arith}
+use Rattle.std.proofs.Common.{◌≡◌, ◌≢◌, ◌⊎◌, inl, inr, ⊎_elim, ◌<◌, ℕ, List, length, Option, None, Some, set, refl, sym, ◌∙◌, ap, subst, arith}
 use Rattle.std.proofs.lemmas.List.{length-set}
 use Rattle.geometry.specs.Sectors.{Sector}
 use Rattle.geometry.specs.declared.page_addr.PageAddr.{PageAddr}
@@ -9,17 +9,20 @@ use Rattle.durable.specs.declared.memory.Core.{Core}
 use Rattle.durable.specs.declared.extent.Extent.{Extent}
 use Rattle.durable.specs.Flash.{PageContents, Erased, Torn, Version, Flash, IsVersionOf, HasVersion, HoldsNewest, HoldsNeeded, HoldsNoValue, HasValue}
 use Rattle.durable.specs.Flash.{SetsPage, LosesPages}
-use Rattle.durable.specs.Collecting.{IsFree, MapsAll}
+use Rattle.durable.specs.Collecting.{IsCopied, IsFree, IsOpenAt, first_page}
 use Rattle.durable.specs.Commands.{CutLeaves, Completes}
 use Rattle.durable.specs.Memory.{Represents, IsMappedTo, map_entry}
 use Rattle.durable.specs.Choice.{IsNextCommand}
 use Rattle.durable.specs.Spare.{IsDuplicated, CanFree, IsSparedAt, LeavesSpare}
-use Rattle.durable.proofs.Extents.{cases_covered, none_all}
+use Rattle.durable.proofs.Extents.{cases_covered}
 use Rattle.durable.proofs.Cells.{was, stays, torn_has_none, erased_has_none, kept_in_loss}
 use Rattle.durable.proofs.Moments.{erased_next, programmed_kept, programmed_shows}
-use Rattle.durable.proofs.Counts.{counted_none}
-use Rattle.durable.proofs.Done.{IsPageAfter, BecomesCore}
-use Rattle.durable.proofs.Collects.{stays_free, not_last, copy_apart}
+use Rattle.durable.proofs.Done.{BecomesCore}
+use Rattle.durable.proofs.Collects.{not_last, copy_apart}
+use Rattle.durable.proofs.Opened.{after_copied, after_programmed, free_copied, free_or_copies, free_programmed, is_open, none_or_some, page_after_is, some_same}
+
+same_block : (at to : PageAddr) → Some at ≡ Some to → at.block ≡ to.block
+same_block at to e = ap (λ (x : PageAddr). x.block) (some_same at to e)
 
 -- the sector stands outside of the block, or no page has a value of it
 abbrev Away : Flash → ℕ → ℕ → Type 0
@@ -89,40 +92,45 @@ module _ (f t : Flash) (core : Core) (array : ℕ → Sector) (stands : Represen
   empty_doubled b none = away_doubled f sectors b (λ s lt. kept_away f s b (array s) (map_entry core s) (stands.mapped s lt)
       (λ at is. none s at lt is))
 
-  spare_of : (k : Option PageAddr) → IsSparedAt f core.map.items core.blocks k → CanFree f core.blocks sectors
-  spare_of None spare = (spare.0, spare.1, empty_doubled spare.0 spare.2)
-  spare_of (Some to) (inl spare) = (spare.0, spare.1, empty_doubled spare.0 spare.3)
-  spare_of (Some to) (inr here) = (to.block, here.0, here.1)
+  spare_of : CanFree f core.blocks sectors
+  spare_of = ⊎_elim
+      (λ free. (free.0, free.1, empty_doubled free.0 free.3))
+      (λ copies. (copies.0.block, copies.3, copies.4))
+      clears
 
   pub same_spare : ((b p : ℕ) → t b p ≡ f b p) → CanFree t core.blocks sectors
-  same_spare same = subst (λ (g : Flash). CanFree g core.blocks sectors) (λ i b p. sym (same b p) i) (spare_of core.next_page clears)
+  same_spare same = subst (λ (g : Flash). CanFree g core.blocks sectors) (λ i b p. sym (same b p) i) spare_of
 
-  torn_spare : (at : PageAddr) → core.next_page ≡ Some at → SetsPage f t at.block at.page Torn → CanFree t core.blocks sectors
+  torn_spare : (at : PageAddr) → IsOpenAt core.next_pages at → SetsPage f t at.block at.page Torn → CanFree t core.blocks sectors
   torn_spare at is puts =
-      let spare = spare_of core.next_page clears in (
+      let spare = spare_of in (
         spare.0,
         spare.1,
         doubled_put f t at.block at.page Torn (erased_next f t core array stands at is) puts sectors spare.0 spare.2
             (λ s m v e. absurd (torn_has_none s m v e)),
       )
 
-  copied_at : (to from : PageAddr) (k : ℕ) → IsSparedAt f core.map.items core.blocks (Some to) → f to.block to.page ≡ Erased → k < sectors
-      → map_entry core k ≡ Some from → from.block ≢ to.block
+  copied_at : (to from : PageAddr) (k : ℕ) → core.next_pages.copies ≡ Some to → k < sectors → map_entry core k ≡ Some from → from.block ≢ to.block
       → SetsPage f t to.block to.page (f from.block from.page) → CanFree t core.blocks sectors
-  copied_at to from k (inl spare) erased lt is apart puts = (
-    spare.0,
-    spare.1,
-    doubled_put f t to.block to.page (f from.block from.page) erased puts sectors spare.0 (empty_doubled spare.0 spare.3)
-        (λ s m v e. (from.block, from.page, spare.3 k from lt is, e)),
-  )
-  copied_at to from k (inr here) erased lt is apart puts = (
-    to.block,
-    here.0,
-    doubled_put f t to.block to.page (f from.block from.page) erased puts sectors to.block here.1
-        (λ s m v e. (from.block, from.page, apart, e)),
-  )
+  copied_at to from k opened lt is apart puts = ⊎_elim
+      (λ spare. (
+        spare.0,
+        spare.1,
+        doubled_put f t to.block to.page (f from.block from.page) erased puts sectors spare.0 (empty_doubled spare.0 spare.3)
+            (λ s m v e. (from.block, from.page, spare.3 k from lt is, e)),
+      ))
+      (λ here. (
+        here.0.block,
+        here.3,
+        doubled_put f t to.block to.page (f from.block from.page) erased puts sectors here.0.block here.4
+            (λ s m v e. (from.block, from.page, (λ same. apart (same ∙ same_block here.0 to (sym here.2 ∙ opened))), e)),
+      ))
+      clears
+    where
+      erased : f to.block to.page ≡ Erased
+      erased = erased_next f t core array stands to (inr opened)
 
-  programmed_spare : (at : PageAddr) → core.next_page ≡ Some at → (e : Extent) (n : ℕ) (c : Sector) → n ≡ core.next_number → (b : ℕ) → b < core.blocks
+  programmed_spare : (at : PageAddr) → IsOpenAt core.next_pages at → (e : Extent) (n : ℕ) (c : Sector) → n ≡ core.next_number → (b : ℕ) → b < core.blocks
       → b ≢ at.block → IsFree core.map.items b
       → SetsPage f t at.block at.page (Version e n c) → CanFree t core.blocks sectors
   programmed_spare at is e n c number b within apart none puts = (
@@ -145,63 +153,66 @@ module _ (f t : Flash) (core : Core) (array : ℕ → Sector) (stands : Represen
   )
 
   pub cut_spare : (s : Extent) (x : Sector) (m : Command) → IsNextCommand core m → CutLeaves m s x f t → CanFree t core.blocks sectors
-  cut_spare s x (Program at n) next cut = ⊎_elim same_spare (λ more. ⊎_elim
-      (torn_spare at next.0)
-      (programmed_spare at next.0 s n x next.1 next.3.0 next.3.1 next.3.2 next.3.3) more) cut
+  cut_spare s x (Program at n) next cut =
+      let opened = is_open core.next_pages at next.0 in
+      ⊎_elim same_spare (λ more. ⊎_elim
+      (torn_spare at opened)
+      (programmed_spare at opened s n x next.1 next.3.0 next.3.1 (next.3.2 at opened) next.3.3) more) cut
   cut_spare s x (Copy k from to) next cut = ⊎_elim same_spare (λ more. ⊎_elim
-      (torn_spare to next.0)
-      (copied_at to from k (subst (IsSparedAt f core.map.items core.blocks) next.0 clears) (erased_next f t core array stands to next.0)
-      next.1 next.2 (copy_apart core s k from to next)) more) cut
+      (torn_spare to (inr next.0))
+      (copied_at to from k next.0 next.1 next.2 (copy_apart core s k from to next)) more) cut
   cut_spare s x (Erase b) next cut = lost_spare b next.1 next.2 cut
   cut_spare s x Refused next cut = same_spare cut
 
 -- a command that succeeds leaves the layer's memory such that a crash then leaves a spare
-pub none_set : (kept : List (Option PageAddr)) (k : ℕ) (to : PageAddr) (b : ℕ) → k < length kept → IsFree kept b → b ≢ to.block
-    → IsFree (set kept k (Some to)) b
-none_set kept k to b lt none apart = counted_none b (set kept k (Some to)) (stays_free kept k to b lt none apart)
-
-module _ (f t : Flash) (core : Core) where
-  program_clears : (e : Extent) (at : PageAddr) (map : List (Option PageAddr)) (k : Option PageAddr) (b : ℕ) → MapsAll core.map.items map e at → b < core.blocks
-      → b ≢ at.block → IsFree core.map.items b → IsPageAfter at core.pages k → IsSparedAt t map core.blocks k
-  program_clears e at map None b maps within apart none next = (b, within, none_all core.map.items map e at b maps none apart)
-  program_clears e at map (Some to) b maps within apart none next = inl
-      (b, within, (λ here. apart (omega (arith, here, next.0.0))), none_all core.map.items map e at b maps none apart)
-
-  copy_clears : (from to : PageAddr) (k : ℕ) (n : Option PageAddr) → k < length core.map.items → from.block ≢ to.block → f to.block to.page ≡ Erased
-      → SetsPage f t to.block to.page (f from.block from.page)
-      → (to.page + 1 ≡ core.pages → ⊥) → IsPageAfter to core.pages n → IsSparedAt f core.map.items core.blocks (Some to)
-      → IsSparedAt t (set core.map.items k (Some to)) core.blocks n
-  copy_clears from to k None lt apart erased puts more next spare = absurd (more (next.1 refl))
-  copy_clears from to k (Some on) lt apart erased puts more next (inl spare) = inl
-      (spare.0, spare.1, (λ e. spare.2 (omega (arith, e, next.0.0))), none_set core.map.items k to spare.0 lt spare.3 spare.2)
-  copy_clears from to k (Some on) lt apart erased puts more next (inr here) =
-      let same : on.block ≡ to.block = next.0.0 in
-      let doubled = doubled_put f t to.block to.page (f from.block from.page) erased puts (length core.map.items) to.block here.1
-      (λ s m v e. (from.block, from.page, apart, e)) in
-      inr (
-        omega (arith, same, here.0),
-        subst (λ (c : ℕ). IsDuplicated t (length (set core.map.items k (Some to))) c) (sym same) (subst (λ (l : ℕ). IsDuplicated t l to.block)
-            (sym (length-set core.map.items k (Some to))) doubled),
-      )
-
 module _ (f t : Flash) (core new : Core) (array : ℕ → Sector) (stands : Represents f core array) (clears : LeavesSpare f core)
     (blocks : new.blocks ≡ core.blocks)
     (s : Extent) (x : Sector) where
-  from_map : (map : List (Option PageAddr)) (next : Option PageAddr) → new.map.items ≡ map → new.next_page ≡ next
-      → IsSparedAt t map core.blocks next → LeavesSpare t new
-  from_map map next moved opened spared = subst (λ (n : ℕ). IsSparedAt t new.map.items n new.next_page) (sym blocks)
-      (subst (λ (m : List (Option PageAddr)). IsSparedAt t m core.blocks new.next_page) (sym moved) (subst (IsSparedAt t map core.blocks) (sym opened) spared))
+  with_map : (map : List (Option PageAddr)) → new.map.items ≡ map → IsSparedAt t map core.blocks new.next_pages → LeavesSpare t new
+  with_map map moved spared = subst (λ (n : ℕ). IsSparedAt t new.map.items n new.next_pages) (sym blocks)
+      (subst (λ (m : List (Option PageAddr)). IsSparedAt t m core.blocks new.next_pages) (sym moved) spared)
+
+  copy_clears : (from to : PageAddr) (k : ℕ) → IsNextCommand core (Copy k from to) → SetsPage f t to.block to.page (f from.block from.page)
+      → IsCopied core.next_pages to core.pages new.next_pages → IsSparedAt t (set core.map.items k (Some to)) core.blocks new.next_pages
+  copy_clears from to k next puts copied = ⊎_elim
+      (λ free. inl (free_copied core.next_pages new.next_pages to core.pages (inr next.0)
+      (after_copied core.next_pages new.next_pages to core.pages core.apart next.0 copied) core.blocks core.map.items k next.1 free))
+      (λ here. ⊎_elim
+      (λ closed. absurd (not_last core s k from to next here.1 (copied.1.1 closed)))
+      (λ on.
+      let e = page_after_is to on.0 core.pages new.next_pages.copies copied.1 on.1 in
+      let same : here.0.block ≡ to.block = same_block here.0 to (sym here.2 ∙ next.0) in
+      let doubled = doubled_put f t to.block to.page (f from.block from.page) (erased_next f t core array stands to (inr next.0)) puts
+      (length core.map.items) to.block (subst (IsDuplicated f (length core.map.items)) same here.4)
+      (λ j m v e. (from.block, from.page, copy_apart core s k from to next, e)) in
+      inr (
+        on.0,
+        copied.0 ∙ here.1,
+        on.1,
+        omega (arith, e.0, same, here.3),
+        subst (λ (c : ℕ). IsDuplicated t (length (set core.map.items k (Some to))) c) (sym e.0) (subst (λ (l : ℕ). IsDuplicated t l to.block)
+            (sym (length-set core.map.items k (Some to))) doubled),
+      ))
+      (none_or_some new.next_pages.copies))
+      clears
 
   pub spare_after : (m : Command) → IsNextCommand core m → Completes m s x f t → BecomesCore core s m new → LeavesSpare t new
-  spare_after (Program at n) next puts becomes = from_map new.map.items new.next_page refl refl
-      (program_clears f t core s at new.map.items new.next_page next.3.0 becomes.0 next.3.1 next.3.2 next.3.3 becomes.2)
+  spare_after (Program at n) next puts becomes = with_map new.map.items refl (inl (free_programmed core.next_pages new.next_pages at core.pages
+      (is_open core.next_pages at next.0) (after_programmed core.next_pages new.next_pages at core.pages core.apart next.0 becomes.2)
+      core.blocks core.map.items new.map.items s becomes.0 next.3))
   spare_after (Copy k from to) next puts becomes =
-      from_map (set core.map.items k (Some to)) new.next_page becomes.0 refl
-      (copy_clears f t core from to k new.next_page next.1 (copy_apart core s k from to next) (erased_next f t core array stands to next.0) puts
-      (not_last core s k from to next) becomes.2 (subst (IsSparedAt f core.map.items core.blocks) next.0 clears))
-  spare_after (Erase b) next gone becomes = from_map core.map.items (Some (record { block = b; page = 0 })) becomes.0 becomes.2
-      (inr (next.1, λ j q v l shows. absurd (erased_has_none t b q j shows.newest.number v (gone.0 q) shows.newest.held)))
-  spare_after Refused next same becomes = subst (λ (g : Flash). LeavesSpare g new) (λ i b p. sym (same b p) i)
-      (subst (λ (n : ℕ). IsSparedAt f new.map.items n new.next_page) (sym blocks)
-      (subst (λ (m : List (Option PageAddr)). IsSparedAt f m core.blocks new.next_page) (sym becomes.0) (subst (IsSparedAt f core.map.items core.blocks)
+      with_map (set core.map.items k (Some to)) becomes.0 (copy_clears from to k next puts becomes.2)
+  spare_after (Erase b) next gone becomes = with_map core.map.items becomes.0 (⊎_elim
+      (λ free. inl free)
+      (λ copies. inr (
+        first_page b,
+        copies.0,
+        copies.1,
+        next.1,
+        λ j q v l shows. absurd (erased_has_none t b q j shows.newest.number v (gone.0 q) shows.newest.held),
+      ))
+      (free_or_copies core.blocks core.map.items core.next_pages new.next_pages b becomes.2 next.5))
+  spare_after Refused next same becomes = subst (λ (g : Flash). LeavesSpare g new) (λ i b p. sym (same b p) i) (subst
+      (λ (n : ℕ). IsSparedAt f new.map.items n new.next_pages) (sym blocks)
+      (subst (λ (m : List (Option PageAddr)). IsSparedAt f m core.blocks new.next_pages) (sym becomes.0) (subst (IsSparedAt f core.map.items core.blocks)
       (sym becomes.2) clears)))

@@ -10,11 +10,11 @@ use Rattle.durable.specs.Mounting.{IsRead, IsBest, IsLone}
 use Rattle.durable.specs.Calls.{HasNoted}
 use Rattle.durable.specs.Candidates.{AreNeeded, IsEntryOf, HasTwin, IsFreeable}
 use Rattle.durable.specs.Collecting.{IsFree}
-use Rattle.durable.specs.Whole.{IsSafelyDuplicated, IsUnharmed, IsFullBefore, IsSafelySpared, KeepsWhole}
+use Rattle.durable.specs.Whole.{IsSafelyDuplicated, IsUnharmed, KeepsWhole}
 use Rattle.durable.specs.declared.memory.Core.{Core}
 use Rattle.geometry.specs.declared.page_addr.PageAddr.{PageAddr}
 use Rattle.durable.proofs.Cells.{same_version}
-use Rattle.durable.proofs.Collects.{none_some}
+use Rattle.durable.proofs.Opened.{NoneOpen, none_some}
 use Rattle.durable.proofs.Kept.{Keeps, keeps, kept_some}
 use Rattle.durable.proofs.Scans.{shows_best, some_is}
 use Rattle.durable.proofs.Spares.{no_value}
@@ -144,13 +144,13 @@ module _ (mount : Mount) (at_end : mount.read_blocks ≤ mount.block) (f : Flash
       → ((s : ℕ) (x : Candidate) (at : PageAddr) → s < length kept → get_or kept s None ≡ Some x
       → get_or core.map.items s None ≡ Some at → at ≢ x.at → x.at.block ≡ avoided)
       → ((b : ℕ) → b < mount.blocks → IsFreeable mount.gaps.items kept b → IsFreeable mount.gaps.items kept avoided)
-      → core.next_page ≡ None → avoided < core.blocks → IsFree core.map.items avoided → KeepsWhole f core
+      → NoneOpen core.next_pages → avoided < core.blocks → IsFree core.map.items avoided → KeepsWhole f core
   mounts_whole core avoided unharmed array recovers size entries stays first closed within free =
       let freeable = first unharmed.spare.0 unharmed.spare.1 (safely_freeable array recovers unharmed.spare.0 unharmed.spare.2) in
       record {
         mapped = λ s at lt is. let inside : s < length kept = omega (arith, lt, size) in
             entry_whole array recovers unharmed.no_loss avoided freeable s inside (get_or core.map.items s None)
             (λ x a found mapped. stays s x a inside found mapped) (get_or kept s None) refl (entries s inside) at is;
-        full = subst (IsFullBefore f) (sym closed) tt;
-        spared = subst (IsSafelySpared f core.map.items core.blocks) (sym closed) (avoided, within, free);
+        full = λ at opened. absurd (closed at opened);
+        spared = inl (avoided, within, (λ at opened. absurd (closed at opened)), free);
       }

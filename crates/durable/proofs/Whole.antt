@@ -1,5 +1,5 @@
 -- A flash that has lost no page is told no loss of: what each command leaves.
-use Rattle.std.proofs.Common.{◌≡◌, ◌≢◌, ◌⊎◌, inl, inr, ⊎_elim, ◌+◌, ◌<◌, ◌≤◌, ℕ, List, length, Option, None, Some, get_or, set, refl, sym, ◌∙◌, ap, subst}
+use Rattle.std.proofs.Common.{◌≡◌, ◌≢◌, ◌⊎◌, inl, inr, ⊎_elim, ◌<◌, ◌≤◌, ℕ, List, length, Option, None, Some, get_or, set, refl, sym, ◌∙◌, ap, subst}
 use Rattle.std.proofs.Common.{arith}
 use Rattle.std.proofs.lemmas.Bool.{cases_eq, cases_lt}
 use Rattle.std.proofs.lemmas.List.{get_or-set_same, get_or-set_other, length-set}
@@ -11,21 +11,26 @@ use Rattle.durable.specs.declared.memory.Core.{Core}
 use Rattle.durable.specs.declared.extent.Extent.{Extent}
 use Rattle.durable.specs.Flash.{PageContents, Erased, Torn, Version, Flash, IsVersionOf, HasVersion, HoldsNewest, HoldsNeeded, HoldsNoValue, SetsPage}
 use Rattle.durable.specs.Flash.{LosesPages}
-use Rattle.durable.specs.Collecting.{IsFree, MapsAll}
+use Rattle.durable.specs.Collecting.{IsCopied, IsFree, IsOpenAt, MapsAll, first_page}
 use Rattle.durable.specs.Commands.{CutLeaves, Completes}
 use Rattle.durable.specs.Device.{device_of}
 use Rattle.durable.specs.Losses.{version_count, IsGapless, HasNoLoss}
-use Rattle.durable.specs.Memory.{Represents, IsMappedTo, IsErasedFrom, map_entry}
+use Rattle.durable.specs.Memory.{Represents, IsMappedTo, map_entry}
 use Rattle.durable.specs.Choice.{IsNextCommand}
-use Rattle.durable.specs.Whole.{IsSafelyDuplicated, IsUnharmed, IsFullBefore, IsSafelySpared, KeepsWhole}
+use Rattle.durable.specs.Whole.{IsSafelyDuplicated, IsUnharmed, AreFullBefore, IsSafelySpared, KeepsWhole}
 use Rattle.durable.specs.Whole.{CutsUnharmed, CutsIdleUnharmed, StaysWhole}
 use Rattle.durable.specs.Updates.{array_after}
-use Rattle.durable.proofs.Extents.{cases_covered, none_all}
+use Rattle.durable.proofs.Extents.{cases_covered}
 use Rattle.durable.proofs.Cells.{was, stays, torn_has_none, erased_holds_none, erased_has_none, kept_in_loss}
 use Rattle.durable.proofs.Moments.{erased_next, source_shows, torn_kept, programmed_kept, programmed_shows, copied_kept, copied_shows}
-use Rattle.durable.proofs.Done.{IsPageAfter, BecomesCore}
+use Rattle.durable.proofs.Done.{BecomesCore}
+use Rattle.durable.proofs.Opened.{IsAfter, after_copied, after_programmed, free_copied, free_or_copies, free_programmed, is_open, none_or_some, opened_or_first}
+use Rattle.durable.proofs.Opened.{page_after_is}
 use Rattle.durable.proofs.Collects.{not_last, copy_apart}
-use Rattle.durable.proofs.Spares.{no_value, none_set, valued_before}
+use Rattle.durable.proofs.Spares.{no_value, valued_before}
+
+some_addr : (x y : PageAddr) → Some x ≡ Some y → x ≡ y
+some_addr x y e = cc e
 
 module _ (f t : Flash) where
   -- a block whose pages are the same has no gap still
@@ -125,31 +130,32 @@ module _ (f t : Flash) (core : Core) (array : ℕ → Sector) (stands : Represen
   free_safe : (b : ℕ) → IsFree core.map.items b → IsSafelyDuplicated f sectors b
   free_safe b none = safe_of f sectors b (from_map (WholeBeside f b) (λ s at lt is. (none s at lt is, keeps.mapped s at lt is)))
 
-  spare_now : (k : Option PageAddr) → IsSafelySpared f core.map.items core.blocks k → (b : ℕ) × (b < core.blocks) × IsSafelyDuplicated f sectors b
-  spare_now None spare = (spare.0, spare.1, free_safe spare.0 spare.2)
-  spare_now (Some to) (inl spare) = (spare.0, spare.1, free_safe spare.0 spare.3)
-  spare_now (Some to) (inr here) = (to.block, here.0, here.1)
+  spare_now : (b : ℕ) × (b < core.blocks) × IsSafelyDuplicated f sectors b
+  spare_now = ⊎_elim
+      (λ free. (free.0, free.1, free_safe free.0 free.3))
+      (λ copies. (copies.0.block, copies.3, copies.4))
+      keeps.spared
 
   pub idle_unharmed : IsUnharmed f (device_of core)
-  idle_unharmed = record { no_loss = no_loss_of f sectors (from_map (IsGapless f) keeps.mapped); spare = spare_now core.next_page keeps.spared }
+  idle_unharmed = record { no_loss = no_loss_of f sectors (from_map (IsGapless f) keeps.mapped); spare = spare_now }
 
   same_unharmed : ((b p : ℕ) → t b p ≡ f b p) → IsUnharmed t (device_of core)
   same_unharmed same = subst (λ (g : Flash). IsUnharmed g (device_of core)) (λ i b p. sym (same b p) i) idle_unharmed
 
   -- the open block has versions up to its next page, and is erased from there
-  module _ (at : PageAddr) (x : PageContents) (is : core.next_page ≡ Some at) (puts : SetsPage f t at.block at.page x) where
+  module _ (at : PageAddr) (x : PageContents) (is : IsOpenAt core.next_pages at) (puts : SetsPage f t at.block at.page x) where
     pub opens : IsGapless t at.block
-    opens = put_here f t at.block at.page x (subst (IsErasedFrom f) is stands.erased) (subst (IsFullBefore f) is keeps.full) puts
+    opens = put_here f t at.block at.page x (stands.erased at is) (keeps.full at is) puts
 
     pub stay_whole : (c : ℕ) → IsGapless f c → IsGapless t c
-    stay_whole = put_whole f t at.block at.page x (subst (IsErasedFrom f) is stands.erased) (subst (IsFullBefore f) is keeps.full) puts
+    stay_whole = put_whole f t at.block at.page x (stands.erased at is) (keeps.full at is) puts
 
-  torn_unharmed : (at : PageAddr) → core.next_page ≡ Some at → SetsPage f t at.block at.page Torn → IsUnharmed t (device_of core)
+  torn_unharmed : (at : PageAddr) → IsOpenAt core.next_pages at → SetsPage f t at.block at.page Torn → IsUnharmed t (device_of core)
   torn_unharmed at is puts = record {
     no_loss = no_loss_of t sectors (λ s lt. kept_stands t (IsGapless t) s (array s) (map_entry core s)
         (torn_kept f t core array stands at is puts s lt)
         (λ to there. stay_whole at Torn is puts to.block (keeps.mapped s to lt there)));
-    spare = torn_spare (spare_now core.next_page keeps.spared);
+    spare = torn_spare spare_now;
   }
     where
       torn_spare : (b : ℕ) × (b < core.blocks) × IsSafelyDuplicated f sectors b → (b : ℕ) × (b < core.blocks) × IsSafelyDuplicated t sectors b
@@ -161,7 +167,7 @@ module _ (f t : Flash) (core : Core) (array : ℕ → Sector) (stands : Represen
       )
 
   -- a program: the newest version of its sectors is there, and that of each other sector where it was
-  module _ (at : PageAddr) (is : core.next_page ≡ Some at) (e : Extent) (n : ℕ) (c : Sector) (number : n ≡ core.next_number)
+  module _ (at : PageAddr) (is : IsOpenAt core.next_pages at) (e : Extent) (n : ℕ) (c : Sector) (number : n ≡ core.next_number)
       (puts : SetsPage f t at.block at.page (Version e n c)) where
     program_stands : (P : ℕ → Type 0) → P at.block → ((s : ℕ) (to : PageAddr) → s < sectors → map_entry core s ≡ Some to → P to.block)
         → (s : ℕ) → s < sectors → Stands t P s
@@ -186,7 +192,7 @@ module _ (f t : Flash) (core : Core) (array : ℕ → Sector) (stands : Represen
         }
 
   -- a copy: its sector's newest version is there too
-  module _ (to from : PageAddr) (is : core.next_page ≡ Some to) (k : ℕ) (klt : k < sectors) (at : map_entry core k ≡ Some from)
+  module _ (to from : PageAddr) (is : IsOpenAt core.next_pages to) (k : ℕ) (klt : k < sectors) (at : map_entry core k ≡ Some from)
       (puts : SetsPage f t to.block to.page (f from.block from.page)) where
     copy_stands : (P : ℕ → Type 0) → P to.block → ((s : ℕ) (a : PageAddr) → s < sectors → map_entry core s ≡ Some a → P a.block)
         → (s : ℕ) → s < sectors → Stands t P s
@@ -202,27 +208,35 @@ module _ (f t : Flash) (core : Core) (array : ℕ → Sector) (stands : Represen
         (λ a there. holds s a lt there))
         (cases_eq s k)
 
-    copy_spare : from.block ≢ to.block → IsSafelySpared f core.map.items core.blocks (Some to)
-        → (b : ℕ) × (b < core.blocks) × IsSafelyDuplicated t sectors b
-    copy_spare apart (inl spare) = (
-      spare.0,
-      spare.1,
-      safe_of t sectors spare.0 (copy_stands (WholeBeside t spare.0) ((λ e. spare.2 (sym e)), opens to (f from.block from.page) is puts)
-          (λ s a lt there. (spare.3 s a lt there, stay_whole to (f from.block from.page) is puts a.block (keeps.mapped s a lt there)))),
-    )
-    copy_spare apart (inr here) = (
-      to.block,
-      here.0,
-      safe_put f t to.block to.page (f from.block from.page) (erased_next f t core array stands to is) puts
-          (stay_whole to (f from.block from.page) is puts) sectors to.block here.1
-          (λ s m v e. (from.block, from.page, apart, keeps.mapped k from klt at, e)),
-    )
+    copy_spare : core.next_pages.copies ≡ Some to → from.block ≢ to.block → (b : ℕ) × (b < core.blocks) × IsSafelyDuplicated t sectors b
+    copy_spare opened apart = ⊎_elim
+        (λ free. (
+          free.0,
+          free.1,
+          safe_of t sectors free.0 (copy_stands (WholeBeside t free.0)
+              ((λ e. free.2 to is (sym e)), opens to (f from.block from.page) is puts)
+              (λ s a lt there. (free.3 s a lt there, stay_whole to (f from.block from.page) is puts a.block (keeps.mapped s a lt there)))),
+        ))
+        (λ here. (
+          here.0.block,
+          here.3,
+          safe_put f t to.block to.page (f from.block from.page) (erased_next f t core array stands to is) puts
+              (stay_whole to (f from.block from.page) is puts) sectors here.0.block here.4
+              (λ s m v e. (
+                from.block,
+                from.page,
+                (λ same. apart (same ∙ ap (λ (x : PageAddr). x.block) (some_addr here.0 to (sym here.2 ∙ opened)))),
+                keeps.mapped k from klt at,
+                e,
+              )),
+        ))
+        keeps.spared
 
-    copy_unharmed : from.block ≢ to.block → IsSafelySpared f core.map.items core.blocks (Some to) → IsUnharmed t (device_of core)
-    copy_unharmed apart spared = record {
+    copy_unharmed : core.next_pages.copies ≡ Some to → from.block ≢ to.block → IsUnharmed t (device_of core)
+    copy_unharmed opened apart = record {
       no_loss = no_loss_of t sectors (copy_stands (IsGapless t) (opens to (f from.block from.page) is puts)
           (λ s a lt there. stay_whole to (f from.block from.page) is puts a.block (keeps.mapped s a lt there)));
-      spare = copy_spare apart spared;
+      spare = copy_spare opened apart;
     }
 
   lost_unharmed : (b : ℕ) → b < core.blocks → IsFree core.map.items b → LosesPages f t b → IsUnharmed t (device_of core)
@@ -243,18 +257,16 @@ module _ (f t : Flash) (core : Core) (array : ℕ → Sector) (stands : Represen
       }
 
   pub cut_unharmed : (s : Extent) (x : Sector) (m : Command) → IsNextCommand core m → CutLeaves m s x f t → IsUnharmed t (device_of core)
-  cut_unharmed s x (Program at n) next cut = ⊎_elim same_unharmed (λ more. ⊎_elim
-      (torn_unharmed at next.0)
-      (λ puts. program_unharmed at next.0 s n x next.1 puts next.3.0 next.3.1 next.3.2 next.3.3) more) cut
+  cut_unharmed s x (Program at n) next cut =
+      let opened = is_open core.next_pages at next.0 in
+      ⊎_elim same_unharmed (λ more. ⊎_elim
+      (torn_unharmed at opened)
+      (λ puts. program_unharmed at opened s n x next.1 puts next.3.0 next.3.1 (next.3.2 at opened) next.3.3) more) cut
   cut_unharmed s x (Copy k from to) next cut = ⊎_elim same_unharmed (λ more. ⊎_elim
-      (torn_unharmed to next.0)
-      (λ puts. copy_unharmed to from next.0 k next.1 next.2 puts (copy_apart core s k from to next)
-      (subst (IsSafelySpared f core.map.items core.blocks) next.0 keeps.spared)) more) cut
+      (torn_unharmed to (inr next.0))
+      (λ puts. copy_unharmed to from (inr next.0) k next.1 next.2 puts next.0 (copy_apart core s k from to next)) more) cut
   cut_unharmed s x (Erase b) next cut = lost_unharmed b next.1 next.2 cut
   cut_unharmed s x Refused next cut = same_unharmed cut
-
-some_addr : (x y : PageAddr) → Some x ≡ Some y → x ≡ y
-some_addr x y e = cc e
 
 -- after a command that succeeds
 module _ (f t : Flash) (core new : Core) (array : ℕ → Sector) (stands : Represents f core array)
@@ -282,7 +294,7 @@ module _ (f t : Flash) (core new : Core) (array : ℕ → Sector) (stands : Repr
       ))
       (cases_eq j k)
 
-  module _ (at : PageAddr) (c : PageContents) (is : core.next_page ≡ Some at) (puts : SetsPage f t at.block at.page c) (maps : MapsTo at)
+  module _ (at : PageAddr) (c : PageContents) (is : IsOpenAt core.next_pages at) (puts : SetsPage f t at.block at.page c) (maps : MapsTo at)
       (one : version_count c ≡ 1) where
     put_mapped : (j : ℕ) (a : PageAddr) → j < length new.map.items → map_entry new j ≡ Some a → IsGapless t a.block
     put_mapped j a l entry = ⊎_elim
@@ -290,70 +302,85 @@ module _ (f t : Flash) (core new : Core) (array : ℕ → Sector) (stands : Repr
         (λ there. stay_whole f t core array stands keeps at c is puts a.block (keeps.mapped j a there.0 there.1))
         (maps j a l entry)
 
-    put_full : (next : Option PageAddr) → IsPageAfter at core.pages next → IsFullBefore t next
-    put_full None after = tt
-    put_full (Some to) after = λ p less. (λ i. version_count (t (after.0.0 i) p)) ∙ ⊎_elim
+    put_full : IsAfter core.next_pages at core.pages new.next_pages → AreFullBefore t new.next_pages
+    put_full after to opened p less = ⊎_elim
+        (λ next. (λ i. version_count (t (next.0 i) p)) ∙ ⊎_elim
         (λ here. (λ i. version_count (t at.block (here i))) ∙ (ap version_count puts.put ∙ one))
-        (λ differs. ap version_count (puts.others at.block p (inr differs))
-        ∙ subst (IsFullBefore f) is keeps.full p (omega (arith, less, after.0.1, differs)))
-        (cases_eq p at.page)
+        (λ differs. ap version_count (puts.others at.block p (inr differs)) ∙ keeps.full at is p (omega (arith, less, next.1, differs)))
+        (cases_eq p at.page))
+        (λ there. ap version_count (puts.others to.block p (inl there.1)) ∙ keeps.full to there.0 p less)
+        (after to opened)
 
-    put_keeps : IsPageAfter at core.pages new.next_page → IsSafelySpared t new.map.items core.blocks new.next_page → KeepsWhole t new
+    put_keeps : IsAfter core.next_pages at core.pages new.next_pages → IsSafelySpared t new.map.items core.blocks new.next_pages → KeepsWhole t new
     put_keeps after spared = record {
       mapped = put_mapped;
-      full = put_full new.next_page after;
-      spared = subst (λ (n : ℕ). IsSafelySpared t new.map.items n new.next_page) (sym blocks) spared;
+      full = put_full after;
+      spared = subst (λ (n : ℕ). IsSafelySpared t new.map.items n new.next_pages) (sym blocks) spared;
     }
 
-  program_spared : (at : PageAddr) (k : Option PageAddr) (b : ℕ) → MapsAll core.map.items new.map.items s at → b < core.blocks → b ≢ at.block
-      → IsFree core.map.items b → IsPageAfter at core.pages k → IsSafelySpared t new.map.items core.blocks k
-  program_spared at None b maps within apart none next = (b, within, none_all core.map.items new.map.items s at b maps none apart)
-  program_spared at (Some to) b maps within apart none next = inl
-      (b, within, (λ here. apart (omega (arith, here, next.0.0))), none_all core.map.items new.map.items s at b maps none apart)
-
-  copy_spared : (from to : PageAddr) (k : ℕ) (n : Option PageAddr) → k < length core.map.items → map_entry core k ≡ Some from → from.block ≢ to.block
-      → core.next_page ≡ Some to → SetsPage f t to.block to.page (f from.block from.page)
-      → (to.page + 1 ≡ core.pages → ⊥) → IsPageAfter to core.pages n → IsSafelySpared f core.map.items core.blocks (Some to)
-      → IsSafelySpared t (set core.map.items k (Some to)) core.blocks n
-  copy_spared from to k None klt at apart is puts more next spare = absurd (more (next.1 refl))
-  copy_spared from to k (Some on) klt at apart is puts more next (inl spare) = inl
-      (spare.0, spare.1, (λ e. spare.2 (omega (arith, e, next.0.0))), none_set core.map.items k to spare.0 klt spare.3 spare.2)
-  copy_spared from to k (Some on) klt at apart is puts more next (inr here) =
-      let same : on.block ≡ to.block = next.0.0 in
-      let doubled = safe_put f t to.block to.page (f from.block from.page) (erased_next f t core array stands to is) puts
-      (stay_whole f t core array stands keeps to (f from.block from.page) is puts) (length core.map.items) to.block here.1
-      (λ j m v e. (from.block, from.page, apart, keeps.mapped k from klt at, e)) in
+  copy_spared : (from to : PageAddr) (k : ℕ) → IsNextCommand core (Copy k from to) → SetsPage f t to.block to.page (f from.block from.page)
+      → IsCopied core.next_pages to core.pages new.next_pages → IsSafelySpared t (set core.map.items k (Some to)) core.blocks new.next_pages
+  copy_spared from to k next puts copied = ⊎_elim
+      (λ free. inl (free_copied core.next_pages new.next_pages to core.pages (inr next.0)
+      (after_copied core.next_pages new.next_pages to core.pages core.apart next.0 copied) core.blocks core.map.items k next.1 free))
+      (λ here. ⊎_elim
+      (λ closed. absurd (not_last core s k from to next here.1 (copied.1.1 closed)))
+      (λ on.
+      let e = page_after_is to on.0 core.pages new.next_pages.copies copied.1 on.1 in
+      let same : here.0.block ≡ to.block = ap (λ (x : PageAddr). x.block) (some_addr here.0 to (sym here.2 ∙ next.0)) in
+      let doubled = safe_put f t to.block to.page (f from.block from.page) (erased_next f t core array stands to (inr next.0)) puts
+      (stay_whole f t core array stands keeps to (f from.block from.page) (inr next.0) puts) (length core.map.items) to.block
+      (subst (IsSafelyDuplicated f (length core.map.items)) same here.4)
+      (λ j m v e. (from.block, from.page, copy_apart core s k from to next, keeps.mapped k from next.1 next.2, e)) in
       inr (
-        omega (arith, same, here.0),
-        subst (λ (c : ℕ). IsSafelyDuplicated t (length (set core.map.items k (Some to))) c) (sym same)
+        on.0,
+        copied.0 ∙ here.1,
+        on.1,
+        omega (arith, e.0, same, here.3),
+        subst (λ (c : ℕ). IsSafelyDuplicated t (length (set core.map.items k (Some to))) c) (sym e.0)
             (subst (λ (l : ℕ). IsSafelyDuplicated t l to.block) (sym (length-set core.map.items k (Some to))) doubled),
-      )
+      ))
+      (none_or_some new.next_pages.copies))
+      keeps.spared
 
   pub whole_after : (m : Command) → IsNextCommand core m → Completes m s x f t → BecomesCore core s m new → KeepsWhole t new
   whole_after (Program at n) next puts becomes =
-      put_keeps at (Version s n x) next.0 puts (maps_all at becomes.0) refl becomes.2
-      (program_spared at new.next_page next.3.0 becomes.0 next.3.1 next.3.2 next.3.3 becomes.2)
+      let opened = is_open core.next_pages at next.0 in
+      let after = after_programmed core.next_pages new.next_pages at core.pages core.apart next.0 becomes.2 in
+      put_keeps at (Version s n x) opened puts (maps_all at becomes.0) refl after
+      (inl (free_programmed core.next_pages new.next_pages at core.pages opened after core.blocks core.map.items new.map.items s becomes.0 next.3))
   whole_after (Copy k from to) next puts becomes =
-      put_keeps to (f from.block from.page) next.0 puts (maps_one k to next.1 becomes.0)
-      (ap version_count (source_shows f t core array stands k from next.1 next.2).held.1) becomes.2
-      (subst (λ (m : List (Option PageAddr)). IsSafelySpared t m core.blocks new.next_page) (sym becomes.0)
-      (copy_spared from to k new.next_page next.1 next.2 (copy_apart core s k from to next) next.0 puts (not_last core s k from to next) becomes.2
-      (subst (IsSafelySpared f core.map.items core.blocks) next.0 keeps.spared)))
+      put_keeps to (f from.block from.page) (inr next.0) puts (maps_one k to next.1 becomes.0)
+      (ap version_count (source_shows f t core array stands k from next.1 next.2).held.1)
+      (after_copied core.next_pages new.next_pages to core.pages core.apart next.0 becomes.2)
+      (subst (λ (m : List (Option PageAddr)). IsSafelySpared t m core.blocks new.next_pages) (sym becomes.0) (copy_spared from to k next puts becomes.2))
   whole_after (Erase b) next gone becomes = record {
     mapped = λ j a l entry.
         let there : map_entry core j ≡ Some a = ap (λ (m : List (Option PageAddr)). get_or m j None) (sym becomes.0) ∙ entry in
         let inside : j < length core.map.items = omega (arith, l, ap length becomes.0) in
         same_whole f t a.block (λ q. gone.1 a.block q (next.2 j a inside there)) (keeps.mapped j a inside there);
-    full = subst (IsFullBefore t) (sym becomes.2) (λ p less. absurd (omega (arith, less)));
-    spared = subst (λ (k : Option PageAddr). IsSafelySpared t new.map.items new.blocks k) (sym becomes.2)
-        (inr (omega (arith, next.1, blocks), λ j q v l shows. absurd (erased_has_none t b q j shows.newest.number v (gone.0 q) shows.newest.held)));
+    full = λ at opened p less. ⊎_elim
+        (λ first. absurd (omega (arith, less, ap (λ (y : PageAddr). y.page) first)))
+        (λ was. ap version_count (gone.1 at.block p (λ here. next.3 at was (sym here))) ∙ keeps.full at was p less)
+        (opened_or_first core.blocks core.map.items core.next_pages new.next_pages b becomes.2 at opened);
+    spared = subst (λ (n : ℕ). IsSafelySpared t new.map.items n new.next_pages) (sym blocks)
+        (subst (λ (m : List (Option PageAddr)). IsSafelySpared t m core.blocks new.next_pages) (sym becomes.0) (⊎_elim
+        (λ free. inl free)
+        (λ copies. inr (
+          first_page b,
+          copies.0,
+          copies.1,
+          next.1,
+          λ j q v l shows. absurd (erased_has_none t b q j shows.newest.number v (gone.0 q) shows.newest.held),
+        ))
+        (free_or_copies core.blocks core.map.items core.next_pages new.next_pages b becomes.2 next.5)));
   }
   whole_after Refused next same becomes = subst (λ (g : Flash). KeepsWhole g new) (λ i b p. sym (same b p) i) (record {
     mapped = λ j a l entry. keeps.mapped j a (omega (arith, l, ap length becomes.0))
         (ap (λ (m : List (Option PageAddr)). get_or m j None) (sym becomes.0) ∙ entry);
-    full = subst (IsFullBefore f) (sym becomes.2) keeps.full;
-    spared = subst (λ (n : ℕ). IsSafelySpared f new.map.items n new.next_page) (sym blocks)
-        (subst (λ (m : List (Option PageAddr)). IsSafelySpared f m core.blocks new.next_page) (sym becomes.0)
+    full = subst (AreFullBefore f) (sym becomes.2) keeps.full;
+    spared = subst (λ (n : ℕ). IsSafelySpared f new.map.items n new.next_pages) (sym blocks)
+        (subst (λ (m : List (Option PageAddr)). IsSafelySpared f m core.blocks new.next_pages) (sym becomes.0)
         (subst (IsSafelySpared f core.map.items core.blocks) (sym becomes.2) keeps.spared));
   })
 

@@ -11,6 +11,7 @@ use Rattle.durable.specs.declared.command.Command.TheVariants.{Program, Copy, Er
 use Rattle.durable.specs.declared.memory.Core.{Core}
 use Rattle.durable.specs.declared.found.Stamp.{Stamp}
 use Rattle.durable.specs.declared.mount.Mount.{Mount}
+use Rattle.durable.specs.declared.next_pages.NextPages.{NextPages}
 
 -- how many blocks a device has in use, how many are read: those, and bad ones and a reserve after them; how many pages a block has, and how many
 -- sectors are stored
@@ -48,9 +49,9 @@ losses_of core = core.losses
 abbrev pub live_sectors : Core → ℕ → ℕ
 live_sectors core b = live_in b core.map.items
 
--- the page to be programmed next, if a block is open
-abbrev pub next_page_of : Core → Option PageAddr
-next_page_of core = core.next_page
+-- the pages to be programmed next
+abbrev pub next_pages_of : Core → NextPages
+next_pages_of core = core.next_pages
 
 -- the page is in a block that is in use
 abbrev pub LiesOn : Device → PageAddr → Type 0

@@ -1,10 +1,11 @@
 -- What a mount needs of the flash to have a free block.
-use Rattle.std.specs.Prelude.{◌≢◌, ◌⊎◌, ◌<◌, ℕ, List, length, Option, None, Some}
+use Rattle.std.specs.Prelude.{◌≡◌, ◌≢◌, ◌⊎◌, ◌<◌, ℕ, List, length, Option, None, Some}
 use Rattle.geometry.specs.Sectors.{Sector}
 use Rattle.geometry.specs.declared.page_addr.PageAddr.{PageAddr}
 use Rattle.durable.specs.Flash.{Flash, HoldsNeeded, HoldsNewest}
 use Rattle.durable.specs.declared.memory.Core.{Core}
-use Rattle.durable.specs.Collecting.{IsFree}
+use Rattle.durable.specs.declared.next_pages.NextPages.{NextPages}
+use Rattle.durable.specs.Next.{HasFree}
 
 -- each newest version in the block that is needed is in another block too
 abbrev pub IsDuplicated : Flash → ℕ → ℕ → Type 0
@@ -15,11 +16,11 @@ IsDuplicated f sectors b = (s p : ℕ) (v : Sector) → s < sectors → HoldsNee
 abbrev pub CanFree : Flash → ℕ → ℕ → Type 0
 CanFree f blocks sectors = (b : ℕ) × (b < blocks) × IsDuplicated f sectors b
 
--- a block is free, beside the open one; or the open one has only copies
-abbrev pub IsSparedAt : Flash → List (Option PageAddr) → ℕ → Option PageAddr → Type 0
-IsSparedAt f map blocks None = (b : ℕ) × (b < blocks) × IsFree map b
-IsSparedAt f map blocks (Some to) = ((b : ℕ) × (b < blocks) × (b ≢ to.block) × IsFree map b) ⊎ ((to.block < blocks) × IsDuplicated f (length map) to.block)
+-- a closed block is free; or only that of copies is open, and has nothing else
+abbrev pub IsSparedAt : Flash → List (Option PageAddr) → ℕ → NextPages → Type 0
+IsSparedAt f map blocks next = HasFree blocks map next ⊎ ((to : PageAddr)
+    × (next.hosts ≡ None) × (next.copies ≡ Some to) × (to.block < blocks) × IsDuplicated f (length map) to.block)
 
 -- whatever a power cut leaves, a mount can free a block
 abbrev pub LeavesSpare : Flash → Core → Type 0
-LeavesSpare f core = IsSparedAt f core.map.items core.blocks core.next_page
+LeavesSpare f core = IsSparedAt f core.map.items core.blocks core.next_pages

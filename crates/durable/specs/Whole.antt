@@ -6,7 +6,8 @@ use Rattle.durable.specs.Flash.{Flash, HoldsNeeded, HoldsNewest, IsErased}
 use Rattle.durable.specs.Updates.{Update}
 use Rattle.durable.specs.declared.extent.Extent.{Extent}
 use Rattle.durable.specs.Device.{Device, device_of, device_in, losses_of}
-use Rattle.durable.specs.Collecting.{IsFree}
+use Rattle.durable.specs.Collecting.{IsOpenAt}
+use Rattle.durable.specs.Next.{HasFree}
 use Rattle.durable.specs.Commands.{Completes, CutLeaves}
 use Rattle.durable.specs.Losses.{IsGapless, HasNoLoss, version_count}
 use Rattle.durable.specs.Memory.{map_entry}
@@ -18,6 +19,7 @@ use Rattle.durable.specs.Runs.{Event, Completed, Failed, Retired, CutInside, Cut
 use Rattle.durable.specs.declared.command.Command.{Command}
 use Rattle.durable.specs.declared.memory.Core.{Core}
 use Rattle.durable.specs.declared.mount.Mount.{Mount}
+use Rattle.durable.specs.declared.next_pages.NextPages.{NextPages}
 
 -- each newest version in the block that is needed is in another block too, which has no gap
 abbrev pub IsSafelyDuplicated : Flash → ℕ → ℕ → Type 0
@@ -29,22 +31,20 @@ pub record IsUnharmed (f : Flash) (device : Device) : Type 0 where
   pub no_loss : HasNoLoss f device.sectors
   pub spare : (b : ℕ) × (b < device.blocks) × IsSafelyDuplicated f device.sectors b
 
--- the open block has a version in each page before the next one
-abbrev pub IsFullBefore : Flash → Option PageAddr → Type 0
-IsFullBefore f None = Unit {0}
-IsFullBefore f (Some at) = (p : ℕ) → p < at.page → version_count (f at.block p) ≡ 1
+-- each open block has a version in each page before its next one
+abbrev pub AreFullBefore : Flash → NextPages → Type 0
+AreFullBefore f next = (at : PageAddr) → IsOpenAt next at → (p : ℕ) → p < at.page → version_count (f at.block p) ≡ 1
 
--- a block is free, beside the open one; or the open one has only copies, of pages in blocks without a gap
-abbrev pub IsSafelySpared : Flash → List (Option PageAddr) → ℕ → Option PageAddr → Type 0
-IsSafelySpared f map blocks None = (b : ℕ) × (b < blocks) × IsFree map b
-IsSafelySpared f map blocks (Some to) =
-    ((b : ℕ) × (b < blocks) × (b ≢ to.block) × IsFree map b) ⊎ ((to.block < blocks) × IsSafelyDuplicated f (length map) to.block)
+-- a closed block is free; or only that of copies is open, and has nothing else, of pages in blocks without a gap
+abbrev pub IsSafelySpared : Flash → List (Option PageAddr) → ℕ → NextPages → Type 0
+IsSafelySpared f map blocks next = HasFree blocks map next ⊎ ((to : PageAddr)
+    × (next.hosts ≡ None) × (next.copies ≡ Some to) × (to.block < blocks) × IsSafelyDuplicated f (length map) to.block)
 
 -- the layer keeps nothing in a block that has a gap
 pub record KeepsWhole (f : Flash) (core : Core) : Type 0 where
   pub mapped : (s : ℕ) (at : PageAddr) → s < length core.map.items → map_entry core s ≡ Some at → IsGapless f at.block
-  pub full : IsFullBefore f core.next_page
-  pub spared : IsSafelySpared f core.map.items core.blocks core.next_page
+  pub full : AreFullBefore f core.next_pages
+  pub spared : IsSafelySpared f core.map.items core.blocks core.next_pages
 
 -- whatever a power cut inside the command leaves has lost no page
 abbrev pub CutsUnharmed : Core → Extent → Command → Type 0

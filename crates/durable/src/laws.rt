@@ -8,10 +8,11 @@ ghost use Rattle.durable.specs.Calls.{Acknowledges, CountsLosses, DropsTrims, Ha
 ghost use Rattle.durable.specs.Calls.{TellsLosses, TellsNoFalseLoss};
 ghost use Rattle.durable.specs.Choice.{IsNextCommand, Spends, StaysOpen, left, number_after};
 ghost use Rattle.durable.specs.declared.found.Candidate.{Candidate as Seen};
-ghost use Rattle.durable.specs.Collecting.{AreLiveCounts, CanCollect, HasCapacity, IsFree, IsPageOn, MapsAll, live_in};
+ghost use Rattle.durable.specs.Collecting.{AreInTwoBlocks, AreLiveCounts, ArePagesOn, CanCollect, HasCapacity, IsCopied, IsEnough, IsFree, IsProgrammed};
+ghost use Rattle.durable.specs.Collecting.{IsOpenAt, MapsAll, live_in};
 ghost use Rattle.durable.specs.Commands.{Completes, CutLeaves, IsAllowed, is_program, updates_with};
 ghost use Rattle.durable.specs.Device.{Device, HasOwnVersions, IsReadOn, IsStampOn, IsWrittenOn, NamesOn, device_in, device_of, live_sectors, losses_of};
-ghost use Rattle.durable.specs.Device.{next_number_in, next_number_of, next_page_of};
+ghost use Rattle.durable.specs.Device.{next_number_in, next_number_of, next_pages_of};
 ghost use Rattle.durable.specs.Failures.{Changes, HasVersionlessBlock, HoldsNoVersion, IsRenumbered, IsSameFlashOf, IsSwapped, swapped};
 ghost use Rattle.durable.specs.Faults.{mount_fault_text};
 ghost use Rattle.durable.specs.Flash.{Erased, Flash, HasValue, HasVersion, HoldsNeeded, HoldsNewest, HoldsNoValue, IsErased, RecoversSector};
@@ -30,6 +31,7 @@ ghost use Rattle.durable.specs.declared.command.Command.TheVariants as command;
 ghost use Rattle.durable.specs.declared.extent.Extent.{Extent as Sectors};
 ghost use Rattle.durable.specs.declared.fault.MountFault.TheVariants.{NoFreeBlock};
 ghost use Rattle.durable.specs.declared.memory.Core.{Core as Layer};
+ghost use Rattle.durable.specs.declared.next_pages.NextPages.{NextPages as Nexts};
 ghost use Rattle.durable.specs.declared.mount.Mount.{Mount as Reading};
 
 /// Which sectors an extent has, and what an update of it changes.
@@ -214,10 +216,10 @@ pub fn devices()
         (command.Copy 7 (record { block = 4; page = 0 }) (record { block = 2; page = 0 })) }
     ensures bad_read { IsReadOn (record { blocks = 3; read_blocks = 5; pages = 4; sectors = 8 })
         (record { block = 4; page = 3 }) }
-    ensures open { IsPageOn 3 4 (Some (record { block = 2; page = 3 })) }
-    ensures closed { IsPageOn 3 4 None }
-    ensures beyond { ¬ IsPageOn 3 4 (Some (record { block = 3; page = 3 })) }
-    ensures past { ¬ IsPageOn 3 4 (Some (record { block = 2; page = 4 })) }
+    ensures open { (next : Nexts) → ArePagesOn 3 4 next → next.hosts ≡ Some (record { block = 3; page = 3 }) → ⊥ }
+    ensures closed { ArePagesOn 3 4 (record { hosts = None; copies = None }) }
+    ensures beyond { (next : Nexts) → ArePagesOn 3 4 next → next.copies ≡ Some (record { block = 3; page = 3 }) → ⊥ }
+    ensures past { (next : Nexts) → ArePagesOn 3 4 next → next.copies ≡ Some (record { block = 2; page = 4 }) → ⊥ }
 {}
 
 /// Live pages, and room to collect on 3 blocks of 4 pages.
@@ -234,39 +236,64 @@ pub fn rooms()
         (Some (record { block = 1; page = 0 }) ∷ None ∷ []) }
     ensures free { IsFree (Some (record { block = 2; page = 0 }) ∷ None ∷ []) 1 }
     ensures used { ¬ IsFree (None ∷ Some (record { block = 2; page = 0 }) ∷ []) 2 }
-    ensures spare { CanCollect (Some (record { block = 2; page = 0 }) ∷ []) 3 4 None }
-    ensures no_block { ¬ CanCollect [] 0 4 None }
-    ensures all_live { ¬ CanCollect (Some (record { block = 0; page = 0 }) ∷ []) 1 4 None }
-    ensures alone { ¬ CanCollect [] 1 4 (Some (record { block = 0; page = 0 })) }
+    ensures spare { CanCollect (Some (record { block = 2; page = 0 }) ∷ []) 3 4
+        (record { hosts = None; copies = None }) }
+    ensures no_block { ¬ CanCollect [] 0 4 (record { hosts = None; copies = None }) }
+    ensures all_live { ¬ CanCollect (Some (record { block = 0; page = 0 }) ∷ []) 1 4
+        (record { hosts = None; copies = None }) }
+    ensures alone { ¬ CanCollect [] 1 4
+        (record { hosts = None; copies = Some (record { block = 0; page = 0 }) }) }
+    ensures hosts_alone { ¬ CanCollect [] 1 4
+        (record { hosts = Some (record { block = 0; page = 0 }); copies = None }) }
     ensures at_end { ¬ CanCollect (Some (record { block = 1; page = 0 }) ∷ []) 2 4
-        (Some (record { block = 0; page = 3 })) }
+        (record { hosts = None; copies = Some (record { block = 0; page = 3 }) }) }
     ensures before_end { CanCollect (Some (record { block = 1; page = 0 }) ∷ []) 2 4
-        (Some (record { block = 0; page = 2 })) }
+        (record { hosts = None; copies = Some (record { block = 0; page = 2 }) }) }
+{}
+
+/// The next pages of open blocks, and what is left of a call with them.
+pub fn open_blocks()
+    ensures apart { ¬ AreInTwoBlocks (record { hosts = Some (record { block = 1; page = 0 }); copies = Some (record { block = 1; page = 2 }) }) }
+    ensures programmed { (old new : Nexts) → IsProgrammed old (record { block = 1; page = 0 }) 4 new
+        → old.hosts ≡ Some (record { block = 1; page = 0 }) → new.copies ≡ old.copies }
+    ensures in_copies { (old new : Nexts) → IsProgrammed old (record { block = 1; page = 0 }) 4 new
+        → old.hosts ≡ None → new.hosts ≡ None }
+    ensures copied { (old new : Nexts) → IsCopied old (record { block = 1; page = 0 }) 4 new → new.hosts ≡ old.hosts }
+    ensures enough { ¬ IsEnough 4 (record { hosts = None; copies = None }) 4 }
+    ensures none_left { (next : Nexts) → ¬ IsEnough 4 next 0 }
 {}
 
 /// Which command comes next, and what it takes of a call.
 pub fn next_commands()
     ensures number { (core : Layer) (at : Addr)
         → IsNextCommand core (command.Program at 5) → next_number_of core ≡ 5 }
-    ensures page { (core : Layer) (at : Addr)
-        → IsNextCommand core (command.Program at 5) → next_page_of core ≡ Some at }
+    ensures hosts { (core : Layer) (at on : Addr) → (next_pages_of core).hosts ≡ Some on
+        → IsNextCommand core (command.Program at 5) → at ≡ on }
+    ensures page { (core : Layer) (at : Addr) → (next_pages_of core).hosts ≡ None
+        → IsNextCommand core (command.Program at 5) → (next_pages_of core).copies ≡ Some at }
     ensures last_number { (core : Layer) (at : Addr)
         → ¬ IsNextCommand core (command.Program at (2 ^ 64 - 1)) }
-    ensures spare { (core : Layer) → core.blocks ≡ 2 → ¬ IsFree core.map.items 1
+    ensures spare { (core : Layer) → core.blocks ≡ 2 → ¬ IsFree core.map.items 0
+        → ¬ IsFree core.map.items 1
         → ¬ IsNextCommand core (command.Program (record { block = 0; page = 1 }) 5) }
     ensures open { (core : Layer) (at : Addr)
-        → next_page_of core ≡ Some at → ¬ IsNextCommand core (command.Erase 0) }
+        → (next_pages_of core).hosts ≡ Some at → at.block ≡ 0 → ¬ IsNextCommand core (command.Erase 0) }
+    ensures both { (core : Layer) (at to : Addr) → (next_pages_of core).hosts ≡ Some at
+        → (next_pages_of core).copies ≡ Some to → ¬ IsNextCommand core (command.Erase 0) }
+    ensures beside { (core : Layer) (at : Addr) → core.blocks ≡ 2
+        → (next_pages_of core).hosts ≡ Some at → ¬ IsFree core.map.items 1 → ¬ IsNextCommand core (command.Erase 0) }
     ensures erase { (core : Layer) → IsNextCommand core (command.Erase 2) → IsFree core.map.items 2 }
     ensures source { (core : Layer) (from to : Addr)
         → IsNextCommand core (command.Copy 7 from to) → map_entry core 7 ≡ Some from }
     ensures target { (core : Layer) (from to : Addr)
-        → IsNextCommand core (command.Copy 7 from to) → next_page_of core ≡ Some to }
+        → IsNextCommand core (command.Copy 7 from to) → (next_pages_of core).copies ≡ Some to }
     ensures fewest { (core : Layer) (from to : Addr)
-        → IsNextCommand core (command.Copy 7 from to) → to.block ≡ 0 → 1 < core.blocks
+        → IsNextCommand core (command.Copy 7 from to) → (next_pages_of core).hosts ≡ None
+        → to.block ≡ 0 → 1 < core.blocks
         → live_in 1 core.map.items + 1 ≡ live_in from.block core.map.items → ⊥ }
-    ensures opened { (core : Layer) → next_page_of core ≡ None → left core ≡ core.pages + 1 }
-    ensures part { (core : Layer) → core.pages ≡ 4
-        → next_page_of core ≡ Some (record { block = 1; page = 3 }) → left core ≡ 1 }
+    ensures closed { (core : Layer) (from to at : Addr) → IsNextCommand core (command.Copy 7 from to)
+        → (next_pages_of core).hosts ≡ Some at → from.block ≢ at.block }
+    ensures opened { (core : Layer) → IsNextCommand core (command.Erase 0) → left core ≡ core.pages + 1 }
     ensures first { Spends (command.Erase 0) 4 5 4 }
     ensures twice { ¬ Spends (command.Erase 0) 4 4 4 }
     ensures copy { ¬ Spends
@@ -277,16 +304,16 @@ pub fn next_commands()
     ensures refused { ¬ Spends command.Refused 4 5 4 }
     ensures counted { number_after (command.Program (record { block = 1; page = 0 }) 5) 3 ≡ 6 }
     ensures same { number_after (command.Erase 1) 3 ≡ 3 }
-    ensures goes_on { (at : Addr)
-        → StaysOpen (command.Program (record { block = 1; page = 0 }) 5) 4 (Some at)
-        → at ≡ record { block = 1; page = 1 } }
-    ensures copied { (at : Addr)
+    ensures goes_on { (next : Nexts)
+        → StaysOpen (command.Program (record { block = 1; page = 0 }) 5) 4 next
+        → IsOpenAt next (record { block = 1; page = 1 }) }
+    ensures copied { (next : Nexts)
         → StaysOpen
-        (command.Copy 7 (record { block = 1; page = 0 }) (record { block = 2; page = 0 })) 4
-        (Some at)
-        → at ≡ record { block = 2; page = 1 } }
-    ensures begins { ¬ StaysOpen (command.Erase 1) 4 None }
-    ensures ends { StaysOpen (command.Program (record { block = 1; page = 3 }) 5) 4 None }
+        (command.Copy 7 (record { block = 1; page = 0 }) (record { block = 2; page = 0 })) 4 next
+        → IsOpenAt next (record { block = 2; page = 1 }) }
+    ensures begins { ¬ StaysOpen (command.Erase 1) 4 (record { hosts = None; copies = None }) }
+    ensures ends { StaysOpen (command.Program (record { block = 1; page = 3 }) 5) 4
+        (record { hosts = None; copies = None }) }
 {}
 
 /// The order in which stamps are noted, and what is kept of them.
@@ -527,9 +554,9 @@ pub fn unharmed()
         → 7 < length layer.map.items → map_entry layer 7 ≡ Some (record { block = 1; page = 1 })
         → IsGapless f 1 }
     ensures full { (f : Flash) (layer : Layer) → KeepsWhole f layer
-        → layer.next_page ≡ Some (record { block = 1; page = 2 }) → f 1 1 ≢ Torn }
+        → layer.next_pages.hosts ≡ Some (record { block = 1; page = 2 }) → f 1 1 ≢ Torn }
     ensures spared { (f : Flash) (layer : Layer) → KeepsWhole f layer
-        → layer.next_page ≡ None → (b : ℕ) × (b < layer.blocks) × IsFree layer.map.items b }
+        → layer.next_pages.copies ≡ None → (b : ℕ) × (b < layer.blocks) × IsFree layer.map.items b }
     ensures mounted { (f : Flash) (layer : Layer) (acked begun : List Update) (from : IsMountedWhole f layer) → IsReadable f (device_in from.0) acked begun
         → IsUnharmed f (device_in from.0) → KeepsWhole f layer × (layer.losses ≡ 0) }
     ensures first { (f : Flash) (layer : Layer)
@@ -575,12 +602,12 @@ pub fn promises()
         → ¬ IsConsistent f core (u ∷ []) [] }
     ensures open { (f : Flash) (core : Layer) (acked begun : List Update)
         → IsConsistent f core acked begun
-        → next_page_of core ≡ Some (record { block = 1; page = 2 }) → f 1 3 ≡ Erased }
+        → (next_pages_of core).hosts ≡ Some (record { block = 1; page = 2 }) → f 1 3 ≡ Erased }
     ensures on_device { (f : Flash) (core : Layer) (v : Sector) (acked begun : List Update)
         → IsConsistent f core acked begun → f 3 0 ≡ Version (sole 7) 5 v
         → 3 < (device_of core).read_blocks }
     ensures spare { (f : Flash) (core : Layer) (acked begun : List Update)
-        → IsConsistent f core acked begun → next_page_of core ≡ None
+        → IsConsistent f core acked begun → (next_pages_of core).copies ≡ None
         → (b : ℕ) × (b < (device_of core).blocks) × IsFree core.map.items b }
     ensures safe { (f : Flash) (core : Layer) (acked begun : List Update)
         → IsConsistent f core acked begun

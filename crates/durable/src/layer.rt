@@ -1,23 +1,25 @@
-ghost use Rattle.std.specs.Prelude.{◌≡◌, ◌≢◌, ◌<◌, ◌+◌, ◌^◌, List, true, false};
-ghost use Rattle.durable.specs.Collecting.{IsFree, live_in};
+ghost use Rattle.std.specs.Prelude.{◌≡◌, ◌≢◌, ◌<◌, ◌≤◌, ◌+◌, ◌^◌, List, None, Some, IfSome, true, false};
+ghost use Rattle.durable.specs.Collecting.{IsNotOpen, IsFree, live_in};
+ghost use Rattle.durable.specs.Next.{HasFreeBeside, Opens};
 
 use crate::command::Command;
 use crate::counting::{remap, remap_all};
 use crate::extent::Extent;
 use crate::memory::Core;
-use crate::search::{page_after, source};
+use crate::next_pages::NextPages;
+use crate::search::source;
 use geometry::PageAddr;
 
 impl Core {
     ghost use Rattle.durable.specs.Flash.{Flash};
     ghost use Rattle.durable.specs.Updates.{LiesWithin, Update, array_after};
-    ghost use Rattle.durable.specs.Device.{device_of, live_sectors, losses_of, next_page_of, next_number_of};
+    ghost use Rattle.durable.specs.Device.{device_of, live_sectors, losses_of, next_number_of, next_pages_of};
     ghost use Rattle.durable.specs.Memory.{IsMappedTo, map_entry};
     ghost use Rattle.durable.specs.Choice.{IsNextCommand, StaysOpen, Spends, left, number_after};
     ghost use Rattle.durable.specs.Promise.{IsConsistent};
     ghost use Rattle.durable.specs.Calls.{IsSafe, SurvivesCut, SurvivesIdleCut, Acknowledges};
     ghost use Rattle.durable.specs.Whole.{CutsIdleUnharmed, CutsUnharmed, StaysWhole};
-    ghost use Rattle.durable.specs.declared.command.Command.TheVariants.{Refused};
+    ghost use Rattle.durable.specs.declared.command.Command.TheVariants.{Erase, Refused};
 
     /// How many sectors the device has.
     pub fn sectors(&self) -> u32
@@ -70,6 +72,15 @@ impl Core {
         }
     }
 
+    /// From now on a block is opened for what hosts write and another one for copies, where blocks are free. Sectors that are written often don't lie
+    /// among copied ones then, and a write waits for few copies at a time. It is for flash that keeps each command that is done: after a power cut
+    /// that loses some of them, what is left need not be a beginning of the history.
+    pub fn keep_copies_apart(&mut self)
+        ensures { self.new ≡ self.old }
+    {
+        self.counts.keep_copies_apart();
+    }
+
     /// The command that comes next for a write or trim of these sectors. It depends on nothing but the layer's memory.
     pub fn next(&self, extent: Extent) -> Command
         requires { LiesWithin (device_of self.now).sectors extent }
@@ -98,7 +109,7 @@ impl Core {
 
         // Each command but the program brings the call nearer to its end.
         ensures spends { Spends command (device_of self.old).pages (left self.old) (left self.new) }
-        ensures open { StaysOpen command (device_of self.old).pages (next_page_of self.new) }
+        ensures open { StaysOpen command (device_of self.old).pages (next_pages_of self.new) }
     {
         self.chosen = Command::Refused;
         match command {
@@ -106,20 +117,31 @@ impl Core {
                 self.owners.programmed(&self.map, at, extent);
                 remap_all(&mut self.map, &mut self.counts, extent, at);
                 self.next_number = number + 1;
-                self.next_page = page_after(at, self.pages);
+                self.next_pages = self.next_pages.programmed(at, self.pages);
+                self.left = u64::from(self.pages) + 1;
+                let victim = self.counts.victim_after(self.victim, self.next_pages);
+                self.owners
+                    .prepare(&self.map, &self.counts, self.victim, victim);
+                self.victim = victim;
                 self.chosen = self.decide();
             }
             Command::Copy(sector, from, to) => {
                 remap(&mut self.map, &mut self.counts, sector, Some(from), to);
                 self.owners.copied(&self.map, sector, from, to);
-                self.next_page = page_after(to, self.pages);
+                self.next_pages = self.next_pages.copied(to, self.pages);
+                self.left = self.left.min(u64::from(self.pages)) - 1;
                 self.chosen = self.decide();
             }
             Command::Erase(block) => {
+                let next_pages = self.opened(block);
                 self.counts.erased(block);
-                self.owners.look_through(&self.map, &self.counts, block);
                 self.turn = self.turn.wrapping_add(1);
-                self.next_page = Some(PageAddr { block, page: 0 });
+                let victim = self.counts.victim_beside(self.victim, next_pages, block);
+                self.owners
+                    .prepare(&self.map, &self.counts, self.victim, victim);
+                self.victim = victim;
+                self.next_pages = next_pages;
+                self.left = u64::from(self.pages);
                 self.chosen = self.decide();
             }
             Command::Refused => {}
@@ -137,29 +159,134 @@ impl Core {
         }
     }
 
+    // The next pages once a block was erased: it is for hosts, if it can be.
+    fn opened(&self, block: u32) -> NextPages
+        requires { IsNextCommand self.now (Erase block) }
+        ensures { Opens self.now.blocks self.now.map.items self.now.next_pages block result }
+    {
+        let first = PageAddr { block, page: 0 };
+        let next = self.next_pages;
+        let for_hosts = NextPages {
+            hosts: Some(first),
+            copies: next.copies,
+        };
+        let for_copies = NextPages {
+            hosts: next.hosts,
+            copies: Some(first),
+        };
+        match next.hosts {
+            Some(_) => for_copies,
+            None => match next.copies {
+                Some(_) => for_hosts,
+                None => match self.counts.other_empty(next, block) {
+                    Some(_) => for_hosts,
+                    None => for_copies,
+                },
+            },
+        }
+    }
+
     // The same, by the counts and the owners.
     fn decide(&self) -> Command
         ensures next { IsNextCommand self.now result }
         ensures progress { next_number_of self.now + 1 < 2 ^ 64 → result ≢ Refused }
     {
-        match self.next_page {
+        match self.next_pages.hosts {
+            Some(at) => self.beside_hosts(at),
+            None => self.without_hosts(),
+        }
+    }
+
+    // The same, while a block is open for hosts: copies that the call doesn't need come before its program.
+    fn beside_hosts(&self, at: PageAddr) -> Command
+        requires { self.now.next_pages.hosts ≡ Some at }
+        ensures next { IsNextCommand self.now result }
+        ensures progress { next_number_of self.now + 1 < 2 ^ 64 → result ≢ Refused }
+    {
+        if let Some(command) = self.collecting() {
+            return command;
+        }
+        if self.next_number >= u64::MAX {
+            return Command::Refused;
+        }
+        Command::Program(at, self.next_number)
+    }
+
+    // A copy that the call doesn't need, or an erase before it.
+    fn collecting(&self) -> Option<Command>
+        requires { self.now.next_pages.hosts ≢ None }
+        ensures { IfSome result (λ m. IsNextCommand self.now m × (m ≢ Refused)) }
+    {
+        let victim = self.victim.block;
+        if victim >= self.blocks || !self.next_pages.is_closed(victim) {
+            return None;
+        }
+        if self.counts.get(victim) == 0 || self.left <= 1 || self.pages <= 1 {
+            return None;
+        }
+        if self.left + u64::from(self.victim.pace) <= u64::from(self.pages) {
+            return None;
+        }
+        match self.next_pages.copies {
             Some(to) => {
-                let victim = self.counts.fewest(to.block);
-                if self.is_free_beside(victim, to.block) {
-                    if self.next_number >= u64::MAX {
-                        return Command::Refused;
-                    }
-                    return Command::Program(to, self.next_number);
-                }
-                match source(&self.map, &self.owners, victim) {
-                    Some((sector, from)) => Command::Copy(sector, from, to),
-                    None => Command::Refused,
-                }
+                let (sector, from) = source(&self.map, &self.owners, victim)?;
+                Some(Command::Copy(sector, from, to))
             }
+            None => Some(Command::Erase(self.block_to_open()?)),
+        }
+    }
+
+    // A block that can be opened beside another free one.
+    fn block_to_open(&self) -> Option<u32>
+        ensures { IfSome result (λ b. (self.now.left ≡ self.now.pages + 1) × (b < self.now.blocks) × IsFree self.now.map.items b
+            × IsNotOpen self.now.next_pages b × HasFreeBeside self.now.blocks self.now.map.items self.now.next_pages b) }
+    {
+        if self.left <= u64::from(self.pages) {
+            return None;
+        }
+        let block = self.counts.empty(self.turn)?;
+        if !self.next_pages.is_closed(block) {
+            return None;
+        }
+        self.counts.other_empty(self.next_pages, block)?;
+        Some(block)
+    }
+
+    // The same, while no block is open for hosts: one is opened if it can be.
+    fn without_hosts(&self) -> Command
+        requires { self.now.next_pages.hosts ≡ None }
+        ensures next { IsNextCommand self.now result }
+        ensures progress { next_number_of self.now + 1 < 2 ^ 64 → result ≢ Refused }
+    {
+        if let Some(block) = self.block_to_open() {
+            return Command::Erase(block);
+        }
+        match self.next_pages.copies {
+            Some(to) => self.in_copies(to),
             None => match self.counts.empty(self.turn) {
                 Some(block) => Command::Erase(block),
                 None => Command::Refused,
             },
+        }
+    }
+
+    // The same, while only the block of copies is open.
+    fn in_copies(&self, to: PageAddr) -> Command
+        requires hosts { self.now.next_pages.hosts ≡ None }
+        requires copies { self.now.next_pages.copies ≡ Some to }
+        ensures next { IsNextCommand self.now result }
+        ensures progress { next_number_of self.now + 1 < 2 ^ 64 → result ≢ Refused }
+    {
+        let victim = self.counts.fewest(to.block);
+        if self.is_free_beside(victim, to.block) {
+            if self.next_number >= u64::MAX {
+                return Command::Refused;
+            }
+            return Command::Program(to, self.next_number);
+        }
+        match source(&self.map, &self.owners, victim) {
+            Some((sector, from)) => Command::Copy(sector, from, to),
+            None => Command::Refused,
         }
     }
 

@@ -16,6 +16,7 @@ mod marks;
 mod memory;
 mod mount;
 mod mounting;
+mod next_pages;
 mod owners;
 mod ranking;
 mod rehearsal;

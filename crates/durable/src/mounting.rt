@@ -10,7 +10,9 @@ use crate::gaps::{count_gaps, losses};
 use crate::marks::mark_values;
 use crate::memory::Core;
 use crate::mount::Mount;
+use crate::next_pages::NextPages;
 use crate::owners::Owners;
+use crate::ranking::Victim;
 use geometry::PageAddr;
 use std::alloc::Global;
 
@@ -183,7 +185,12 @@ impl Mount {
             counts,
             owners,
             turn: 0,
-            next_page: None,
+            next_pages: NextPages {
+                hosts: None,
+                copies: None,
+            },
+            victim: Victim::NONE,
+            left: u64::from(self.pages) + 1,
             next_number: self.next_number,
             chosen: Command::Refused,
             losses,

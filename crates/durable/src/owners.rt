@@ -4,7 +4,7 @@ ghost use Rattle.packed_map.specs.Entries.{IsPackable};
 
 use crate::extent::Extent;
 use crate::hints::Hints;
-use crate::ranking::Counts;
+use crate::ranking::{Counts, Victim};
 use geometry::PageAddr;
 use packed_map::PackedMap;
 use std::alloc::{AllocError, Global};
@@ -89,12 +89,15 @@ impl Owners {
         self.hints.set(page, sector, true);
     }
 
-    /// Looks for the live sectors of the block with the fewest, beside one. Where pages aren't forgotten, which are live can't be foreseen, so no branch
-    /// depends on it.
-    pub fn look_through(&mut self, map: &PackedMap, counts: &Counts, avoided: u32)
+    /// Looks for the live sectors of a victim, if it is a new one. Where pages aren't forgotten, which are live can't be foreseen, so no branch depends
+    /// on it.
+    pub fn prepare(&mut self, map: &PackedMap, counts: &Counts, old: Victim, new: Victim)
         requires { length map.now.items < 2 ^ 32 }
     {
-        let block = counts.fewest(avoided);
+        let block = new.block;
+        if block == old.block {
+            return;
+        }
         self.left = 0;
         if (block as usize) >= counts.len() || counts.get(block) == 0 {
             return;

@@ -1,5 +1,7 @@
 ghost use Rattle.std.specs.Prelude.{◌≡◌, ◌≢◌, ◌<◌, ◌≤◌, ◌+◌, ◌-◌, ◌^◌, ℕ, length, replicate, slice_set, slice_index, slice_index_or, IfOk, IfSome, IfNone};
+ghost use Rattle.durable.specs.Collecting.{IsNotOpen};
 
+use crate::next_pages::NextPages;
 use crate::search::fewest;
 use std::alloc::{AllocError, Global};
 use std::marker::Model;
@@ -10,6 +12,23 @@ const COMPARED: usize = 8;
 
 const NO_BLOCK: u32 = u32::MAX;
 
+// With so many blocks without live pages no victim is looked for.
+const MANY: u32 = 4;
+
+/// The block that copies come from, and how many of them come before a program.
+#[derive(Clone, Copy)]
+pub struct Victim {
+    pub block: u32,
+    pub pace: u32,
+}
+
+impl Victim {
+    pub const NONE: Victim = Victim {
+        block: NO_BLOCK,
+        pace: 0,
+    };
+}
+
 /// How many live pages each block has, and the blocks in the order of that.
 #[derive(Drop)]
 pub struct Counts {
@@ -18,6 +37,8 @@ pub struct Counts {
     erases: Vec<u16>,
     // The key of a block is its count, or the greatest key if that is less.
     queue: BucketQueue,
+    // Whether blocks are opened for hosts.
+    keeps_apart: bool,
 }
 
 impl Model for Counts {
@@ -47,6 +68,7 @@ impl Counts {
             counts: vec![in alloc; 0; blocks as usize]?,
             erases: vec![in alloc; 0; blocks as usize]?,
             queue: BucketQueue::new(alloc, blocks, (pages as usize).min(65534) + 2)?,
+            keeps_apart: false,
         })
     }
 
@@ -114,6 +136,90 @@ impl Counts {
     {
         let block = self.queue.in_turn(0, turn)?;
         Some(least_erased(&self.queue, &self.erases, block, NO_BLOCK))
+    }
+
+    /// Blocks are opened for hosts from now on.
+    pub fn keep_copies_apart(&mut self)
+        ensures { self.new ≡ self.old }
+    {
+        self.keeps_apart = true;
+    }
+
+    /// A closed block without live pages, beside one, if blocks are opened for hosts.
+    pub fn other_empty(&self, next: NextPages, avoided: u32) -> Option<u32>
+        ensures { IfSome result (λ b. (b < length self.now) × (slice_index_or self.now b 0 ≡ 0)
+            × IsNotOpen next b × (b ≢ avoided)) }
+    {
+        if !self.keeps_apart {
+            return None;
+        }
+        for turn in 0..4 {
+            let block = self.queue.in_turn(0, turn)?;
+            if block != avoided && next.is_closed(block) {
+                return Some(block);
+            }
+        }
+        None
+    }
+
+    /// The victim after a program: another one once it has no live pages, while a block is open for hosts and few blocks are free.
+    pub fn victim_after(&self, victim: Victim, next: NextPages) -> Victim {
+        let block = victim.block;
+        if (block as usize) < self.counts.len() && next.is_closed(block) {
+            if self.counts[block as usize] > 0 {
+                return victim;
+            }
+        }
+        if next.hosts.is_none() || self.queue.count(0) >= MANY {
+            return Victim::NONE;
+        }
+        self.emptiest(next)
+    }
+
+    /// The victim once a block was erased: with none open for hosts, the one with the fewest live pages.
+    pub fn victim_beside(&self, victim: Victim, next: NextPages, block: u32) -> Victim {
+        if next.hosts.is_some() {
+            return victim;
+        }
+        Victim {
+            block: self.fewest(block),
+            pace: 0,
+        }
+    }
+
+    // A closed block with the fewest live pages, of those with some: of a few the least erased.
+    fn emptiest(&self, next: NextPages) -> Victim {
+        let order = &self.queue.sorted.order;
+        let first = self.queue.starts[1] as usize;
+        let mut best = NO_BLOCK;
+        for place in first..order.len().min(first.saturating_add(COMPARED)) {
+            let other = order[place];
+            if next.is_closed(other) && self.is_better(other, best) {
+                best = other;
+            }
+        }
+        Victim {
+            block: best,
+            pace: self.pace(best),
+        }
+    }
+
+    // Whether a block that comes later in the order is better to collect: it has as few live pages, and fewer erases.
+    fn is_better(&self, block: u32, best: u32) -> bool
+        requires { block < length self.now }
+    {
+        if best as usize >= self.counts.len() {
+            return true;
+        }
+        self.queue.keys[block as usize] == self.queue.keys[best as usize]
+            && self.erases[block as usize] < self.erases[best as usize]
+    }
+
+    // How many copies of a block come before a program, so that it is empty before hosts have written as much as that frees.
+    fn pace(&self, block: u32) -> u32 {
+        let pages = (self.queue.starts.len() as u32).saturating_sub(2);
+        let live = self.counts.get(block as usize).map_or(0, |live| *live);
+        (live / pages.saturating_sub(live).max(1)).saturating_add(1)
     }
 
     /// The block with the fewest live pages, beside one: of a few the least erased.

@@ -13,7 +13,8 @@ use crate::command::Command;
 use crate::counting::{remap_all, renumber};
 use crate::extent::Extent;
 use crate::memory::Core;
-use crate::ranking::Counts;
+use crate::next_pages::NextPages;
+use crate::ranking::{Counts, Victim};
 use crate::search::source_in_map;
 use packed_map::PackedMap;
 
@@ -54,7 +55,12 @@ impl Core {
             return false;
         }
         self.chosen = Command::Refused;
-        self.next_page = None;
+        self.next_pages = NextPages {
+            hosts: None,
+            copies: None,
+        };
+        self.victim = Victim::NONE;
+        self.left = u64::from(self.pages) + 1;
         let number = self.next_number;
         self.next_number = keep(
             &mut self.map,

@@ -5,7 +5,7 @@ use Rattle.durable.specs.Flash.{Flash}
 use Rattle.durable.specs.declared.extent.Extent.{Extent}
 use Rattle.durable.specs.Updates.{Update, array_after}
 use Rattle.durable.specs.Candidates.{number_above}
-use Rattle.durable.specs.Device.{Device, device_of, device_in, losses_of, next_page_of, next_number_in, next_number_of, IsStampOn, IsWrittenOn}
+use Rattle.durable.specs.Device.{Device, device_of, device_in, losses_of, next_pages_of, next_number_in, next_number_of, IsStampOn, IsWrittenOn}
 use Rattle.durable.specs.Memory.{IsMappedTo}
 use Rattle.durable.specs.Mounting.{IsStampOf, next_in, after_in}
 use Rattle.durable.specs.Choice.{IsNextCommand, Spends, StaysOpen, left, number_after}
@@ -146,7 +146,7 @@ IsDone e did l after =
     × (layer_losses after ≡ layer_losses l) × StaysWhole l.core e command after.core
     × (next_number_of after.core ≡ number_after command (next_number_of l.core))
     × Spends command (layer_device l).pages (left l.core) (left after.core)
-    × StaysOpen command (layer_device l).pages (next_page_of after.core)
+    × StaysOpen command (layer_device l).pages (next_pages_of after.core)
     × (after.totals ≡ totals_with command l.totals)
 
 -- the code of a retirement, where its sectors are of the device: the command isn't the one that comes next, or the spare block won't do

@@ -4,7 +4,7 @@ ghost use Rattle.std.specs.Prelude.{◌≡◌, ◌≢◌, ◌+◌, ◌-◌, ◌^
 ghost use Rattle.geometry.specs.declared.page_addr.PageAddr.{PageAddr as Addr};
 ghost use Rattle.durable.specs.Flash.{Flash};
 ghost use Rattle.durable.specs.Updates.{Update};
-ghost use Rattle.durable.specs.Device.{Device, device_in, next_number_in, next_number_of, next_page_of, IsStampOn};
+ghost use Rattle.durable.specs.Device.{Device, device_in, next_number_in, next_number_of, next_pages_of, IsStampOn};
 ghost use Rattle.durable.specs.Mounting.{IsStampOf, next_in, after_in};
 ghost use Rattle.durable.specs.Failures.{HoldsNoVersion};
 ghost use Rattle.durable.specs.Promise.{IsConsistent, IsReadable, IsRecoverable};
@@ -167,7 +167,7 @@ pub fn calls()
     ensures goes_on { (did : CommandReport) (l k : Layer) → IsDone (sole 7) did l k
         → (c : Next) × (did ≡ report_of 7 c)
         × Spends c (layer_device l).pages (left l.core) (left k.core)
-        × StaysOpen c (layer_device l).pages (next_page_of k.core) }
+        × StaysOpen c (layer_device l).pages (next_pages_of k.core) }
     ensures numbered { (did : CommandReport) (l k : Layer) → IsDone (sole 7) did l k
         → (c : Next) × (did ≡ report_of 7 c)
         × (next_number_of k.core ≡ number_after c (next_number_of l.core)) }

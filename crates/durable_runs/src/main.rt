@@ -1,5 +1,5 @@
 //! Makes random calls on small devices with power cuts, and prints the commands that the core gives for them, and its map after
-//! each mount. `bench/power_cuts/check` compares them with the model's rule.
+//! each mount. In every other six runs copies are kept apart. `bench/power_cuts/check` compares them with the model's rule.
 #![tactic(auto)]
 
 mod flash;
@@ -30,7 +30,7 @@ fn main(rt: HostRuntime) -> anyhow::Result<()> {
     for seed in 0..RUNS {
         let (blocks, pages, sectors) = DEVICES[(seed % 6) as usize];
         let flash = Flash::new(rt.alloc(), blocks, pages)?;
-        play(&rt, flash, sectors, Random::new(seed))?;
+        play(&rt, flash, sectors, Random::new(seed), seed / 6 % 2 == 1)?;
     }
     Ok(())
 }
@@ -40,10 +40,14 @@ fn play(
     flash: Flash,
     sectors: u32,
     random: Random,
+    is_apart: bool,
 ) -> anyhow::Result<()> {
     let (mut flash, mut random) = (flash, random);
     println!(rt; "device {} {} {sectors}", flash.blocks, flash.pages)?;
-    let mut core = mount(rt, &flash, sectors)?;
+    if is_apart {
+        println!(rt; "apart")?;
+    }
+    let mut core = mount(rt, &flash, sectors, is_apart)?;
     for _ in 0..CALLS {
         let (extent, value) = any_call(&mut random, sectors);
         println!(rt; "call {} {} {value}", extent.first, extent.count)?;
@@ -52,7 +56,7 @@ fn play(
             continue;
         }
         if !call(rt, &mut core, &mut flash, &mut random, extent, value)? {
-            core = mount(rt, &flash, sectors)?;
+            core = mount(rt, &flash, sectors, is_apart)?;
         }
     }
     Ok(())
@@ -140,7 +144,12 @@ fn is_written(core: &Core, flash: &Flash, sector: u32) -> bool {
 }
 
 // Mounts, and prints of each sector its page and its value.
-fn mount(rt: &(impl Print + AllocGlobal), flash: &Flash, sectors: u32) -> anyhow::Result<Core> {
+fn mount(
+    rt: &(impl Print + AllocGlobal),
+    flash: &Flash,
+    sectors: u32,
+    is_apart: bool,
+) -> anyhow::Result<Core> {
     let mut mount = Mount::begin(rt.alloc(), flash.blocks, flash.pages, sectors)?;
     for _ in 0..flash.cells() {
         if let Some(at) = mount.next_page() {
@@ -150,7 +159,10 @@ fn mount(rt: &(impl Print + AllocGlobal), flash: &Flash, sectors: u32) -> anyhow
     if mount.next_page().is_some() {
         anyhow::bail!("a stamp was not noted");
     }
-    let core = mount.finish(rt.alloc())?;
+    let mut core = mount.finish(rt.alloc())?;
+    if is_apart {
+        core.keep_copies_apart();
+    }
     print!(rt; "mount")?;
     for sector in 0..core.sectors() {
         print_entry(rt, &core, flash, sector)?;

@@ -3,7 +3,7 @@ use Rattle.std.proofs.lemmas.Bool.{false≢true}
 use Rattle.durable.specs.Losses.{has_gap}
 use Rattle.geometry.specs.declared.page_addr.PageAddr.{PageAddr}
 use Rattle.durable.specs.declared.found.Candidate.{Candidate}
-use Rattle.durable.proofs.Collects.{none_some}
+use Rattle.durable.proofs.Opened.{none_some}
 use Rattle.durable.proofs.laws.candidates.Goals as goal
 
 same_addr : (x y : PageAddr) → Some x ≡ Some y → x ≡ y

@@ -1,4 +1,6 @@
-use Rattle.std.proofs.Common.{arith}
+use Rattle.std.proofs.Common.{inl, ⊎_elim, ap, arith}
+use Rattle.durable.specs.Losses.{version_count}
+use Rattle.durable.proofs.Opened.{some_not_none}
 use Rattle.durable.proofs.laws.unharmed.Goals as goal
 
 pub returns-clause-alone : goal.returns-clause-alone
@@ -23,3 +25,13 @@ returns-clause-idle c events t new runs = (runs.0, runs.1, runs.2, runs.3.3, run
 
 pub returns-clause-mapped : goal.returns-clause-mapped
 returns-clause-mapped c f layer keeps lt entry = keeps.mapped 7 (record { block = 1; page = 1 }) lt entry
+
+pub returns-clause-full : goal.returns-clause-full
+returns-clause-full c f layer keeps is torn =
+    let one = keeps.full (record { block = 1; page = 2 }) (inl is) 1 (omega arith) in omega (arith, one, ap version_count torn)
+
+pub returns-clause-spared : goal.returns-clause-spared
+returns-clause-spared c f layer keeps none = ⊎_elim
+    (λ free. (free.0, free.1, free.3))
+    (λ copies. absurd (some_not_none layer.next_pages.copies copies.0 copies.2 none))
+    keeps.spared

@@ -4,7 +4,8 @@ use Rattle.durable.specs.Device.{device_in}
 use Rattle.durable.specs.Candidates.{AreNeeded, IsEntryOf, IsFreeable}
 use Rattle.durable.specs.declared.found.Candidate.{Candidate}
 use Rattle.durable.proofs.Noting.{all_noted}
-use Rattle.durable.proofs.Frees.{free_collects}
+use Rattle.durable.proofs.Frees.{closed_collects}
+use Rattle.durable.proofs.Opened.{nothing_open}
 use Rattle.durable.proofs.Kept.{dropped}
 use Rattle.durable.specs.declared.mount.Mount.{Mount}
 use Rattle.durable.specs.Losses.{losses_in}
@@ -35,7 +36,7 @@ invariant_of-result-clause-can_collect c =
     let mount = c.args.self in
     let avoided = c.in-Ok.avoided in
     let lt : avoided < mount.blocks = omega (arith, c.if-avoided-self.false) in
-    free_collects c.into_map-map.result.items mount.blocks mount.pages avoided lt (c.into_map-map.ensures.free (c.in-Ok.ensures.found lt))
+    closed_collects c.into_map-map.result.items mount.blocks mount.pages avoided lt (c.into_map-map.ensures.free (c.in-Ok.ensures.found lt))
 
 pub returns-clause-device : goal.returns-clause-device
 returns-clause-device c =
@@ -51,7 +52,7 @@ returns-clause-remounts c f acked begun noted is =
     let lt : avoided < mount.blocks = omega (arith, c.if-avoided-self.false) in
     remounted mount (all_noted mount.read_blocks (record { block = mount.block; page = mount.page }) c.requires) f acked begun noted is
     c.forget_trims.new.self.items needed _ avoided refl refl refl
-    c.into_map-map.ensures.size c.into_map-map.ensures.entries refl refl lt (c.into_map-map.ensures.free (c.in-Ok.ensures.found lt))
+    c.into_map-map.ensures.size c.into_map-map.ensures.entries nothing_open refl lt (c.into_map-map.ensures.free (c.in-Ok.ensures.found lt))
 
 pub returns-clause-drops : goal.returns-clause-drops
 returns-clause-drops c f noted s lt none =
@@ -106,7 +107,7 @@ returns-clause-whole c f acked begun noted is unharmed =
           c.into_map-map.ensures.entries c.into_map-map.ensures.stays
           (subst (λ (gs : List ℕ). (b : ℕ) → b < mount.blocks → IsFreeable gs kept b → IsFreeable gs kept avoided)
           c.deref-2.ensures.value c.in-Ok.ensures.first)
-          refl lt (c.into_map-map.ensures.free (c.in-Ok.ensures.found lt)),
+          nothing_open lt (c.into_map-map.ensures.free (c.in-Ok.ensures.found lt)),
       counted_losses mount kept c.losses-losses.result c.deref-3.result.now c.losses-losses.ensures c.deref-3.ensures.value
           ∙ quiet mount at_end f noted is.written kept needed array is.keeps.recovers unharmed.no_loss,
     )
