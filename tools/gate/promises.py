@@ -137,7 +137,8 @@ def wrong_shape(page, text, prose):
 
 def without_glossary(page, prose):
     """The first line with a word of the glossary, if neither it nor an earlier line links the glossary."""
-    number, line = next((it for it in enumerate(prose, 1) if "GLOSSARY.md" in it[1] or OF_GLOSSARY.search(it[1])), (0, "GLOSSARY.md"))
+    lines = (it for it in enumerate(prose, 1) if not it[1].startswith("#"))
+    number, line = next((it for it in lines if "GLOSSARY.md" in it[1] or OF_GLOSSARY.search(it[1])), (0, "GLOSSARY.md"))
     if "GLOSSARY.md" not in line:
         yield f"{page}:{number}: {OF_GLOSSARY.search(line)[0]} is a word of the glossary, which isn't linked yet"
 
@@ -150,7 +151,7 @@ def words_in(place):
 
 def wrong_code(page, code, known):
     """What a page names in code quotes and isn't there: a file, an item of a crate or of a module, or on some pages any word."""
-    places = [tree.TOP / code, tree.TOP / "crates" / code, tree.TOP / f"crates/{code}.antt"]
+    places = [tree.TOP / code, tree.TOP / "crates" / code, tree.TOP / f"crates/{code}.antt", (tree.TOP / page).parent / code]
     is_path = re.fullmatch(r"[\w.]+(/[\w.-]+)+", code) and "NAME" not in code and "out" not in code.split("/")
     yield from [f"no file {code}"] if is_path and not any(place.exists() for place in places) else []
     its = re.findall(r"(?<![\w:])([a-z]\w*)::(\w+)", code)
@@ -162,7 +163,7 @@ def wrong_code(page, code, known):
 def main(_):
     recorded = set(VERSION.findall(str(record.Record("refused", "must-fail").versions().values())))
     groups, known_words, wrong = public_calls(), words_of_sources(), [*twice_defined()]
-    for path in (path for place in ("*.md", "docs/*.md", "bench/*.md") for path in tree.TOP.glob(place)):
+    for path in (path for place in ("*.md", "docs/*.md", "bench/*.md", "crates/*/README.md") for path in tree.TOP.glob(place)):
         page, text = tree.relative(path), path.read_text()
         prose = re.sub(r"```.*?```", lambda block: "\n" * block[0].count("\n"), text, flags=re.S).splitlines()
         wrong += [*differing_copies(path), *wrong_shape(page, text, prose)]

@@ -43,6 +43,12 @@ class Promises(Small):
         for path, wrong in (("low::Room", ""), ("room::Room", ""), ("std::Hall", ""), ("room::Hall", "room has no Hall"), ("low::Hall", "low has no Hall")):
             self.assertEqual(list(promises.wrong_code("PAGE", path, set())), [wrong] if wrong else [], path)
 
+    def test_the_page_of_a_crate_names_its_files_from_there(self):
+        self.assertEqual(list(promises.wrong_code("crates/low/README.md", "src/room.rt", set())), [])
+        self.assertEqual(list(promises.wrong_code("crates/low/README.md", "src/hall.rt", set())), ["no file src/hall.rt"])
+        self.assertEqual(list(promises.without_glossary("PAGE", ["# `broom`", "", "A [broom](GLOSSARY.md) sweeps."])), [])
+        self.assertEqual(len(list(promises.without_glossary("PAGE", ["# `broom`", "", "A broom sweeps."]))), 1)
+
     def test_a_page_names_its_reader_first_and_is_no_longer_than_it_may_be(self):
         def wrong(page, text):
             return list(promises.wrong_shape(page, text, text.splitlines()))
