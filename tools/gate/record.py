@@ -17,7 +17,7 @@ from gate import said, tree
 Entry = namedtuple("Entry", "crate text told version")
 LINE = re.compile(r"(\S+) (\S+) (?:([0-9a-f]{16}) )?(.*)")
 # One of so many crates is tried anew, and of those whose proof alone takes many minutes one of so many times as many.
-TENTH, SLOW = 10, ("durable", "nand")
+TENTH, SLOW = 10, ("durable", "nand", "durable_exports", "exports", "player", "runs", "workers")
 
 
 def version():

@@ -40,8 +40,6 @@ for handle in handles.iter() :: the handles :: exports/shared/opening.rt are_clo
 for i in 0..count :: the sectors of a trim :: version_map/calls.rt VersionMap::clear
 for sector in 0..map.sectors() :: the sectors :: shared_nand/owning.rt Owner::load
 for _ in 0..tries :: the looks that the caller gives :: shared_nand/reading.rt read
-for sector in 0..map.sectors() :: the sectors :: shared_nand/owning.rt Owner::load
-for _ in 0..tries :: the looks that the caller gives :: shared_nand/reading.rt read
 """.strip().splitlines()
 # The calls of other crates and of closures, by the crate, with why they end. None of them takes a function or an iterator, or looks at a word without a step.
 CALLS = """
