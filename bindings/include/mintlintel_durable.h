@@ -217,6 +217,11 @@ uint32_t mintlintel_core_retire(struct mintlintel_core *core, uint32_t first, ui
  * least erased. */
 uint32_t mintlintel_core_erased(struct mintlintel_core *core, uint32_t block, uint32_t erases);
 
+/* From now on a block is open for what hosts write and another one for copies, where blocks are free: sectors that are written often cost fewer copies, and a
+ * write waits for few at a time. 0; 2 or 9. It is for flash that keeps each command that is done: after a power cut that loses some, what is left need not
+ * be a beginning of the history. */
+uint32_t mintlintel_core_keep_apart(struct mintlintel_core *core);
+
 /* What has succeeded since the mount: 0; 2 or 9. */
 uint32_t mintlintel_core_counts(struct mintlintel_core *core, struct mintlintel_totals *totals);
 

@@ -72,6 +72,7 @@ static int mount(const struct plain_page *call)
     CHECK(code == MINTLINTEL_DONE || (has_lost && code == MINTLINTEL_NO_BLOCK));
     if (code == MINTLINTEL_NO_BLOCK)
         return 0;
+    CHECK(!plain.keeps_apart || mintlintel_core_keep_apart(&core) == MINTLINTEL_DONE);
     plain_mount(&plain, &core);
     CHECK(mintlintel_core_losses(&core, &found) == MINTLINTEL_DONE && (has_lost || found == 0));
     tell_mount();
@@ -198,9 +199,12 @@ static void begin(const struct device *device, uint64_t run)
     plain.pages = device->pages;
     plain.sectors = device->sectors;
     plain.drops_trims = (int)(run / 2 % 2);
+    plain.keeps_apart = run / 4 % 2 && run % 4 != 3; /* where a page is lost the model may prefer another of two twins behind gaps */
     reserve = device->reserve;
     has_lost = 0;
     TELL("device %u %u %u %u %d\n", device->blocks, device->pages, device->sectors, device->reserve, plain.drops_trims);
+    if (plain.keeps_apart)
+        TELL("apart\n");
 }
 
 /* Calls on one device, until there were so many, or the loss of a page has left no block to free. */

@@ -12,12 +12,14 @@ enum { PLAIN_BLOCKS = 256, PLAIN_PAGES = 32, PLAIN_SECTORS = 2048 };
 /* What a page holds: a version of `count` sectors from `first` on, with a value or, where that is 0, none; or nothing, erased or torn. */
 struct plain_page { int has_version, is_erased; uint32_t first, count, value; uint64_t number; };
 
-/* The flash, and what the layer knows of it: of each sector its page or none, the next page of the open block, and the next number. */
+/* The flash, and what the layer knows of it: of each sector its page or none, the next pages of the blocks for hosts and for copies, and the next
+ * number. */
 struct plain {
     uint32_t blocks, read_blocks, pages, sectors; /* the first blocks are in use, and more are read */
     int drops_trims; /* a mount keeps no trim of sectors that no page has a value of */
+    int keeps_apart; /* a block is opened for hosts */
     struct plain_page flash[PLAIN_BLOCKS][PLAIN_PAGES];
-    struct plain_page *map[PLAIN_SECTORS], *open;
+    struct plain_page *map[PLAIN_SECTORS], *hosts, *copies;
     uint64_t number;
     struct mintlintel_totals totals;
 };
@@ -102,25 +104,52 @@ static void plain_mount(struct plain *plain, struct mintlintel_core *core)
     struct live live = live_of(plain);
     CHECK(fewest_beside(plain, &live, UINT32_MAX) == 0);
     plain->number = newest.any;
-    plain->open = NULL;
+    plain->hosts = plain->copies = NULL;
     plain->totals = (struct mintlintel_totals){0, 0, 0};
 }
 
-/* Whether a command may come next for sectors from this one on: an erase of a free block, if none is open; a program, if another block is free; and
- * otherwise a copy out of a block with the fewest live sectors. */
+/* Whether a block is in use, not open, and no sector has a page there. */
+static int is_free(const struct plain *plain, const struct live *live, uint32_t block)
+{
+    return block < plain->blocks && live->in[block] == 0 && block != block_of(plain, plain->hosts) && block != block_of(plain, plain->copies);
+}
+
+static uint32_t free_blocks(const struct plain *plain, const struct live *live)
+{
+    uint32_t free = 0;
+    for (uint32_t block = 0; block < plain->blocks; block++)
+        free += is_free(plain, live, block);
+    return free;
+}
+
+/* Whether an erase opens a block for hosts, and not for copies: if another block is free beside it. */
+static int opens_for_hosts(const struct plain *plain, const struct live *live)
+{
+    return plain->keeps_apart && !plain->hosts && (plain->copies || free_blocks(plain, live) > 1);
+}
+
+/* Whether a command may come next for sectors from this one on: an erase of a free block, beside another one, unless none is open; a program, if a
+ * block is free; or a copy out of a closed block. While none is open for hosts, there is a copy only if no block is free, and it is out of one with the
+ * fewest live sectors. */
 static int plain_allows(struct plain *plain, const struct mintlintel_command *command, uint32_t first)
 {
     struct live live = live_of(plain);
-    if (!plain->open)
-        return command->kind == ERASE && command->block < plain->blocks && live.in[command->block] == 0;
-    if (page_at(plain, command->block, command->page) != plain->open || !plain->open->is_erased)
+    uint32_t free = free_blocks(plain, &live);
+    if (command->kind == ERASE)
+        return is_free(plain, &live, command->block) && (plain->hosts || plain->copies ? plain->keeps_apart && free > 1 : 1)
+            && !(plain->hosts && plain->copies);
+    const struct plain_page *to = page_at(plain, command->block, command->page);
+    if (!to || !to->is_erased)
         return 0;
-    uint32_t fewest = fewest_beside(plain, &live, command->block);
-    if (fewest == 0)
-        return command->kind == PROGRAM && command->number == plain->number && command->sector == first;
+    if (command->kind == PROGRAM)
+        return to == (plain->hosts ? plain->hosts : plain->copies) && free > 0 && command->number == plain->number && command->sector == first;
     const struct plain_page *from = page_at(plain, command->from_block, command->from_page);
-    return command->kind == COPY && fewest < plain->pages && from && command->from_block < plain->blocks && command->from_block != command->block
-        && live.in[command->from_block] == fewest && command->sector < plain->sectors && plain->map[command->sector] == from;
+    if (to != plain->copies || !from || command->from_block >= plain->blocks || command->sector >= plain->sectors || plain->map[command->sector] != from)
+        return 0;
+    if (command->from_block == command->block || command->from_block == block_of(plain, plain->hosts))
+        return 0;
+    uint32_t count = live.in[command->from_block];
+    return plain->hosts || (free == 0 && count < plain->pages && count == fewest_beside(plain, &live, command->block));
 }
 
 /* What a command puts onto its page: the new version of a call's sectors, or that of the page which is copied. */
@@ -135,15 +164,16 @@ static struct plain_page put_by(struct plain *plain, const struct mintlintel_com
 static void plain_done(struct plain *plain, const struct mintlintel_command *command, struct plain_page call)
 {
     if (command->kind == ERASE) {
+        struct live live = live_of(plain);
+        *(opens_for_hosts(plain, &live) ? &plain->hosts : &plain->copies) = plain->flash[command->block];
         for (uint32_t page = 0; page < plain->pages; page++)
             plain->flash[command->block][page] = (struct plain_page){.is_erased = 1};
-        plain->open = plain->flash[command->block];
         plain->totals.erases++;
         return;
     }
-    struct plain_page *page = plain->open;
+    struct plain_page *page = page_at(plain, command->block, command->page);
     *page = put_by(plain, command, call);
-    plain->open = command->page + 1 < plain->pages ? page + 1 : NULL;
+    *(page == plain->hosts ? &plain->hosts : &plain->copies) = command->page + 1 < plain->pages ? page + 1 : NULL;
     if (command->kind == COPY) {
         plain->map[command->sector] = page;
         plain->totals.copies++;

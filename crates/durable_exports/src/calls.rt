@@ -368,6 +368,21 @@ pub extern "C" fn mintlintel_core_erased(
     })
 }
 
+/// From now on the layer keeps what hosts write apart from copies, where blocks are free.
+#[unsafe(no_mangle)]
+pub extern "C" fn mintlintel_core_keep_apart(alloc: Global, handle: &mut Handle) -> u32
+    ensures code { result ≡ code_of_layer (seat_of handle.old) (λ _. DONE) }
+    ensures same { seat_of handle.new ≡ seat_of handle.old }
+{
+    handle.typed().on(alloc, |seat| match seat {
+        Seat::Mounted(layer) => {
+            layer.core.keep_copies_apart();
+            DONE
+        }
+        Seat::Mounting(_) => WRONG_KIND,
+    })
+}
+
 /// What has succeeded since the mount.
 #[unsafe(no_mangle)]
 pub extern "C" fn mintlintel_core_counts(

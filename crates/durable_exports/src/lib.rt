@@ -14,8 +14,9 @@ mod slot;
 
 pub use calls::{
     mintlintel_core_close, mintlintel_core_counts, mintlintel_core_done, mintlintel_core_erased,
-    mintlintel_core_finish, mintlintel_core_losses, mintlintel_core_next, mintlintel_core_note,
-    mintlintel_core_open, mintlintel_core_open_over, mintlintel_core_page,
+    mintlintel_core_finish, mintlintel_core_keep_apart, mintlintel_core_losses,
+    mintlintel_core_next, mintlintel_core_note, mintlintel_core_open, mintlintel_core_open_over,
+    mintlintel_core_page,
 };
 pub use check::mintlintel_crc32c;
 pub use handle::Handle;
