@@ -86,7 +86,7 @@ class ThreeJobs(SimulateTest):
         self.check_row(row, 0, endurance=50)
         self.assertIn(f"{100 * float(row['endurance_used_worst']):.3g} %", done.lines[2])
         page = (self.out / "op-15/index.html").read_text()
-        self.assertIn("endurance 50</text>", page)
+        self.assertIn("endurance 50, far above</text>", page)
         self.assertIn("TBW", page)
 
     def test_tells_of_a_device_that_has_ended(self):
