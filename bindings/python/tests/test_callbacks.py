@@ -222,6 +222,8 @@ class Leaving(Device):
         self.fail("an open runs longer than that")
 
     def test_interrupt_is_raised_by_the_call(self):
+        # Python ignores the signal if what started it does, as a shell does for what runs in the background.
+        self.addCleanup(signal.signal, signal.SIGINT, signal.signal(signal.SIGINT, signal.default_int_handler))
         chip, numbers = Memory(self.pages), self.numbers
         with opened(chip) as device:
             chip.before = lambda name: signal.raise_signal(signal.SIGINT)
