@@ -1,3 +1,5 @@
+pub mod Driven
+pub mod Drives
 pub mod Histories
 pub mod Orders
 pub mod Steps
@@ -7,3 +9,4 @@ pub mod Readings
 pub mod Pages
 pub mod Chips
 pub mod Programs
+pub mod Openings

@@ -7,8 +7,7 @@ use Rattle.geometry.specs.Sectors.{Sector}
 use Rattle.geometry.specs.declared.page_addr.PageAddr.{PageAddr}
 use Rattle.durable.specs.declared.extent.Extent.{Extent}
 use Rattle.durable.specs.Flash.{Flash, PageContents, Erased, Torn, Version}
-use Rattle.durable.specs.Device.{Device, device_in}
-use Rattle.durable.specs.Mounting.{IsStampOf, page_on, next_in, after_in}
+use Rattle.durable.specs.Mounting.{IsStampOf, next_in}
 use Rattle.durable.specs.Collecting.{HasCapacity}
 use Rattle.durable.specs.declared.fault.MountFault.TheVariants as mount_fault
 use Rattle.durable.specs.declared.found.Stamp.{Stamp as Noted}
@@ -38,11 +37,6 @@ noted_at f b p Torn is reading reads = none_noted f b p reading reads (λ s m v 
 pub noted : (f : Flash) (b p : ℕ) (reading : Reading) → ReadsStamp (f b p) reading → IsStampOf f b p (noted_of reading)
 noted f b p reading reads = noted_at f b p (f b p) refl reading reads
 
--- the stamp of the page that comes next, as it is noted
-pub next_noted : (f : Flash) (next : Option PageAddr) (at : PageAddr) (reading : Reading) (told : Option Noted) → next ≡ Some at
-    → told ≡ noted_of reading → ReadsStamp (f at.block at.page) reading → IfSome next (λ a. IsStampOf f a.block a.page told)
-next_noted f next at reading told is noting reads = rw (is, noting) (noted f at.block at.page reading reads)
-
 bounded : (f : Flash) (n next b p : ℕ) (told : Option Noted) → NumbersBelow f n → next ≤ n → IsStampOf f b p told → number_above next told ≤ n
 bounded f n next b p None below le is = le
 bounded f n next b p (Some stamp) below le is = omega (arith, le, below b p stamp.extent stamp.number is.0 is.1)
@@ -54,50 +48,8 @@ next_bounded f n next new here at told is known number below le =
     let stamp : IsStampOf f at.block at.page told = subst (λ (x : Option PageAddr). IfSome x (λ a. IsStampOf f a.block a.page told)) is known in
     omega (arith, number, bounded f n next at.block at.page told below le stamp)
 
--- how many pages are still to be read, from this one on
-abbrev pub unread : ℕ → ℕ → Option PageAddr → ℕ
-unread blocks pages None = 0
-unread blocks pages (Some at) = (blocks - at.block) * pages - at.page
-
-abbrev pub to_read : Mount → ℕ
-to_read mount = unread mount.read_blocks mount.pages (next_in mount)
-
-one_block : (blocks block pages : ℕ) → block < blocks → (blocks - block) * pages ≡ (blocks - (block + 1)) * pages + pages
+pub one_block : (blocks block pages : ℕ) → block < blocks → (blocks - block) * pages ≡ (blocks - (block + 1)) * pages + pages
 one_block blocks block pages lt = ap (λ (k : ℕ). k * pages) {x = blocks - block} {y = (blocks - (block + 1)) + 1} (omega arith) ∙ grind arith
-
-unread_there : (blocks pages : ℕ) (at : PageAddr) → unread blocks pages (page_on blocks at) ≤ (blocks - at.block) * pages - at.page
-unread_there blocks pages at = ⊎_elim
-    (λ under. let is : page_on blocks at ≡ Some at = grind (arith, nat_tests) in omega (arith, ap (unread blocks pages) is))
-    (λ past. let is : page_on blocks at ≡ None = grind (arith, nat_tests) in omega (arith, ap (unread blocks pages) is))
-    (cases_lt at.block blocks)
-
--- the next page leaves fewer
-pub fewer : (mount : Mount) → mount.block < mount.read_blocks
-    → unread mount.read_blocks mount.pages (after_in mount) < (mount.read_blocks - mount.block) * mount.pages - mount.page
-fewer mount lt = ⊎_elim
-    (λ within.
-    let next : PageAddr = record { block = mount.block; page = mount.page + 1 } in
-    let is : after_in mount ≡ page_on mount.read_blocks next = grind (arith, nat_tests) in
-    omega (
-      arith,
-      ap (unread mount.read_blocks mount.pages) is,
-      unread_there mount.read_blocks mount.pages next,
-      within,
-      one_block mount.read_blocks mount.block
-          mount.pages lt,
-    ))
-    (λ past.
-    let next : PageAddr = record { block = mount.block + 1; page = 0 } in
-    let is : after_in mount ≡ page_on mount.read_blocks next = grind (arith, nat_tests) in
-    omega (
-      arith,
-      ap (unread mount.read_blocks mount.pages) is,
-      unread_there mount.read_blocks mount.pages next,
-      mount.page_within,
-      one_block mount.read_blocks mount.block
-          mount.pages lt,
-    ))
-    (cases_lt (mount.page + 1) mount.pages)
 
 -- the page that comes next is the mount's, and lies on the device
 some_same : (a b : PageAddr) → Some a ≡ Some b → a ≡ b
@@ -115,14 +67,6 @@ next_is mount at is = ⊎_elim
     (under, some_same at here (sym is ∙ there)))
     (λ past. let none : next_in mount ≡ None = grind (arith, nat_tests) in absurd (none_some at (sym none ∙ is)))
     (cases_lt mount.block mount.read_blocks)
-
-pub falls : (old new : Mount) (at : PageAddr) → next_in old ≡ Some at → device_in new ≡ device_in old → next_in new ≡ after_in old → to_read new < to_read old
-falls old new at is device next =
-    let here = next_is old at is in
-    let now : to_read new ≡ unread old.read_blocks old.pages (after_in old) =
-    ap (λ (d : Device). unread d.read_blocks d.pages (next_in new)) device ∙ ap (unread old.read_blocks old.pages) next in
-    let was : to_read old ≡ (old.read_blocks - old.block) * old.pages - old.page = ap (unread old.read_blocks old.pages) (is ∙ ap Some here.1) in
-    omega (arith, now, was, fewer old here.0)
 
 -- a device with room has blocks
 pub has_blocks : (sectors blocks pages : ℕ) → HasCapacity sectors blocks pages → 0 < blocks

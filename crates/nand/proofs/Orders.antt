@@ -426,23 +426,6 @@ module _ (f : Flash) (shape : Shape) (bad : List Bool) (numbers : List ℕ) (sec
         blank = blank;
       }
 
-  pub mountable : (updates : List Update) → IsOpenable f shape bad sectors updates
-      → IsRecoverable (numbered numbers f) (device_on shape bad sectors) updates updates
-  mountable updates opens =
-      let device = device_on shape bad sectors in
-      let order = anew numbers bad shape.blocks (most_used shape sectors) is f in
-      let there = readable_renumbered f (numbered numbers f) device device updates updates order (refl, refl, refl) opens.readable in
-      let free = opens.frees in
-      record {
-        keeps = there.keeps;
-        written = there.written;
-        spare = (
-          is.to free.0,
-          in_use_first numbers bad shape.blocks (most_used shape sectors) is free.0 free.1 free.2.0 free.2.1,
-          duplicated_there f (numbered numbers f) shape.blocks sectors order is.put free.0 free.3,
-        );
-      }
-
   pub written_in_order : IsWrittenOn (device_on shape bad sectors) f → IsWrittenOn (device_on shape bad sectors) (numbered numbers f)
   written_in_order written = let device = device_on shape bad sectors in
       written_renumbered f (numbered numbers f) shape.blocks (anew numbers bad shape.blocks (most_used shape sectors) is f) device device

@@ -8,3 +8,6 @@ pub mod Attempts
 pub mod Cells
 pub mod Chip
 pub mod Histories
+pub mod Phases
+pub mod Driving
+pub mod Opening

@@ -20,9 +20,9 @@ ghost use Rattle.nand.specs.declared.failure.Failure.TheVariants as failure;
 ghost use Rattle.nand.specs.declared.failure.OpenFailure.TheVariants as why;
 ghost use Rattle.nand.specs.declared.flash.Fault.TheVariants as fault;
 
+use crate::asked::open_chip;
 use crate::failure::{Failure, OpenFailure};
 use crate::flash::{Nand, PowerGone, Reading, Tally};
-use crate::mounting::mount;
 use crate::numbers::{chip_block, chip_page};
 use durable::{Core, Extent};
 use geometry::{Got, Was};
@@ -130,12 +130,12 @@ impl<N: Nand> Durable<N> {
             → N.faults refused.nand fault.PowerGone ≢ N.faults nand fault.PowerGone) }
     {
         let mut nand = nand;
-        match mount(alloc, &mut nand, sectors) {
-            Ok(mounted) => Ok(Durable {
+        match open_chip(alloc, &mut nand, sectors) {
+            Ok(opened) => Ok(Durable {
                 nand,
-                numbers: mounted.numbers,
-                core: mounted.core,
-                good: mounted.good,
+                numbers: opened.numbers,
+                core: opened.core,
+                good: opened.good,
                 mounted: true,
             }),
             Err(why) => Err(NotOpened { nand, why }),
