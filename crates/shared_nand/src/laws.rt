@@ -1,7 +1,9 @@
 //! Laws of what readers see. Each function has no code: its clauses say where a definition holds and where not.
-ghost use Rattle.std.specs.Prelude.{◌≡◌, ◌+◌, [], ◌∷◌, None, Some, ℕ, List};
+ghost use Rattle.std.specs.Prelude.{◌≡◌, ◌+◌, [], ◌∷◌, None, Some, true, false, ℕ, List};
 ghost use Rattle.geometry.specs.Sectors.{Sector};
 ghost use Rattle.shared_nand.specs.Reads.{ReadsVersion, ReadsValue};
+ghost use Rattle.shared_nand.specs.Search.{IfRead, is_sought, NamesVersion};
+ghost use Rattle.shared_nand.specs.declared.search.Step.TheVariants as step;
 ghost use Rattle.shared_nand.specs.Shown.{value_numbered, sector_shown, ShowsArray, with_value, with_trimmed, HasPublished};
 ghost use Rattle.shared_nand.specs.Shown.{AreGivenBelow, number_found, KeepsBytes};
 ghost use Rattle.version_map.specs.declared.calls.Place.{Place as Where};
@@ -54,4 +56,20 @@ pub fn changes()
     ensures nothing { ¬ (HasPublished (λ n. n ∷ []) [] [] 2 (Some (9 ∷ []))) }
     ensures other_value { ¬ (HasPublished (λ n. n ∷ []) [] ((2, 8) ∷ []) 2 (Some (9 ∷ []))) }
     ensures other_sector { ¬ (HasPublished (λ n. n ∷ []) [] ((3, 9) ∷ []) 2 (Some (9 ∷ []))) }
+{}
+
+/// A search has found version 9 of sector 2.
+pub fn searches()
+    ensures read { (place : Where) → IfRead (step.Read place) (λ p. p ≡ place) }
+    ensures says { (place : Where) → ¬ (IfRead (step.Read place) (λ p. ⊥)) }
+    ensures not_read { IfRead step.Empty (λ p. ⊥) × IfRead step.Lost (λ p. ⊥)
+        × IfRead step.Unsettled (λ p. ⊥) }
+    ensures sought { (place : Where) → place.number ≡ 9 → is_sought 9 (Some place) ≡ true }
+    ensures other { (place : Where) → place.number ≡ 9 → is_sought 8 (Some place) ≡ false }
+    ensures later { (place : Where) → place.number ≡ 9 → is_sought 10 (Some place) ≡ false }
+    ensures none { is_sought 0 None ≡ false }
+    ensures names { (place : Where) → place.number ≡ 9 → NamesVersion place ((2, 9) ∷ []) 2 }
+    ensures names_another { (place : Where) → place.number ≡ 8
+        → ¬ (NamesVersion place ((2, 9) ∷ []) 2) }
+    ensures names_none { (place : Where) → place.number ≡ 0 → ¬ (NamesVersion place [] 2) }
 {}

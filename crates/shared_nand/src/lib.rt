@@ -8,9 +8,11 @@ mod layer;
 mod owner;
 mod owning;
 mod reading;
+mod search;
 
 pub use flash::{PowerGone, SharedNand};
 pub use layer::Layer;
 pub use owner::Owner;
 pub use owning::OwnerFailure;
 pub use reading::{ReadFault, read};
+pub use search::{Search, Step};

@@ -5,7 +5,8 @@ ghost use Rattle.shared_nand.specs.Reads.{ReadsVersion};
 ghost use Rattle.shared_nand.specs.declared.reading.ReadFault.TheVariants.{Lost as lost, Unsettled as unsettled};
 
 use crate::flash::{PowerGone, SharedNand};
-use version_map::{Place, Reader, VersionMap};
+use crate::search::{Search, Step};
+use version_map::{Reader, VersionMap};
 
 /// Why a read gave nothing.
 #[derive(Clone, Copy, Debug, PartialEq, Eq)]
@@ -46,24 +47,23 @@ pub fn read<N: SharedNand>(
     ensures reader { IsReaderOf map.now reader.new }
     ensures size { length out.new ≡ N.page_bytes nand.now }
 {
-    let mut last: Option<Place> = None;
+    let mut search = Search::new(sector, tries);
     for _ in 0..tries {
-        let Some(place) = map.look(reader, sector) else {
-            return Ok(None);
+        let place = match search.look(map, reader) {
+            Step::Read(place) => place,
+            Step::Empty => return Ok(None),
+            Step::Lost => return Err(ReadFault::Lost),
+            Step::Unsettled => return Err(ReadFault::Unsettled),
         };
-        if last == Some(place) {
-            return Err(ReadFault::Lost);
-        }
         match nand.read(place.page, out) {
             Ok(Some((number, token))) => {
-                if number == place.number {
+                if search.fits(number) {
                     return Ok(Some(token));
                 }
             }
             Ok(None) => {}
             Err(PowerGone) => return Err(ReadFault::PowerGone),
         }
-        last = Some(place);
     }
     Err(ReadFault::Unsettled)
 }

@@ -1,0 +1,4 @@
+pub mod Handles
+pub mod Maps
+pub mod Searches
+pub mod Seekers
