@@ -24,7 +24,7 @@ use Rattle.durable_exports.specs.declared.codes.TheConstants.{OTHER_DEVICE, OUT_
 use Rattle.durable_exports.specs.declared.layer.Layer.{Layer}
 use Rattle.durable_exports.specs.declared.reports.CommandReport.{CommandReport}
 use Rattle.durable_exports.specs.declared.seat.Seat.{Seat}
-use Rattle.durable_exports.specs.declared.seat.Seat.TheVariants.{Mounting, Mounted}
+use Rattle.durable_exports.specs.declared.seat.Seat.TheVariants.{Mounting, Mounted, Driving}
 use Rattle.durable_exports.specs.Reports.{report_of, no_totals, totals_with}
 
 -- the device of a layer
@@ -40,36 +40,42 @@ abbrev pub code_of_mount : Option Seat → (Mount → ℕ) → ℕ
 code_of_mount None code = CLOSED
 code_of_mount (Some (Mounting m)) code = code m
 code_of_mount (Some (Mounted l)) code = WRONG_KIND
+code_of_mount (Some (Driving d)) code = WRONG_KIND
 
 -- the code of a call for a layer, which a mount under way refuses
 abbrev pub code_of_layer : Option Seat → (Layer → ℕ) → ℕ
 code_of_layer None code = CLOSED
 code_of_layer (Some (Mounting m)) code = WRONG_KIND
 code_of_layer (Some (Mounted l)) code = code l
+code_of_layer (Some (Driving d)) code = WRONG_KIND
 
 -- this holds of the mount under way, if there is one
 abbrev pub OfMount : Option Seat → (Mount → Type 0) → Type 0
 OfMount None says = Unit {0}
 OfMount (Some (Mounting m)) says = says m
 OfMount (Some (Mounted l)) says = Unit {0}
+OfMount (Some (Driving d)) says = Unit {0}
 
 -- this holds of the layer, if there is one
 abbrev pub OfLayer : Option Seat → (Layer → Type 0) → Type 0
 OfLayer None says = Unit {0}
 OfLayer (Some (Mounting m)) says = Unit {0}
 OfLayer (Some (Mounted l)) says = says l
+OfLayer (Some (Driving d)) says = Unit {0}
 
 -- there is a mount under way, and this holds of it
 abbrev pub HasMount : Option Seat → (Mount → Type 0) → Type 0
 HasMount None says = ⊥
 HasMount (Some (Mounting m)) says = says m
 HasMount (Some (Mounted l)) says = ⊥
+HasMount (Some (Driving d)) says = ⊥
 
 -- there is a layer, and this holds of it
 abbrev pub HasLayer : Option Seat → (Layer → Type 0) → Type 0
 HasLayer None says = ⊥
 HasLayer (Some (Mounting m)) says = ⊥
 HasLayer (Some (Mounted l)) says = says l
+HasLayer (Some (Driving d)) says = ⊥
 
 -- the code of an open: whether the handle is closed, then whether the sectors have room, and then whether there is memory, which no state says
 abbrev pub begin_code : Option Seat → Bool → Bool → ℕ

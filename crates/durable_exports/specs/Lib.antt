@@ -1,4 +1,5 @@
 -- What public contracts rest on.
 pub mod Calls
 pub mod Reports
+pub mod Driving
 pub mod Handles

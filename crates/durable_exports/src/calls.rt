@@ -156,7 +156,7 @@ fn refuse(seat: &Seat) -> u32
 {
     match seat {
         Seat::Mounting(mount) => mounts::refuse(mount),
-        Seat::Mounted(_) => WRONG_KIND,
+        Seat::Mounted(_) | Seat::Driving(_) => WRONG_KIND,
     }
 }
 
@@ -171,7 +171,7 @@ fn note(seat: &mut Seat, stamp: Option<Stamp>) -> u32
 {
     match seat {
         Seat::Mounting(mount) => mounts::note(mount, stamp),
-        Seat::Mounted(_) => WRONG_KIND,
+        Seat::Mounted(_) | Seat::Driving(_) => WRONG_KIND,
     }
 }
 
@@ -199,7 +199,7 @@ pub extern "C" fn mintlintel_core_finish(alloc: Global, handle: &mut Handle) -> 
                 return OUT_OF_ORDER;
             }
         }
-        Seat::Mounted(_) => {
+        Seat::Mounted(_) | Seat::Driving(_) => {
             handle.put(seat);
             return WRONG_KIND;
         }
@@ -250,7 +250,7 @@ fn page(seat: &Seat, sector: u32, out: &mut PlaceReport) -> u32
 {
     match seat {
         Seat::Mounted(layer) => layer.page(sector, out),
-        Seat::Mounting(_) => WRONG_KIND,
+        Seat::Mounting(_) | Seat::Driving(_) => WRONG_KIND,
     }
 }
 
@@ -277,7 +277,7 @@ pub extern "C" fn mintlintel_core_next(
 {
     handle.typed().on_with(alloc, out, |seat, out| match seat {
         Seat::Mounted(layer) => layer.next(Extent { first, count }, out),
-        Seat::Mounting(_) => WRONG_KIND,
+        Seat::Mounting(_) | Seat::Driving(_) => WRONG_KIND,
     })
 }
 
@@ -302,7 +302,7 @@ pub extern "C" fn mintlintel_core_done(
     let command = *command;
     handle.typed().on(alloc, |seat| match seat {
         Seat::Mounted(layer) => layer.done(Extent { first, count }, command),
-        Seat::Mounting(_) => WRONG_KIND,
+        Seat::Mounting(_) | Seat::Driving(_) => WRONG_KIND,
     })
 }
 
@@ -344,7 +344,7 @@ fn retire(seat: &mut Seat, extent: Extent, command: CommandReport, left: bool, s
 {
     match seat {
         Seat::Mounted(layer) => layer.retire(extent, command, left, spare),
-        Seat::Mounting(_) => WRONG_KIND,
+        Seat::Mounting(_) | Seat::Driving(_) => WRONG_KIND,
     }
 }
 
@@ -364,7 +364,7 @@ pub extern "C" fn mintlintel_core_erased(
             layer.core.erased_before(block, erases);
             DONE
         }
-        Seat::Mounting(_) => WRONG_KIND,
+        Seat::Mounting(_) | Seat::Driving(_) => WRONG_KIND,
     })
 }
 
@@ -379,7 +379,7 @@ pub extern "C" fn mintlintel_core_keep_apart(alloc: Global, handle: &mut Handle)
             layer.core.keep_copies_apart();
             DONE
         }
-        Seat::Mounting(_) => WRONG_KIND,
+        Seat::Mounting(_) | Seat::Driving(_) => WRONG_KIND,
     })
 }
 
@@ -400,7 +400,7 @@ pub extern "C" fn mintlintel_core_counts(
             *out = layer.totals;
             DONE
         }
-        Seat::Mounting(_) => WRONG_KIND,
+        Seat::Mounting(_) | Seat::Driving(_) => WRONG_KIND,
     })
 }
 
@@ -417,7 +417,7 @@ pub extern "C" fn mintlintel_core_losses(alloc: Global, handle: &mut Handle, out
             *out = layer.core.losses();
             DONE
         }
-        Seat::Mounting(_) => WRONG_KIND,
+        Seat::Mounting(_) | Seat::Driving(_) => WRONG_KIND,
     })
 }
 

@@ -16,6 +16,10 @@ pub const NO_BLOCK: u32 = 7;
 pub const ALREADY_OPEN: u32 = 8;
 /// The handle is of another kind: a mount under way, or a mounted layer.
 pub const WRONG_KIND: u32 = 9;
+/// A command has failed, and no block was in reserve: the device is only read.
+pub const EXHAUSTED: u32 = 27;
+/// The power is gone.
+pub const POWER_GONE: u32 = 28;
 /// A stamp is not of this device.
 pub const OTHER_DEVICE: u32 = 30;
 /// The numbers of versions have run out.

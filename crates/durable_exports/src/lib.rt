@@ -4,6 +4,8 @@
 mod calls;
 mod check;
 mod codes;
+mod drives;
+mod driving;
 mod handle;
 mod laws;
 mod layer;
@@ -19,7 +21,12 @@ pub use calls::{
     mintlintel_core_page,
 };
 pub use check::mintlintel_crc32c;
+pub use driving::{
+    mintlintel_driver_begin, mintlintel_driver_done, mintlintel_driver_found,
+    mintlintel_driver_next, mintlintel_driver_open, mintlintel_driver_page,
+    mintlintel_driver_reserve, mintlintel_driver_result,
+};
 pub use handle::Handle;
 pub use layer::Layer;
-pub use reports::{CommandReport, PlaceReport, Totals};
+pub use reports::{CommandReport, PlaceReport, StepReport, Totals};
 pub use seat::Seat;
