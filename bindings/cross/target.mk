@@ -63,7 +63,7 @@ ATOMIC_thumbv6m := '-D__atomic_load_n(at,order)=(*(at))'
 # Enumerations are as large as in objects of arm-none-eabi-gcc. No struct or call of a header has one.
 ENUMS := $(if $(filter thumb%,$(TARGET)),-fshort-enums)
 WORDS := $(WORDS_$(TARGET)) $(OPTIMIZE) -ffunction-sections -fdata-sections
-BARE := $(addprefix src/,durable.c given.c room.c torn.c stamp.c crc.c limits.c) cross/memory.c
+BARE := $(addprefix src/,durable.c opening.c given.c room.c torn.c stamp.c crc.c limits.c) cross/memory.c
 BARE_COMPILE := $(BARE_CC) $(WORDS) -std=c11 -ffreestanding -fno-builtin $(ENUMS) $(ATOMIC_$(TARGET)) -g $(ANYWHERE) -Wall -Wextra -Werror -Icross/include -Iinclude -Isrc -c
 
 %/$(TARGET)/core.o: %/module/durable_exports.ll cross/narrow cross/narrow.ll cross/target.mk

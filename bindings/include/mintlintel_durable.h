@@ -13,8 +13,9 @@
  * it is proved.
  * An open refuses flash of which pages have become unreadable, as far as it shows that: see mintlintel_durable_open_despite_losses.
  *
- * Which command comes next, and what a mount makes of the stamps, is proved (`mintlintel_core_..`, at the end). The calls before it are plain C
- * that performs these commands, and not proved. For all of them holds what mintlintel.h says of handles, pointers and the allocator. */
+ * Which step comes next, also after a command that has failed, and what a mount makes of the stamps, is proved (`mintlintel_core_..` and
+ * `mintlintel_driver_..`, at the end). The calls before them are plain C that performs these steps, and not proved. For all of them holds what
+ * mintlintel.h says of handles, pointers and the allocator. */
 #ifndef MINTLINTEL_DURABLE_H
 #define MINTLINTEL_DURABLE_H
 
@@ -34,6 +35,8 @@ enum mintlintel_durable_code {
     MINTLINTEL_UNREADABLE = 33,    /* the sector's page can't be read, and no older one is given for it */
     MINTLINTEL_NO_ROOM = 34,       /* bad blocks have left too few blocks for the sectors */
     MINTLINTEL_PAGES_LOST = 35,    /* pages have become unreadable, and older versions may stand for them: see ..open_despite_losses */
+    MINTLINTEL_UNSETTLED = 36,     /* a reader: each page that it read no longer had the sector's version, and its looks are used up; read again */
+    MINTLINTEL_READ_PAGE = 37,     /* a search of a map: a page is to be read */
     MINTLINTEL_NO_FILE = 40,       /* an image: the file can't be opened or made; errno says why */
     MINTLINTEL_IN_USE = 41,        /* an image: another handle has it open */
     MINTLINTEL_NOT_AN_IMAGE = 42,  /* an image: the file is none, or its head is damaged */
@@ -140,8 +143,8 @@ uint32_t mintlintel_durable_read(struct mintlintel_durable *device, uint32_t sec
 
 /* Writes a page to a sector: 0 or 1 for what the sector was; 2, 3 or 4; 27, 28 or 31. After a block has failed, the call goes on elsewhere; then it moves
  * what is needed out of the block, and marks it. The sectors of pages that can't be read there are lost: their reads return 33. While blocks are in
- * reserve this costs what the block holds. With the last of them, and without one, the call mounts the device without the block: it takes as long as an
- * open, and allocates as much for that time; 6 if there is no memory for it, and then each call returns 6 until the device is opened again. Where there
+ * reserve this costs what the block holds. Without one, and once the last one is used, the call mounts the device: it takes as long as an open, and
+ * allocates as much for that time; 6 if there is no memory for it, and then each call returns 6 until the device is opened again. Where there
  * is no room without the block, this call or the next one, and each write or trim after it, return 27, and reads go on. After 27 and 28 the sector has
  * this page or what it had before: the next read or open says which. If such a mount finds losses, each call returns 35 until the device is opened again,
  * unless it was opened despite losses. */
@@ -228,6 +231,42 @@ uint32_t mintlintel_core_counts(struct mintlintel_core *core, struct mintlintel_
 /* How many losses the mount has found: pages that were noted with no version, before a version in a block that has a newest version which no block
  * without such a page has: 0; 2 or 9. */
 uint32_t mintlintel_core_losses(struct mintlintel_core *core, uint64_t *losses);
+
+/* ---- The driver, proved: it says which step a device does next with its chip, and performs none ---- */
+
+/* A step: kind 1 programs page `page` of `block` with a stamp of `count` sectors, `first` and those behind it, and of this number: with the caller's bytes
+ * if `value` is 1, those of (from_block, from_page) if it is 2, a page that a step of this call has read; none of a trim if it is 3; and with 4 none, since
+ * they are lost. 2 copies the page of sector `first` from (from_block, from_page) to (block, page), with its stamp. 3 erases `block`. 4 reads a page whole.
+ * 5 marks `block` bad, in which nothing is needed. 0 is no step: the call has ended. What a step doesn't name is 0. Blocks are the chip's. */
+struct mintlintel_step { uint32_t kind, value, first, count, from_block, from_page, block, page; uint64_t number; };
+
+/* The mounted core becomes a driver. numbers[n] is the chip's block of the core's number n; `good` of them are in use or in reserve, and the others bad. 0; 2
+ * or 9; 7 unless `good` is from the number of blocks in use to `count`. With 6 the handle is closed. */
+uint32_t mintlintel_driver_open(struct mintlintel_core *driver, const uint32_t *numbers, size_t count, uint32_t good);
+
+/* Begins a write of a sector, or with `trimmed` a trim of `count` from `first` on: 0 with the first step; 2, 3 or 9; 27 if a block has failed and none was in
+ * reserve; 28 if the power is gone; 31 if the numbers have run out; 32 while a call is under way. What it refuses changes nothing. */
+uint32_t mintlintel_driver_begin(struct mintlintel_core *driver, uint32_t first, uint32_t count, uint32_t trimmed, struct mintlintel_step *step);
+
+/* The step that comes next: 0; 2 or 9. It changes nothing. */
+uint32_t mintlintel_driver_next(struct mintlintel_core *driver, struct mintlintel_step *step);
+
+/* The step that came next has ended: `answer` is 0 if it was done, 1 if it has failed, and with another one the power is gone. 0 with the step that comes
+ * next now; 2 or 9. */
+uint32_t mintlintel_driver_done(struct mintlintel_core *driver, uint32_t answer, struct mintlintel_step *step);
+
+/* The same of a step that reads: with has_version 0 it has found no version, and with 1 or 2 one with its sectors and its number, with 2 that of a trim. */
+uint32_t mintlintel_driver_found(struct mintlintel_core *driver, uint32_t has_version, uint32_t first, uint32_t count, uint64_t number,
+                                 struct mintlintel_step *step);
+
+/* How the last call has ended: 0 if its sectors have the new version; 27, 28 or 31 as of a begin; 32 while it is under way; 2 or 9. */
+uint32_t mintlintel_driver_result(struct mintlintel_core *driver);
+
+/* The chip's page that has the sector's newest version, a value or a trim: 1 with its place; 0 if none has, or the mount has kept no trim; 2, 3 or 9. */
+uint32_t mintlintel_driver_page(struct mintlintel_core *driver, uint32_t sector, struct mintlintel_place *place);
+
+/* How many blocks are in reserve: so many may fail before the device is only read. 0; 2 or 9. */
+uint32_t mintlintel_driver_reserve(struct mintlintel_core *driver, uint32_t *reserve);
 
 /* Frees the memory. A closed handle stays closed. */
 void mintlintel_core_close(struct mintlintel_core *core);

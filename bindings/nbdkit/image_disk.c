@@ -6,6 +6,7 @@
 #include <inttypes.h>
 #include <nbdkit-plugin.h>
 #include <sched.h>
+#include <stdatomic.h>
 #include <stdlib.h>
 #include <string.h>
 
@@ -100,13 +101,38 @@ int image_disk_open(struct image_disk *disk, struct options *options) {
     return -1;
 }
 
+// Whether reads have to be in order with all else: commands take time, or pages can't be read.
+static int reads_in_turn(const struct image_disk *disk) {
+    return disk->options->part.read > 0 || disk->unreadable.words;
+}
+
+// Opens the readers that are taken, as far as the device has some, and gives them back.
+static void open_readers(struct image_disk *disk) {
+    for (uint32_t i = 0; i < MOST_READERS; i++) {
+        if (!reads_in_turn(disk))
+            mintlintel_reader_open(&disk->readers[i].reader, &disk->image.device);
+        atomic_store(&disk->readers[i].is_taken, 0);
+    }
+}
+
+// Closes them, once none of them reads.
+static void close_readers(struct image_disk *disk) {
+    for (uint32_t i = 0; i < MOST_READERS; i++) {
+        while (atomic_exchange(&disk->readers[i].is_taken, 1))
+            sched_yield();
+        mintlintel_reader_close(&disk->readers[i].reader);
+    }
+}
+
 // nbdkit has become its own child by now, if it is in the background.
 void image_disk_start(struct image_disk *disk) {
     mtl_image_take_over(&disk->image);
+    open_readers(disk);
     chip_start(&disk->chip);
 }
 
 static void close_image(struct image_disk *disk) {
+    close_readers(disk);
     if (mintlintel_image_close(&disk->image) != MINTLINTEL_DONE)
         nbdkit_error("image=%s wasn't closed well: %s", disk->options->image, strerror(errno));
     pthread_mutex_destroy(&disk->mutex);
@@ -151,9 +177,14 @@ static int fail_worn(struct image_disk *disk) {
     return -1;
 }
 
-// Whether a call that has returned this code can be made once more.
+// Whether a call that has returned this code can be made once more. The device is closed and opened for that, and its readers with it.
 static int goes_on(struct image_disk *disk, uint32_t code) {
-    return code == MINTLINTEL_EXHAUSTED && chip_mount_again(&disk->chip, &disk->image.device);
+    if (code != MINTLINTEL_EXHAUSTED)
+        return 0;
+    close_readers(disk);
+    int result = chip_mount_again(&disk->chip, &disk->image.device);
+    open_readers(disk);
+    return result;
 }
 
 // The result of a change that has returned this code.
@@ -269,61 +300,39 @@ static void end_turn(struct image_disk *disk) {
     begin_change(disk);
 }
 
-// ---- Reads without the lock: it is held only while the pages are looked up.
+// ---- Reads without a lock, by readers. Each request takes one; while it has it, it waits for nobody.
 
-// Whether reads have to be in order with all else: commands take time, or pages can't be read.
-static int reads_in_turn(const struct image_disk *disk) {
-    return disk->options->part.read > 0 || disk->unreadable.words;
-}
-
-// Finds where the pages of some sectors are, in runs: how many of these, or 0 if each call is refused.
-static uint32_t find_runs(struct image_disk *disk, uint32_t sector, uint32_t count, struct mtl_run *runs, uint8_t *is_empty) {
-    uint32_t found = 0;
-    pthread_mutex_lock(&disk->mutex);
-    for (uint32_t done = 0; done < count; done += runs[found++].count) {
-        uint32_t code = mtl_image_find(&disk->image, sector + done, count - done, &runs[found]);
-        if (code > MINTLINTEL_WRITTEN) {
-            found = 0;
-            break;
-        }
-        is_empty[found] = code == MINTLINTEL_EMPTY;
-    }
-    disk->reads += found ? count : 0;
-    pthread_mutex_unlock(&disk->mutex);
-    return found;
-}
-
-// These pages have to be read under the lock, and are counted there.
-static int read_again(struct image_disk *disk, uint32_t count) {
-    pthread_mutex_lock(&disk->mutex);
-    disk->reads -= count;
-    pthread_mutex_unlock(&disk->mutex);
-    return 0;
-}
-
-// Reads whole pages, at most those of a turn: 1, or 0 if that has to be done under the lock.
-static int read_beside(struct image_disk *disk, uint8_t *to, uint32_t sector, uint32_t count) {
-    struct mtl_run runs[PAGES_OF_A_TURN];
-    uint8_t is_empty[PAGES_OF_A_TURN];
-    uint32_t found = find_runs(disk, sector, count, runs, is_empty);
-    for (uint32_t i = 0; i < found; i++) {
-        size_t bytes = (size_t) runs[i].count * disk->options->page;
-        if (is_empty[i])
-            memset(to, 0, bytes);
-        else if (!mtl_image_read_run(&disk->image, &runs[i], to))
-            return read_again(disk, count);
-        to += bytes;
-    }
-    return found > 0;
-}
-
-// Reads what comes next of a request as far as it can: 1 if it has read some whole pages.
-static int read_ahead(struct image_disk *disk, uint8_t *to, struct range *range) {
-    uint32_t page = range->page, pages = range->count / page, count = pages < PAGES_OF_A_TURN ? pages : PAGES_OF_A_TURN;
-    if (count == 0 || range->offset % page != 0 || reads_in_turn(disk) || !read_beside(disk, to, (uint32_t) (range->offset / page), count))
+// Reads whole pages, at most those of a turn: how many of them, from the first on. What is left has to be read under the lock.
+static uint32_t read_beside(struct image_disk *disk, uint8_t *to, uint32_t sector, uint32_t count) {
+    uint32_t i = 0;
+    while (i < MOST_READERS && atomic_exchange(&disk->readers[i].is_taken, 1))
+        i++;
+    if (i == MOST_READERS)
         return 0;
-    range->offset += (uint64_t) count * page;
-    range->count -= count * page;
+    uint32_t done = mtl_reader_read_run(&disk->readers[i].reader, sector, count, to);
+    atomic_store(&disk->readers[i].is_taken, 0);
+    disk->reads += done;
+    return done;
+}
+
+// Reads what comes next of a request as far as it can, whole pages or a part of one: 1 if it has read something.
+static int read_ahead(struct image_disk *disk, uint8_t *to, struct range *range) {
+    uint8_t page[MAX_PAGE_BYTES];
+    uint32_t bytes = range->page, whole = range->offset % bytes == 0 ? range->count / bytes : 0, count = whole < PAGES_OF_A_TURN ? whole : PAGES_OF_A_TURN;
+    struct range rest = *range;
+    struct piece piece;
+    if (reads_in_turn(disk))
+        return 0;
+    if (count > 0) {
+        count = read_beside(disk, to, (uint32_t) (range->offset / bytes), count);
+        range->offset += (uint64_t) count * bytes;
+        range->count -= count * bytes;
+        return count > 0;
+    }
+    if (!next_piece(&rest, &piece) || read_beside(disk, page, piece.sector, 1) == 0)
+        return 0;
+    memcpy(to, page + piece.at, piece.count);
+    *range = rest;
     return 1;
 }
 
@@ -492,7 +501,7 @@ int image_disk_is_empty(struct image_disk *disk, uint32_t sector) {
     int result;
     pthread_mutex_lock(&disk->mutex);
     chip_look(&disk->chip);
-    uint32_t code = mintlintel_core_page(&disk->image.device.core, sector, &place);
+    uint32_t code = mintlintel_driver_page(&disk->image.device.core, sector, &place);
     if (code == MINTLINTEL_WRITTEN)
         code = mintlintel_durable_read(&disk->image.device, sector, page, disk->options->page);
     result = code <= MINTLINTEL_WRITTEN ? code == MINTLINTEL_EMPTY : fail(disk, "look", code);

@@ -1,12 +1,13 @@
 // The disk in an image file, or a layer of it: a device that survives the end of the server, by image=FILE.
 //
 // One lock is round all calls of the layer. A request of many pages gives it up from time to time, so it is not one step; each of its pages is. The
-// pages of a write that stand one behind another are written together. A read looks its pages up under the lock, and reads them without it. Changes and
-// flushes take another lock before it, so that a flush syncs the file while sectors are looked up.
+// pages of a write that stand one behind another are written together. A read goes by a reader, and takes no lock. What no reader can read, as a page that
+// can't be read, it reads under the lock. Changes and flushes take another lock before it, so that a flush syncs the file beside reports and maps of holes.
 #ifndef NBDKIT_IMAGE_DISK_H
 #define NBDKIT_IMAGE_DISK_H
 
 #include <mintlintel_image.h>
+#include <mintlintel_reader.h>
 #include <pthread.h>
 #include <stdint.h>
 
@@ -16,6 +17,14 @@
 
 // Who has the lock lets others have it after so many pages of a request.
 enum { PAGES_OF_A_TURN = 32 };
+// So many requests can read at once without the lock.
+enum { MOST_READERS = 64 };
+
+// One that a request takes for its reads.
+struct of_request {
+    _Atomic int is_taken;
+    struct mintlintel_reader reader;
+};
 
 struct image_disk {
     struct options *options;
@@ -23,7 +32,9 @@ struct image_disk {
     pthread_mutex_t mutex; // of all below
     struct mintlintel_image image;
     struct chip chip;
-    uint64_t reads, writes, trims, flushes; // what clients asked for, in pages, and flushes
+    struct of_request readers[MOST_READERS]; // of no lock
+    _Atomic uint64_t reads; // what clients asked for, in pages, and flushes
+    uint64_t writes, trims, flushes;
     struct waits waited; // of requests for which pages had to be copied, or a block erased
     uint32_t collecting; // such requests that aren't answered yet
     struct unreadable unreadable;

@@ -17,6 +17,7 @@
 #include <flash.h>
 
 #include "pieces.h"
+#include "record.h"
 
 // ---- The directory.
 
@@ -130,6 +131,38 @@ static int make_directory(const char *path) {
     return result;
 }
 
+// ---- A replay.
+
+// Makes the images, and the directory of several.
+static int make_images(struct options *options, int record) {
+    struct power power = {.count = options->layers};
+    int result = 0;
+    if (options->layers > 1 && make_directory(options->image) == -1)
+        return -1;
+    for (uint32_t layer = 0; result == 0 && layer < options->layers; layer++) {
+        power.images[layer] = options->layers > 1 ? path_of(options, layer) : options->image;
+        result = power.images[layer] ? 0 : -1;
+    }
+    if (result == 0)
+        result = power_replay(&power, options, record);
+    for (uint32_t layer = 0; options->layers > 1 && layer < options->layers; layer++)
+        free((char *) power.images[layer]);
+    return result;
+}
+
+int layers_replay(struct options *options) {
+    uint32_t given = options->layers;
+    int record = record_read(options->replay, &options->layers), result = -1;
+    if (record == -1)
+        return -1;
+    if (given && given != options->layers)
+        nbdkit_error("replay=%s is of %" PRIu32 " layers, and not %" PRIu32, options->replay, options->layers, given);
+    else
+        result = make_images(options, record);
+    close(record);
+    return result;
+}
+
 // ---- Which part of the disk is whose. What is given in bytes or in sectors has its stripe in them too.
 
 // How much of the first `length` of the disk is in a layer.
@@ -186,11 +219,10 @@ static int refuse_size(const struct options *options, uint32_t least) {
 static int open_layer(struct layers *layers, uint32_t layer, int is_finished) {
     struct image_disk *disk = &layers->disks[layer];
     struct options *own = &layers->own_options[layer];
-    struct mtl_run run;
     if (image_disk_open(disk, own) == -1)
         return -1;
-    for (uint32_t at = 0; !is_finished && at < own->sectors; at += run.count) {
-        if (mtl_image_find(&disk->image, at, own->sectors - at, &run) == MINTLINTEL_EMPTY)
+    for (uint32_t at = 0; !is_finished && at < own->sectors; at++) {
+        if (image_disk_is_empty(disk, at))
             continue;
         nbdkit_error("image=%s: layer-0-of-%" PRIu32 " is missing, and layer-%" PRIu32 " has data", layers->options->image, layers->count, layer);
         return -1;
@@ -330,7 +362,7 @@ int layers_flush(struct layers *layers) {
     int result = 0;
     for (uint32_t layer = 0; result == 0 && layer < layers->count; layer++)
         result = image_disk_flush(&layers->disks[layer]);
-    return result;
+    return result == 0 ? power_answer_flush() : result;
 }
 
 int layers_is_empty(struct layers *layers, uint32_t sector) {

@@ -24,6 +24,9 @@ struct layers {
 // Before the options are complete: finds how many layers the disk has. 0, or -1 with an error reported.
 int layers_find(struct options *options);
 
+// Before that: makes the images of the record that the options name. 0, or -1 with an error reported.
+int layers_replay(struct options *options);
+
 // As image_disk_open and those behind it, of all layers.
 int layers_open(struct layers *layers, struct options *options);
 int layers_start(struct layers *layers);

@@ -56,6 +56,12 @@ const char options_help[] = "[size=]SIZE            Bytes of the device, such as
                             "                       When writes reach its disk (default flush).\n"
                             "cut=N                  Cut the power at the Nth write to the image,\n"
                             "                       or on SIGUSR2; 0 on SIGUSR2 alone.\n"
+                            "unsynced=some|lost|kept\n"
+                            "                       What a cut leaves of writes without a sync\n"
+                            "                       (default some, by the seed).\n"
+                            "record=FILE            Record each write and sync of the image.\n"
+                            "replay=FILE            Make the image of a record, up to its step\n"
+                            "                       cut=N, or to its end.\n"
                             "fail-programs=RATE, fail-erases=RATE\n"
                             "                       Which share of an image's commands fails.\n"
                             "bad=LIST               Blocks of a new image that are bad.\n"
@@ -86,9 +92,11 @@ void options_begin(struct options *options) {
 void options_end(struct options *options) {
     free(options->stats);
     free(options->image);
+    free(options->record);
+    free(options->replay);
     numbers_end(&options->unreadable);
     numbers_end(&options->bad);
-    options->stats = options->image = NULL;
+    options->stats = options->image = options->record = options->replay = NULL;
 }
 
 // A number from `least` on.
@@ -164,6 +172,13 @@ static int set_sync(struct options *options, const char *value) {
     return place == -1 ? -1 : 0;
 }
 
+static int set_unsynced(struct options *options, const char *value) {
+    static const char *const names[] = {[UNSYNCED_SOME] = "some", [UNSYNCED_LOST] = "lost", [UNSYNCED_KEPT] = "kept"};
+    int place = place_of("unsynced", value, names);
+    options->unsynced = place == -1 ? options->unsynced : (enum unsynced_writes) place;
+    return place == -1 ? -1 : 0;
+}
+
 static int set_cut(struct options *options, const char *value) {
     uint32_t writes;
     if (nbdkit_parse_uint32_t("cut", value, &writes) == -1)
@@ -189,7 +204,7 @@ static int set_file(char **file, const char *value) {
 static void note_kind(struct options *options, const char *key) {
     static const char *const numbers[] = {"size", "spare", "page", "pages", "sectors", "blocks", "luns"};
     static const char *const of_memory[] = {"hosts", "brooms", "low", "high", "wait", "warn", "age", "stats"};
-    static const char *const of_image[] = {"layers", "sync", "cut", "fail-programs", "fail-erases", "bad"};
+    static const char *const of_image[] = {"layers", "sync", "cut", "unsynced", "record", "replay", "fail-programs", "fail-erases", "bad"};
     for (size_t i = 0; i < sizeof numbers / sizeof *numbers; i++)
         options->has_numbers |= strcmp(key, numbers[i]) == 0;
     for (size_t i = 0; i < sizeof of_memory / sizeof *of_memory; i++)
@@ -205,6 +220,12 @@ static int set_of_image(struct options *options, const char *key, const char *va
         return set_sync(options, value);
     if (strcmp(key, "cut") == 0)
         return set_cut(options, value);
+    if (strcmp(key, "unsynced") == 0)
+        return set_unsynced(options, value);
+    if (strcmp(key, "record") == 0)
+        return set_file(&options->record, value);
+    if (strcmp(key, "replay") == 0)
+        return set_file(&options->replay, value);
     if (strcmp(key, "fail-programs") == 0)
         return rate_set(&options->fail_programs, key, value);
     if (strcmp(key, "fail-erases") == 0)

@@ -13,6 +13,9 @@ enum { MAX_PAGE_BYTES = MINTLINTEL_MAX_WORDS * MINTLINTEL_WORD_BYTES, NO_CUT = -
 // What a write gets for which no block can be had: the error ENOSPC or EIO, or EROFS, and then so does each write, zero and trim.
 enum worn { WORN_ENOSPC, WORN_EIO, WORN_READONLY };
 
+// What a power cut leaves of the writes that weren't synced.
+enum unsynced_writes { UNSYNCED_SOME, UNSYNCED_LOST, UNSYNCED_KEPT };
+
 struct options {
     uint32_t page; // bytes of a page, which is a sector
     uint32_t luns, blocks, pages, sectors, endurance;
@@ -34,6 +37,8 @@ struct options {
     int has_numbers; // some number of the device was given
     int is_unfinished; // of a layer: another one was never made
     int64_t cut;     // the power is cut at this write to the image; 0 by SIGUSR2 alone; or NO_CUT
+    enum unsynced_writes unsynced; // what it leaves
+    char *record, *replay;  // the file for a record of the image's writes, and the one that the image is made of, or NULL
     const char *of_memory, *of_image; // a parameter that was given and is only of the one or the other, or NULL
     struct part part; // its times, or zeros: then no command takes time
     struct numbers unreadable, bad;     // pages that can't be read, and blocks that are bad from the factory

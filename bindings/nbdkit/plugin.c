@@ -40,6 +40,8 @@ static int config(const char *key, const char *value) {
 }
 
 static int config_complete(void) {
+    if (has_image() && device.options.replay && layers_replay(&device.options) == -1)
+        return -1;
     if (has_image() && layers_find(&device.options) == -1)
         return -1;
     return options_complete(&device.options);

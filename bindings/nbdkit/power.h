@@ -1,6 +1,8 @@
 // Power cuts of a disk in images, by cut=: the power goes at a write to a file, or at SIGUSR2. That write is torn, each write that was not synced
 // is lost, kept or torn, by the seed, and the server ends. The next one finds what a machine finds after a power cut.
 //
+// By replay= the images are made of a record, as their disk has them behind a cut at a step of it.
+//
 // All reads, writes and syncs of the library go through this: its calls of pread, pwrite, fdatasync and fsync are linked to the functions here.
 #ifndef NBDKIT_POWER_H
 #define NBDKIT_POWER_H
@@ -23,8 +25,14 @@ struct power {
 // From now on the writes to the images are counted and kept, if the options have a cut: before these are opened. 0, or -1 with an error reported.
 int power_open(struct power *power, const struct options *options);
 
-// Starts the thread that waits for SIGUSR2.
+// Makes new images of a record that was opened, behind the cut of the options. 0, or -1 with an error reported.
+int power_replay(const struct power *power, const struct options *options, int record);
+
+// Starts the record, and the thread that waits for SIGUSR2.
 int power_start(struct power *power);
+
+// Notes in a record that a client's flush is answered: 0, or -1 with errno set.
+int power_answer_flush(void);
 void power_close(struct power *power);
 
 // The library gives pages that wait to the thread that writes them, and then has them back, by atomic numbers that ThreadSanitizer doesn't see: so it is

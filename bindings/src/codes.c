@@ -12,6 +12,8 @@ const char *mintlintel_durable_code_name(uint32_t code)
     case MINTLINTEL_NO_NUMBER: return "the numbers have run out";
     case MINTLINTEL_OUT_OF_ORDER: return "out of order";
     case MINTLINTEL_UNREADABLE: return "the page can't be read";
+    case MINTLINTEL_UNSETTLED: return "the sector's page was moved at each look";
+    case MINTLINTEL_READ_PAGE: return "a page is to be read";
     case MINTLINTEL_NO_FILE: return "no such file, or it can't be made";
     case MINTLINTEL_IN_USE: return "the image is in use";
     case MINTLINTEL_NOT_AN_IMAGE: return "not an image, or its head is damaged";

@@ -4,9 +4,17 @@
 
 #include "mintlintel_durable.h"
 #include "mintlintel_image.h"
+#include "mintlintel_reader.h"
 
-/* Why an image refuses each call: `of` tells the code, or 0. */
-struct mtl_reason { uint32_t (*of)(struct mtl_reason *reason); };
+/* What an image is asked beside the calls of a chip: `of` tells why it refuses each call, or 0; `drain` does what was given, and returns 0 or 3, with no
+ * thread at it; `read_beside` reads pages that stand one behind another beside any other call, with their stamps, which are ones for a page without a
+ * version: 0 or 3. `readers` are told of each page once it is in the file. */
+struct mtl_reason {
+    uint32_t (*of)(struct mtl_reason *reason);
+    int (*drain)(struct mtl_reason *reason);
+    int (*read_beside)(struct mtl_reason *reason, uint32_t block, uint32_t page, uint32_t count, void *main, void *stamps);
+    struct mintlintel_readers *readers;
+};
 
 /* Opens a device whose calls return the code of the reason, if it isn't 0. With `losses` it opens one that has losses too, and tells them. */
 uint32_t mtl_durable_open(struct mintlintel_durable *device, const struct mintlintel_nand *nand, const struct mintlintel_durable_numbers *numbers,
@@ -53,15 +61,9 @@ void mtl_image_keep(struct mintlintel_image *image, const void *pages, const uin
 uint64_t mtl_image_let_go(struct mintlintel_image *image);
 uint32_t mtl_image_commit(struct mintlintel_image *image, uint64_t ticket);
 
-/* The pages of some sectors in order, which stand one behind another in a block, or sectors that no page has. */
-struct mtl_run { uint32_t sector, count; struct mintlintel_place at; uint32_t erases; uint64_t behind; };
+/* Reads so many sectors of an image from one on, at most MTL_MOST_OF_A_RUN, each as mintlintel_reader_read does, with zeros for an empty one: how many of them,
+ * from the first on, it could read. Those that stand one behind another in a block are read together. */
 enum { MTL_MOST_OF_A_RUN = 64 };
-
-/* Finds the pages of a sector and of those behind it, up to `count`: 1 with their run; 0 if they are empty; the code that each call returns. */
-uint32_t mtl_image_find(struct mintlintel_image *image, uint32_t sector, uint32_t count, struct mtl_run *run);
-
-/* Reads the pages of a run, with zeros for a trimmed sector. This may be called beside any other call: it changes nothing but `out`, and 0 says that it
- * couldn't read all pages as they were found, since one was erased meanwhile or can't be read. Then read them by mintlintel_durable_read. */
-int mtl_image_read_run(const struct mintlintel_image *image, const struct mtl_run *run, void *out);
+uint32_t mtl_reader_read_run(struct mintlintel_reader *reader, uint32_t sector, uint32_t count, void *out);
 
 #endif

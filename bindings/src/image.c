@@ -227,13 +227,12 @@ static int image_copyback(void *chip, uint32_t from_block, uint32_t from_page, u
     return give(file, &(struct command){block, page, NULL, {from_block, from_page}}, spare);
 }
 
-/* So does an erase. Who has looked for a page of the block looks again. */
+/* So does an erase. */
 static int image_erase(void *chip, uint32_t block)
 {
     struct mintlintel_image_file *file = chip;
     if (block == file->cached)
         file->cached = UINT32_MAX;
-    __atomic_fetch_add(&file->erases[block % ERASE_COUNTERS], 1, __ATOMIC_SEQ_CST);
     return has_failed(file) ? 3 : give(file, &(struct command){block, WHOLE_BLOCK, NULL, {0, 0}}, NULL);
 }
 
@@ -270,49 +269,28 @@ uint32_t mtl_image_sync(struct mintlintel_image *image)
     return image_sync(image->file) == 0 ? MINTLINTEL_DONE : MINTLINTEL_FILE_FAILED;
 }
 
-/* ---- Reads beside other calls ---- */
+/* ---- What readers ask ---- */
 
-uint32_t mtl_image_find(struct mintlintel_image *image, uint32_t sector, uint32_t count, struct mtl_run *run)
+/* A child waits for nobody: the thread that leads may be gone. */
+static int drain(struct mtl_reason *why)
 {
-    struct mintlintel_place at, next;
-    uint32_t code = refusal(&image->file->why);
-    if (code == MINTLINTEL_DONE)
-        code = mtl_durable_find(&image->device, sector, &at);
-    *run = (struct mtl_run){.sector = sector, .count = 1};
-    if (code > MINTLINTEL_WRITTEN)
-        return code;
-    if (code == MINTLINTEL_WRITTEN) {
-        run->at = at;
-        run->behind = mtl_queue_has(image->file, at.block) ? mtl_queue_let_go(&image->file->queue) : 0;
-        run->erases = __atomic_load_n(&image->file->erases[at.block % ERASE_COUNTERS], __ATOMIC_SEQ_CST);
-    }
-    for (; run->count < count && run->count < MTL_MOST_OF_A_RUN; run->count++) {
-        if (mtl_durable_find(&image->device, sector + run->count, &next) != code)
-            break;
-        if (code == MINTLINTEL_WRITTEN && (next.block != at.block || next.page != at.page + run->count))
-            break;
-    }
-    return code;
+    return refusal(why) != MINTLINTEL_DONE || mtl_queue_drain((struct mintlintel_image_file *)why) != 0 ? 3 : 0;
 }
 
-int mtl_image_read_run(const struct mintlintel_image *image, const struct mtl_run *run, void *out)
+/* What is erased or programmed meanwhile may be read in parts: then its check doesn't fit. */
+static int read_beside(struct mtl_reason *why, uint32_t block, uint32_t page, uint32_t count, void *main, void *stamps)
 {
-    struct mintlintel_image_file *file = image->file;
-    size_t bytes = file->numbers.page_bytes;
-    uint8_t spares[MTL_MOST_OF_A_RUN * SPARE_BYTES], *page = out;
-    if ((run->behind && mtl_queue_commit(file, run->behind) != 0) ||
-        mtl_read_all(file->fd, spares, (size_t)run->count * SPARE_BYTES, spare_at(file, run->at.block, run->at.page)) != 0 ||
-        mtl_read_all(file->fd, out, run->count * bytes, page_at(file, run->at.block, run->at.page)) != 0)
-        return 0;
-    for (uint32_t i = 0; i < run->count; i++) {
-        const uint8_t *spare = spares + (size_t)i * SPARE_BYTES;
-        struct stamp stamp = mtl_stamp_from(spare);
-        if (mtl_image_reading(spare) != IS_VERSION || !mintlintel_stamp_fits(spare, page + i * bytes, bytes) || stamp.kind == STAMP_LOST ||
-            stamp.sector != run->sector + i)
-            return 0;
-    }
-    __atomic_thread_fence(__ATOMIC_SEQ_CST);
-    return __atomic_load_n(&file->erases[run->at.block % ERASE_COUNTERS], __ATOMIC_SEQ_CST) == run->erases;
+    struct mintlintel_image_file *file = (struct mintlintel_image_file *)why;
+    uint8_t spares[MTL_MOST_OF_A_RUN][SPARE_BYTES], (*stamp)[MINTLINTEL_STAMP_BYTES] = stamps;
+    if (mtl_file_get(file, spares, count * sizeof *spares, spare_at(file, block, page)) != 0 ||
+        mtl_file_get(file, main, count * (size_t)file->numbers.page_bytes, page_at(file, block, page)) != 0)
+        return 3;
+    for (uint32_t i = 0; i < count; i++)
+        if (mtl_image_reading(spares[i]) == IS_VERSION)
+            memcpy(stamp[i], spares[i], sizeof stamp[i]);
+        else
+            memset(stamp[i], 0xff, sizeof stamp[i]);
+    return 0;
 }
 
 /* ---- The head ---- */
@@ -647,7 +625,7 @@ uint32_t mtl_image_open(struct mintlintel_image *image, const char *path, enum m
     if (!file)
         return image->file ? MINTLINTEL_ALREADY_OPEN : MINTLINTEL_NO_MEMORY;
     struct mintlintel_nand nand = {file, image_read, image_program, image_copyback, image_erase, NULL, NULL, image_sync};
-    file->why.of = refusal;
+    file->why = (struct mtl_reason){refusal, drain, read_beside, NULL};
     file->opener = getpid();
     file->fd = -1;
     file->mode = mode;
@@ -740,7 +718,7 @@ uint32_t mintlintel_image_copy(struct mintlintel_image *image, const char *path)
     int is_synced = has_failed(image->file) || image->file->mode != MINTLINTEL_FLUSH || image_sync(image->file) == 0;
     int error = is_synced ? mtl_copy_data(image->file->fd, to, (off_t)image->file->layout.length) : image->file->error;
     if (error == 0 && image->file->mode != MINTLINTEL_NEVER)
-        error = fsync(to) == 0 ? 0 : errno;
+        error = fsync(to) == 0 && sync_name(path) == 0 ? 0 : errno;
     close(to);
     if (error == 0)
         return MINTLINTEL_DONE;

@@ -7,9 +7,9 @@
 #include <sys/uio.h>
 #include <unistd.h>
 
-/* How many commands wait at most, of how many pages one call of the system writes the main bytes or the spare bytes, how many turns the threads share
- * that wait for a command, and how many counters of erases the blocks share. */
-enum { MOST_WAITING = 1024, MOST_TOGETHER = MTL_MOST_OF_A_RUN, TURNS = 32, ERASE_COUNTERS = 256 };
+/* How many commands wait at most, of how many pages one call of the system writes the main bytes or the spare bytes, and how many turns the threads share
+ * that wait for a command. */
+enum { MOST_WAITING = 1024, MOST_TOGETHER = MTL_MOST_OF_A_RUN, TURNS = 32 };
 /* The page of an erase. */
 #define WHOLE_BLOCK UINT32_MAX
 
@@ -61,7 +61,6 @@ struct mintlintel_image_file {
     uint8_t *map;            /* the bytes of the file, or null. Only the system reads them: where it can't, a write fails */
     off_t data_from, data_to; /* while mounting: no data stands between these places */
     struct queue queue;
-    uint32_t erases[ERASE_COUNTERS]; /* how many erases of their blocks were given. Atomic */
 };
 
 /* ---- Bytes of the file: 0, or 3 after a failure, which every call returns from then on ---- */

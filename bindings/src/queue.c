@@ -2,6 +2,7 @@
 #define _GNU_SOURCE
 #define _FILE_OFFSET_BITS 64
 #include "image_file.h"
+#include "readers.h"
 #include <fcntl.h>
 #include <limits.h>
 #include <sched.h>
@@ -73,6 +74,16 @@ static void *main_of(const struct mintlintel_image_file *file, const struct comm
     return file->map ? file->map + page_at(file, command->from.block, command->from.page) : copy;
 }
 
+/* Tells readers of a page that is programmed. The block device has a program fail by a stamp that doesn't fit. */
+static void tell(const struct mintlintel_image_file *file, uint64_t number)
+{
+    const uint8_t *spare = file->queue.spares[number % MOST_WAITING];
+    const struct command *command = command_at(&file->queue, number);
+    struct stamp stamp = mtl_stamp_from(spare);
+    if (mintlintel_stamp_fits(spare, NULL, 0))
+        mtl_readers_told(file->why.readers, command->main ? TOLD_NEW : TOLD_COPY, &stamp, command->block, command->page);
+}
+
 /* Programs pages that stand one behind another. The main bytes come first, so that a stamp never stands beside less than its page when the process is
  * killed. */
 static int program(struct mintlintel_image_file *file, uint64_t first, uint32_t count)
@@ -93,7 +104,11 @@ static int program(struct mintlintel_image_file *file, uint64_t first, uint32_t 
         return 3;
     for (uint32_t i = 0; i < count; i++)
         mtl_sides_fill(file, command->block, command->page + i, queue->spares[(first + i) % MOST_WAITING]);
-    return file->mode == MINTLINTEL_ALWAYS ? mtl_file_sync(file) : 0;
+    if (file->mode == MINTLINTEL_ALWAYS && mtl_file_sync(file) != 0)
+        return 3;
+    for (uint32_t i = 0; file->why.readers && i < count; i++)
+        tell(file, first + i);
+    return 0;
 }
 
 static int erase(struct mintlintel_image_file *file, uint32_t block)

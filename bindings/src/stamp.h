@@ -12,6 +12,12 @@ enum { STAMP_VALUE = 1, STAMP_TRIM = 2, STAMP_LOST = 3 };
 /* The number of a version is below 2^56. */
 struct stamp { uint32_t kind; uint64_t number; uint32_t sector, count, erases; };
 
+/* Whether a stamp is of this sector. */
+static inline int mtl_covers(const struct stamp *stamp, uint32_t sector)
+{
+    return sector >= stamp->sector && sector - stamp->sector < stamp->count;
+}
+
 /* The fields of a stamp's bytes. */
 struct stamp mtl_stamp_from(const uint8_t *bytes);
 

@@ -7,6 +7,12 @@
  * where the page is read whole: the last one of its block, each one of a block with a gap, one that the device can't have, and where two pages have
  * the newest version. */
 
+/* The same by the mount's number of a block. */
+static int read_page(struct mintlintel_flash *flash, uint32_t block, uint32_t page, void *main, struct stamp *stamp)
+{
+    return mtl_read_page(flash, flash->chip_block[block], page, main, stamp);
+}
+
 static uint64_t number_of(const struct noted *noted)
 {
     return (uint64_t)noted->number_high << 32 | noted->number_low;
@@ -19,7 +25,7 @@ static int noted_stamp(struct mintlintel_flash *flash, uint32_t block, const str
     *stamp = (struct stamp){STAMP_VALUE, number_of(noted), noted->sector, 1, flash->erases[flash->chip_block[block]]};
     if (noted->reading != 0 || !noted->is_of_several)
         return noted->reading;
-    int reading = mtl_read_page(flash, block, page, NULL, stamp);
+    int reading = read_page(flash, block, page, NULL, stamp);
     int is_same = reading == 0 && stamp->number == number_of(noted) && stamp->sector == noted->sector && mtl_stamp_is_of(stamp, flash->numbers.sectors);
     return is_same || reading != 0 ? reading : 2;
 }
@@ -49,7 +55,7 @@ static uint32_t note_erases(struct mintlintel_flash *flash, uint32_t block, cons
             newest = page;
     if (!newest)
         return MINTLINTEL_DONE;
-    int reading = mtl_read_page(flash, block, (uint32_t)(newest - pages), NULL, &stamp);
+    int reading = read_page(flash, block, (uint32_t)(newest - pages), NULL, &stamp);
     flash->erases[flash->chip_block[block]] = reading == 0 ? stamp.erases : 0;
     return reading == 3 ? MINTLINTEL_POWER_GONE : MINTLINTEL_DONE;
 }
@@ -59,9 +65,9 @@ static uint32_t note_stamp(struct mintlintel_flash *flash, uint32_t block, struc
 {
     struct stamp stamp = {0, 0, 0, 0, 0};
     uint32_t page = (uint32_t)((size_t)(noted - flash->stamps.pages) % flash->numbers.pages);
-    int reading = mtl_read_page(flash, block, page, NULL, &stamp), is_foreign = reading == 0 && !mtl_stamp_is_of(&stamp, flash->numbers.sectors);
+    int reading = read_page(flash, block, page, NULL, &stamp), is_foreign = reading == 0 && !mtl_stamp_is_of(&stamp, flash->numbers.sectors);
     if (is_foreign)
-        reading = mtl_read_page(flash, block, page, flash->page, &stamp);
+        reading = read_page(flash, block, page, flash->page, &stamp);
     if (opening && reading == 0)
         opening->has_trace |= stamp.number > 0;
     *noted = (struct noted){(uint32_t)stamp.number, stamp.sector, (uint32_t)(stamp.number >> 32) & 0xffffff, (unsigned)reading & 3, stamp.count > 1};
@@ -81,7 +87,7 @@ static uint32_t stamps_of_block(struct mintlintel_flash *flash, uint32_t block, 
         gap = noted->reading != 0 && noted < gap ? noted : gap;
     }
     for (struct noted *noted = gap < last ? pages : last; noted < end; noted++) {
-        int reading = noted->reading == 0 ? mtl_read_page(flash, block, (uint32_t)(noted - pages), flash->page, &stamp) : noted->reading;
+        int reading = noted->reading == 0 ? read_page(flash, block, (uint32_t)(noted - pages), flash->page, &stamp) : noted->reading;
         if (reading == 3)
             return MINTLINTEL_POWER_GONE;
         noted->reading = (unsigned)reading & 3;
@@ -126,7 +132,7 @@ static int is_doubled(const struct stamps *stamps, const struct stamp *stamp)
 int mtl_stamps_reading(struct mintlintel_flash *flash, uint32_t block, uint32_t page, struct stamp *stamp)
 {
     if (!flash->stamps.pages)
-        return mtl_read_page(flash, block, page, NULL, stamp);
+        return read_page(flash, block, page, NULL, stamp);
     int reading = noted_stamp(flash, block, &flash->stamps.pages[(size_t)block * flash->numbers.pages + page], stamp);
-    return reading == 0 && is_doubled(&flash->stamps, stamp) ? mtl_read_page(flash, block, page, flash->page, stamp) : reading;
+    return reading == 0 && is_doubled(&flash->stamps, stamp) ? read_page(flash, block, page, flash->page, stamp) : reading;
 }

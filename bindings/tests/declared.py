@@ -9,8 +9,11 @@ from pathlib import Path
 
 STRUCTS = {"Totals": "mintlintel_totals", "BlockReport": "mintlintel_block", "NumbersReport": "mintlintel_numbers", "PageReport": "mintlintel_page",
            "StateReport": "mintlintel_state", "CountsReport": "mintlintel_counts", "TallyReport": "mintlintel_tally", "PlaceReport": "mintlintel_place",
-           "CommandReport": "mintlintel_command"}
+           "CommandReport": "mintlintel_command", "StepReport": "mintlintel_step"}
 TYPES = {"u32": ("uint32_t", 4), "u64": ("uint64_t", 8)}
+# The handle of a call by the beginning of its name; of others it is a seat.
+HANDLES = {"mintlintel_one_": "mintlintel_one", "mintlintel_core_": "mintlintel_core", "mintlintel_driver_": "mintlintel_core",
+           "mintlintel_map_": "mintlintel_map"}
 # Other names of codes 0 and 10.
 ALSO = {"EMPTY", "NO_SUCH_WORD"}
 # A limit that no call of C has.
@@ -45,7 +48,7 @@ def fields(text, name):
 def passed(kind, handle):
     """What C passes for an argument of an export."""
     plain = {"u32": "uint32_t", "u64": "uint64_t", "&mut [u8]": "uint8_t *, size_t", "&[u8]": "const uint8_t *, size_t",
-             "&mut u32": "uint32_t *", "&mut u64": "uint64_t *"}
+             "&[u32]": "const uint32_t *, size_t", "&mut u32": "uint32_t *", "&mut u64": "uint64_t *"}
     named = {f"&mut {rust}": f"struct {c} *" for rust, c in STRUCTS.items()}
     return {**plain, **named, "&mut Handle": f"struct {handle} *", "&mut [Handle]": f"struct {handle} *, size_t"}[kind]
 
@@ -53,7 +56,7 @@ def passed(kind, handle):
 def prototypes(text):
     for name, arguments, result in re.findall(r'pub extern "C" fn (\w+)\((.*?)\)\s*(-> u32)?\s*\n', text, re.S):
         kinds = [part.split(":", 1)[1].strip() for part in arguments.split(",") if ":" in part]
-        handle = next((kind for kind in ("mintlintel_one", "mintlintel_core") if name.startswith(f"{kind}_")), "mintlintel_seat")
+        handle = next((handle for begins, handle in HANDLES.items() if name.startswith(begins)), "mintlintel_seat")
         yield name, f"{'uint32_t' if result else 'void'} {name}({', '.join(passed(kind, handle) for kind in kinds if kind != 'Global')});"
 
 

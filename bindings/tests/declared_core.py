@@ -1,5 +1,5 @@
 #!/usr/bin/env python3
-"""declared_core.py ROOT: the same as declared.py, for the proved calls of the device that survives power cuts."""
+"""declared_core.py ROOT: the same as declared.py, for the proved calls of the device that survives power cuts and of its readers."""
 
 import re
 import sys
@@ -8,16 +8,21 @@ from pathlib import Path
 import declared
 
 
-def main(root):
-    root = Path(root)
-    proved = (root / "bindings/include/mintlintel_durable.h").read_text().split("/* ---- The core, proved", 1)[1]
-    sources = root / "crates/durable_exports/src"
+def check(root, header, crate, handle):
+    """Compares the proved calls of a header with those of their crate."""
+    proved = re.split(r"/\* ---- [^\n]*, proved", (root / "bindings/include" / header).read_text(), maxsplit=1)[1]
+    sources = root / "crates" / crate / "src"
     text = "\n".join(source.read_text() for source in sorted(sources.glob("*.rt")))
     exported = dict(declared.prototypes(text))
     calls = set(re.findall(r"^(?:uint32_t|void) (mintlintel_\w+)\(", proved, re.M))
     if calls != set(exported):
         sys.exit(f"calls of the header or of the crate alone: {' '.join(sorted(calls ^ set(exported)))}")
-    declared.print_checks("mintlintel_durable.h", text, declared.constants(sources / "codes.rt"), ("mintlintel_core",), exported)
+    declared.print_checks(header, text, declared.constants(sources / "codes.rt"), (handle,), exported)
+
+
+def main(root):
+    check(Path(root), "mintlintel_durable.h", "durable_exports", "mintlintel_core")
+    check(Path(root), "mintlintel_reader.h", "reader_exports", "mintlintel_map")
 
 
 main(*sys.argv[1:])

@@ -339,6 +339,7 @@ static void mark_at_once(void)
             if (is_marked && drawn(&state) % 8 == 0)
                 open_again();
         }
+        check_worn();
         close_device();
     }
     CHECK(marked > 1000);

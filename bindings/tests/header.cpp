@@ -2,6 +2,7 @@
 #include "mintlintel_answering.h"
 #include "mintlintel_image.h"
 #include "mintlintel_locked.h"
+#include "mintlintel_reader.h"
 #include <cstdio>
 #include <cstring>
 #include <stdexcept>

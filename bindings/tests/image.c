@@ -401,48 +401,31 @@ static void collections(void)
     unlink(other);
 }
 
-/* A run of sectors that was found, and what they held then. */
-struct found { struct mtl_run run; uint32_t code; uint8_t held[SECTORS]; };
-
-/* Reads a run that was found: 1 if it is what its sectors held, and 0 if the call says that it can't. */
-static int is_as_found(struct mintlintel_image *image, const struct found *found)
+/* Reads sectors by a reader: each is as it was or as it is, and it is as it is once what waited is done. */
+static void check_run(struct mintlintel_reader *reader, const uint8_t *was, int is_done)
 {
-    uint8_t pages[SECTORS][PAGE_BYTES], wanted[PAGE_BYTES];
-    if (!mtl_image_read_run(image, &found->run, pages))
-        return 0;
-    for (uint32_t i = 0; i < found->run.count; i++) {
-        fill(wanted, found->held[found->run.sector + i]);
-        CHECK(memcmp(pages[i], wanted, sizeof wanted) == 0);
+    uint8_t pages[SECTORS][PAGE_BYTES], old[PAGE_BYTES], new[PAGE_BYTES];
+    uint32_t sector = drawn(&state) % SECTORS, count = 1 + drawn(&state) % (SECTORS - sector);
+    CHECK(mtl_reader_read_run(reader, sector, count, pages) == count);
+    for (uint32_t i = 0; i < count; i++) {
+        fill(old, was[sector + i]);
+        fill(new, values[sector + i]);
+        CHECK(memcmp(pages[i], new, sizeof new) == 0 || (!is_done && memcmp(pages[i], old, sizeof old) == 0));
     }
-    return 1;
 }
 
-static struct found find(struct mintlintel_image *image)
-{
-    struct found found;
-    uint32_t sector = drawn(&state) % SECTORS;
-    found.code = mtl_image_find(image, sector, SECTORS - sector, &found.run);
-    memcpy(found.held, values, sizeof values);
-    CHECK(found.code <= MINTLINTEL_WRITTEN && found.run.sector == sector && found.run.count > 0);
-    for (uint32_t i = sector; found.code == MINTLINTEL_EMPTY && i < sector + found.run.count; i++)
-        CHECK(values[i] == 0);
-    return found;
-}
-
-/* Some sectors are written together, and their pages are read by runs: those found just now are as they are, and those found earlier as they were, or
- * refused. */
+/* Some sectors are written together, and read by a reader before they are done and behind that. */
 static void runs(enum mintlintel_image_mode mode)
 {
     struct mintlintel_image image = {0};
-    struct found earlier[16];
-    uint8_t pages[4][PAGE_BYTES] = {{0}};
-    long alone = 0, together = 0, kept = 0, refused = 0;
+    struct mintlintel_reader reader = {0};
+    uint8_t pages[4][PAGE_BYTES] = {{0}}, was[SECTORS];
     begin(&image, mode);
-    for (int i = 0; i < 16; i++)
-        earlier[i] = find(&image);
+    CHECK(mintlintel_reader_open(&reader, &image.device) == MINTLINTEL_DONE);
     for (int round = 0; round < 20000; round++) {
-        uint32_t first = drawn(&state) % (SECTORS - 3), old = drawn(&state) % 16;
+        uint32_t first = drawn(&state) % (SECTORS - 3);
         uint32_t checks[4];
+        memcpy(was, values, sizeof was);
         for (int i = 0; i < 4; i++) {
             values[first + i] = (uint8_t)(1 + drawn(&state) % 255);
             fill(pages[i], values[first + i]);
@@ -451,21 +434,13 @@ static void runs(enum mintlintel_image_mode mode)
         mtl_image_keep(&image, pages, round % 2 ? checks : NULL, 4);
         for (uint32_t i = 0; i < 4; i++)
             CHECK(mintlintel_durable_write(&image.device, first + i, pages[i], PAGE_BYTES) <= MINTLINTEL_WRITTEN);
-        uint64_t ticket = mtl_image_let_go(&image);
-        struct found now = find(&image);
-        CHECK(round % 4 == 0 || mtl_image_commit(&image, ticket) == MINTLINTEL_DONE);
-        CHECK(now.code == MINTLINTEL_EMPTY || is_as_found(&image, &now));
-        CHECK(mtl_image_commit(&image, ticket) == MINTLINTEL_DONE);
-        alone += now.run.count == 1;
-        together += now.run.count > 1;
-        int is_there = earlier[old].code == MINTLINTEL_EMPTY || is_as_found(&image, &earlier[old]);
-        kept += is_there;
-        refused += !is_there;
-        earlier[old] = now;
+        check_run(&reader, was, 0);
+        CHECK(mtl_image_commit(&image, mtl_image_let_go(&image)) == MINTLINTEL_DONE);
+        check_run(&reader, was, 1);
     }
-    CHECK(alone > 1000 && together > 1000 && kept > 1000 && refused > 1000);
     CHECK(unreadable(&image) == 0);
     mintlintel_image_close(&image);
+    mintlintel_reader_close(&reader);
 }
 
 /* How many blocks the last checkpoint of an image of so many blocks of 2 pages of 512 bytes lists. */
@@ -629,6 +604,122 @@ static void full_disk(void)
     }
 }
 
+/* Where the side of a block stands that an image which was closed has. */
+static off_t side_at(uint32_t block)
+{
+    uint8_t low;
+    int fd = open(path, O_RDONLY);
+    CHECK(fd >= 0 && pread(fd, &low, 1, ENTRIES_AT + (off_t)block * ENTRY_BYTES) == 1);
+    close(fd);
+    return HEAD_BYTES + ((off_t)(low % 2) * BLOCKS + block) * BLOCK_BYTES;
+}
+
+/* A damaged record counts as one of mode `flush` that has lost power: with a damaged page, what stands behind it is set aside, and nothing is missing
+ * between pages that are there. */
+static void damaged_record(void)
+{
+    struct mintlintel_image image = {0};
+    struct mintlintel_place at[PAGES];
+    unlink(path);
+    memset(values, 0, sizeof values);
+    CHECK(mintlintel_image_open(&image, path, MINTLINTEL_FLUSH, NUMBERS) == MINTLINTEL_DONE);
+    for (uint32_t sector = 0; sector < PAGES; sector++) {
+        CHECK(write_value(&image, sector, (uint8_t)(1 + sector)) == MINTLINTEL_EMPTY);
+        CHECK(mintlintel_driver_page(&image.device.core, sector, &at[sector]) == MINTLINTEL_WRITTEN);
+        CHECK(at[sector].block == at[0].block && at[sector].page == sector);
+    }
+    CHECK(mintlintel_image_close(&image) == MINTLINTEL_DONE);
+    change_byte(SESSION_AT + 4, 1);
+    change_byte(side_at(at[1].block) + 4096 + at[1].page * PAGE_BYTES, 1);
+    values[0] = 1;
+    uint32_t code = mintlintel_image_open(&image, path, MINTLINTEL_FLUSH, NUMBERS);
+    CHECK(code == MINTLINTEL_DONE && unreadable(&image) == 0);
+    mintlintel_image_close(&image);
+}
+
+/* The entry of a block in an image that was closed, as if the block had moved behind so many checkpoints. */
+static void set_entry_ahead(uint32_t block, uint64_t ahead)
+{
+    uint8_t entry[ENTRY_BYTES] = {0}, part[8];
+    uint64_t last = 0, was = 0;
+    int fd = open(path, O_RDWR);
+    for (int place = 0; place < 4; place++) {
+        uint64_t number = 0;
+        CHECK(pread(fd, part, sizeof part, CHECKPOINTS_AT + place * 4096) == sizeof part);
+        for (int i = 0; i < 8; i++)
+            number |= (uint64_t)part[i] << 8 * i;
+        last = number > last ? number : last;
+    }
+    CHECK(pread(fd, part, sizeof part, ENTRIES_AT + (off_t)block * ENTRY_BYTES) == sizeof part);
+    was = part[0];
+    for (int i = 0; i < 8; i++)
+        entry[i] = (uint8_t)(((last + ahead) * 2 + was % 2) >> 8 * i);
+    uint32_t check = mintlintel_crc32c(0, entry, 12);
+    for (int i = 0; i < 4; i++)
+        entry[12 + i] = (uint8_t)(check >> 8 * i);
+    CHECK(pwrite(fd, entry, sizeof entry, ENTRIES_AT + (off_t)block * ENTRY_BYTES) == sizeof entry);
+    close(fd);
+}
+
+/* A session leaves entries up to the checkpoint that comes next: with one behind that the file is no image. */
+static void entries_ahead(void)
+{
+    struct mintlintel_image image = {0};
+    for (uint32_t ahead = 0; ahead < 5; ahead++) {
+        begin(&image, MINTLINTEL_FLUSH);
+        CHECK(mintlintel_image_close(&image) == MINTLINTEL_DONE);
+        set_entry_ahead(ahead, ahead);
+        uint32_t code = mintlintel_image_open(&image, path, MINTLINTEL_FLUSH, NUMBERS);
+        CHECK(code == (ahead < 2 ? MINTLINTEL_DONE : MINTLINTEL_NOT_AN_IMAGE));
+        CHECK(code != MINTLINTEL_DONE || unreadable(&image) == 0);
+        mintlintel_image_close(&image);
+    }
+}
+
+enum { MANY = 2048, ALL = 2 * MANY + 1500, SMALL = 16, LARGE_BLOCK_BYTES = MANY * (SPARE_BYTES + SMALL) };
+
+/* Behind the page that a sector has, its block is erased. */
+static void check_erased_behind(struct mintlintel_image *image, uint32_t sector)
+{
+    static uint8_t spares[MANY * SPARE_BYTES];
+    struct mintlintel_place at;
+    CHECK(mintlintel_driver_page(&image->device.core, sector, &at) == MINTLINTEL_WRITTEN);
+    int fd = open(other, O_RDONLY);
+    CHECK(fd >= 0 && pread(fd, spares, sizeof spares, HEAD_BYTES + (off_t)at.block * LARGE_BLOCK_BYTES) == sizeof spares);
+    close(fd);
+    for (size_t i = (at.page + 1) * SPARE_BYTES; i < sizeof spares; i++)
+        CHECK(spares[i] == 0);
+}
+
+/* Blocks with more live pages than commands can wait: a collection is done in parts, and each of its commands is. */
+static void large_blocks(void)
+{
+    static uint32_t held[ALL];
+    struct mintlintel_image image = {0};
+    struct mintlintel_totals totals;
+    uint32_t page[SMALL / 4], large = 0;
+    CHECK(mintlintel_image_open(&image, other, MINTLINTEL_NEVER, 1, 4, MANY, SMALL, ALL) == MINTLINTEL_DONE);
+    for (uint32_t i = 0; i < ALL + 3 * MANY / 4; i++) {
+        uint32_t sector = i < ALL ? i : (uint32_t)((uint64_t)i * 7919 % ALL);
+        page[0] = page[3] = held[sector] = i + 1, page[1] = page[2] = sector;
+        mintlintel_durable_counts(&image.device, &totals);
+        uint64_t before = totals.copies;
+        CHECK(mintlintel_durable_write(&image.device, sector, page, SMALL) <= MINTLINTEL_WRITTEN);
+        mintlintel_durable_counts(&image.device, &totals);
+        if (totals.copies - before > 1024) {
+            check_erased_behind(&image, sector);
+            large++;
+        }
+    }
+    CHECK(large > 2);
+    for (uint32_t sector = 0; sector < ALL; sector++) {
+        CHECK(mintlintel_durable_read(&image.device, sector, page, SMALL) == MINTLINTEL_WRITTEN);
+        CHECK(page[0] == held[sector] && page[3] == held[sector] && page[1] == sector);
+    }
+    mintlintel_image_close(&image);
+    unlink(other);
+}
+
 int main(int argc, char **argv)
 {
     const char *folder = argc > 1 ? argv[1] : "out";
@@ -651,8 +742,11 @@ int main(int argc, char **argv)
     runs(MINTLINTEL_FLUSH);
     lists();
     parts_of_lists();
+    damaged_record();
+    entries_ahead();
+    large_blocks();
     full_disk();
     unlink(path);
-    printf("image: sessions, refusals, flipped and swapped bytes, copies and a full disk agree with what was acknowledged\n");
+    printf("image: sessions, refusals, flipped and swapped bytes, copies, large blocks and a full disk agree with what was acknowledged\n");
     return 0;
 }

@@ -187,6 +187,12 @@ static void *run(void *argument)
             CHECK(write_value(sector, i) == (done[sector] > 0));
             __atomic_store_n(&done[sector], i, __ATOMIC_SEQ_CST);
         }
+        if (i % 4 == 0) {
+            struct mintlintel_totals totals;
+            struct mintlintel_block block;
+            CHECK(mintlintel_locked_counts(&device, &totals) == MINTLINTEL_DONE);
+            CHECK(mintlintel_locked_block(&device, drawn(&state) % (PARTS * BLOCKS), &block) == MINTLINTEL_DONE && block.live <= PAGES);
+        }
         uint32_t least = __atomic_load_n(&done[sector], __ATOMIC_SEQ_CST), value = read_value(sector);
         CHECK(value >= least && value <= __atomic_load_n(&begun[sector], __ATOMIC_SEQ_CST));
     }

@@ -24,7 +24,7 @@ static void write_value(struct mintlintel_durable *device, uint32_t sector, uint
 static struct mintlintel_place place_of(struct mintlintel_durable *device, uint32_t sector)
 {
     struct mintlintel_place at;
-    CHECK(mintlintel_core_page(&device->core, sector, &at) == MINTLINTEL_WRITTEN);
+    CHECK(mintlintel_driver_page(&device->core, sector, &at) == MINTLINTEL_WRITTEN);
     return at;
 }
 

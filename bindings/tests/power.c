@@ -29,11 +29,13 @@ static size_t writes;
 static long left; /* writes and syncs up to the power cut */
 static int is_off, is_write; /* the power is off; it went in a write */
 static int is_nameless;      /* the machine tells no name of its run */
+static int has_one_side;     /* a block is erased where it stands */
 static int changes_mode;     /* an open may be in the other mode */
 static enum mintlintel_image_mode used; /* that of the last open */
 static uint64_t state = 88172645463325252u;
 static char path[4096];
 static long cuts, calls, kills, syncs;
+static struct mintlintel_reader *watching; /* reads a sector before each sync in mode `always` */
 
 ssize_t __real_pwrite64(int fd, const void *bytes, size_t count, off_t at);
 ssize_t __wrap_pwrite64(int fd, const void *bytes, size_t count, off_t at);
@@ -64,13 +66,15 @@ static int goes_off(void)
     return is_off;
 }
 
-/* A stamp is written to erased spare bytes, and no stamp stands behind it in its block. */
+/* A stamp is written to erased spare bytes, and no stamp stands behind it in its block. A block that was erased where it stands is erased on the disk. */
 static void check_stamp(int fd, size_t count, off_t at)
 {
     uint8_t spares[PAGES * SPARE_BYTES];
     size_t inside = (size_t)(at - HEAD_BYTES) % BLOCK_BYTES;
     if (at < HEAD_BYTES || at >= ENTRIES_AT || count != SPARE_BYTES || inside >= sizeof spares)
         return;
+    for (size_t i = 0; i < writes; i++)
+        CHECK(!has_one_side || used == MINTLINTEL_NEVER || pending[i].count != sizeof spares);
     CHECK(pread(fd, spares, sizeof spares - inside, at) == (ssize_t)(sizeof spares - inside));
     for (size_t i = 0; i < sizeof spares - inside; i++)
         CHECK(spares[i] == 0);
@@ -113,10 +117,19 @@ static void forget_writes(void)
         free(pending[--writes].bytes);
 }
 
+/* What a read returns in mode `always` is on the disk. */
+static void watch(void)
+{
+    uint8_t page[PAGE_BYTES];
+    if (watching)
+        CHECK(mintlintel_reader_read(watching, 0, page, sizeof page) == MINTLINTEL_WRITTEN && memmem(disk, LENGTH, page, sizeof page));
+}
+
 int __wrap_fdatasync(int fd)
 {
     (void)fd;
     syncs++;
+    watch();
     if (goes_off()) {
         errno = EIO;
         return -1;
@@ -339,6 +352,7 @@ static void run(enum mintlintel_image_mode mode, uint8_t version)
     begun = safe = 0;
     left = 1000;
     is_off = is_write = 0;
+    has_one_side = is_nameless || version == 1;
     if (version < VERSION)
         make_old(version);
     used = mode;
@@ -363,7 +377,7 @@ static void run(enum mintlintel_image_mode mode, uint8_t version)
 static void never(void)
 {
     struct mintlintel_image image = {0};
-    is_nameless = 0;
+    is_nameless = has_one_side = 0;
     used = MINTLINTEL_NEVER;
     left = 1000;
     for (int turn = 0; turn < 2; turn++) {
@@ -380,10 +394,36 @@ static void never(void)
     CHECK(mintlintel_image_close(&image) == MINTLINTEL_DONE);
 }
 
+static void reads_beside_syncs(void)
+{
+    struct mintlintel_image image = {0};
+    struct mintlintel_reader reader = {0};
+    long earlier;
+    unlink(path);
+    memset(disk, 0, sizeof disk);
+    left = 100000;
+    is_off = 0;
+    CHECK(mintlintel_image_open(&image, path, MINTLINTEL_ALWAYS, LUNS, BLOCKS, PAGES, PAGE_BYTES, SECTORS) == MINTLINTEL_DONE);
+    CHECK(mintlintel_reader_open(&reader, &image.device) == MINTLINTEL_DONE);
+    earlier = syncs;
+    for (uint32_t value = 1; value < 1000; value++) {
+        uint8_t page[PAGE_BYTES];
+        fill(page, 0x10000000u + value);
+        CHECK(mintlintel_durable_write(&image.device, value % 3 ? 0 : value % SECTORS, page, sizeof page) <= MINTLINTEL_WRITTEN);
+        watching = &reader;
+    }
+    CHECK(syncs - earlier >= 1000);
+    watching = NULL;
+    mintlintel_reader_close(&reader);
+    CHECK(mintlintel_image_close(&image) == MINTLINTEL_DONE);
+    forget_writes();
+}
+
 int main(int argc, char **argv)
 {
     int rounds = argc > 2 ? atoi(argv[2]) : 32;
     snprintf(path, sizeof path, "%s/power.image", argc > 1 ? argv[1] : "out");
+    reads_beside_syncs();
     for (int round = 0; round < rounds; round++) {
         is_nameless = round % 8 > 5;
         changes_mode = round / 8 % 2;

@@ -6,6 +6,7 @@ import random
 import re
 import time
 
+import crashes
 import failures
 import faults
 import files
@@ -489,7 +490,7 @@ REFUSING = {part.__name__: part for part in (
     overlaps, handles, resting_brooms, worn_out, by_qemu_io, a_map_of_holes, mixed_sizes, there_and_back, stock_by_itself, requests_by_themselves,
     refusals_at_the_end, trims_at_the_end, cold_data, lives, trims_inwards, told_by_the_protocol, worn_choices, marks_out_of_reach,
     faults.refused_resources, reports.statistics, reports.aged_at_start, images.image_file, images.killed, images.reads_beside_writes,
-    images.reads_beside_flushes, images.power_cuts, layers.in_layers, guests.files_and_a_database, failures.failing_image,
+    images.reads_beside_flushes, images.power_cuts, crashes.crash_points, layers.in_layers, guests.files_and_a_database, failures.failing_image,
     times.of_commands, times.under_collection)}
 REFUSING |= {f"{kind}_sanitizer": functools.partial(sanitized, kind=kind) for kind in ("address", "thread")}
 REFUSING["image_thread_sanitizer"] = functools.partial(images.image_sanitized, kind="thread")
@@ -501,7 +502,7 @@ ALONE = {"brooms that rest", "marks out of reach", "a device that wears out", "a
 
 
 # Those that take longest, so that they begin first.
-LONG = ("a guest's files and database", "an image, and power cuts", "an image, and kill -9", "an image in layers")
+LONG = ("a guest's files and database", "an image, and power cuts", "an image, and kill -9", "an image, and each cut", "an image in layers")
 
 
 def failed(shop, named):
@@ -559,6 +560,7 @@ def chosen(options):
         "an image, and reads beside flushes": images.reads_beside_flushes,
         "an image, and kill -9": images.killed,
         "an image, and power cuts": images.power_cuts,
+        "an image, and each cut of a run": crashes.crash_points,
         "an image in layers": layers.in_layers,
         "an image whose commands fail": failures.failing_image,
         "nbdkit's filters": filters.beside_filters,

@@ -12,11 +12,11 @@ from ._library import VERSION as __version__
 from .buffers import Buffer, WritableBuffer
 from .codes import Code
 from .device import Block, Counts, Device
-from .durable import Chip, ChipDevice, CommandFailed, DurableDevice, DurableNumbers, Image, PageLost, PowerLost
+from .durable import Chip, ChipDevice, CommandFailed, DurableDevice, DurableNumbers, Image, PageLost, PowerLost, Reader
 from .faults import (
     BadBlocksListed, BadNumbers, Busy, Closed, CutShort, FileFailed, FlashFailed, InUse, MintlintelError, NoBlock, NoRoom, NoSuchBlock, NoSuchSector,
     NoSuchWord, NotAPage, NotAnImage, OtherDevice, OtherNumbers, OtherProcess, OtherVersion, OutOfMemory, OutOfNumbers, PagesLost, PowerGone, Released,
-    Unreadable, WornOut, WrongKind,
+    Unreadable, Unsettled, WornOut, WrongKind,
 )
 from .numbers import Numbers, nearest
 from .replaying import Request, replay
@@ -27,6 +27,6 @@ __all__ = [
     "CommandFailed", "Counts", "CutShort", "Device", "Drain", "Drained", "DurableDevice", "DurableNumbers", "Erase",
     "FileFailed", "FlashFailed", "Held", "Host", "Image", "InUse", "MintlintelError", "NoBlock", "NoRoom", "NoSuchBlock",
     "NoSuchSector", "NoSuchWord", "NotAPage", "NotAnImage", "Numbers", "OtherDevice", "OtherNumbers", "OtherProcess", "OtherVersion",
-    "OutOfMemory", "OutOfNumbers", "Page", "PageLost", "PagesLost", "Phase", "PowerGone", "PowerLost", "Released", "Request", "SharedDevice",
-    "State", "Tally", "Unreadable", "WornOut", "WritableBuffer", "WrongKind", "__version__", "nearest", "replay",
+    "OutOfMemory", "OutOfNumbers", "Page", "PageLost", "PagesLost", "Phase", "PowerGone", "PowerLost", "Reader", "Released", "Request", "SharedDevice",
+    "State", "Tally", "Unreadable", "Unsettled", "WornOut", "WritableBuffer", "WrongKind", "__version__", "nearest", "replay",
 ]

@@ -62,6 +62,12 @@ class Image(ctypes.Structure):
     _fields_ = [("device", Durable), ("file", ctypes.c_void_p)]
 
 
+class Reader(ctypes.Structure):
+    """The handle of a reader."""
+
+    _fields_ = [("search", Handle), ("of", ctypes.c_void_p), ("chip", ctypes.c_void_p)]
+
+
 class DurableNumbers(ctypes.Structure):
     _fields_ = [(name, ctypes.c_uint32) for name in ("luns", "blocks", "pages", "page_bytes", "sectors")]
 
@@ -143,6 +149,9 @@ _CALLS = {
     "durable_losses": [_DURABLE, ctypes.POINTER(ctypes.c_uint64)],
     "durable_block": [_DURABLE, _U32, ctypes.POINTER(Block)],
     "durable_numbers": [_DURABLE, ctypes.POINTER(DurableNumbers)],
+    "reader_open": [ctypes.POINTER(Reader), _DURABLE],
+    "reader_read": [ctypes.POINTER(Reader), _U32, _BYTES, _SIZE],
+    "reader_close": [ctypes.POINTER(Reader)],
     "image_open": [_IMAGE, ctypes.c_char_p, *[_U32] * 6],
     "image_open_despite_losses": [_IMAGE, ctypes.c_char_p, *[_U32] * 6, ctypes.POINTER(ctypes.c_uint64)],
     "image_close": [_IMAGE],
@@ -155,7 +164,7 @@ _CALLS = {
     "write_within": [_HANDLE, _U32, _BYTES, _SIZE, _U32],
 }
 
-_WITHOUT_CODE = ("one_close", "seat_close", "durable_close", "answering_nand", "explain", "nearest")
+_WITHOUT_CODE = ("one_close", "seat_close", "durable_close", "reader_close", "answering_nand", "explain", "nearest")
 
 for _name, _arguments in _CALLS.items():
     _call = getattr(LIBRARY, f"mintlintel_{_name}")

@@ -33,6 +33,8 @@ class Code(enum.IntEnum):
     UNREADABLE = 33
     NO_ROOM = 34
     PAGES_LOST = 35
+    UNSETTLED = 36
+    READ_PAGE = 37
     NO_FILE = 40
     IN_USE = 41
     NOT_AN_IMAGE = 42

@@ -6,6 +6,8 @@ import ctypes
 import operator
 import os
 import reprlib
+import weakref
+from contextlib import ExitStack
 from typing import Any, Callable, ClassVar, Dict, NamedTuple, NoReturn, Optional, Tuple, Type, Union
 
 from . import _library
@@ -72,8 +74,23 @@ class DurableDevice(Owner):
     that raised it then has what it had, or what the call gave it."""
 
     def __init__(self, handle: ctypes.Structure, device: _library.Durable) -> None:
+        self._readers: weakref.WeakSet[Reader] = weakref.WeakSet()
         super().__init__(handle)
         self._device = device
+
+    def _give_up(self) -> None:
+        """Closes the device once no reader reads."""
+        with ExitStack() as readers:
+            for reader in list(self._readers):
+                readers.enter_context(reader._lock)
+            self._closed(type(self)._close_handle(self._handle))
+
+    def _closed(self, code: object) -> None:
+        """Raises the fault of a close, if it has one."""
+
+    def reader(self) -> Reader:
+        """A reader, for another thread. The first one of a device takes 8 bytes for each sector, and reads the stamp of each sector's page."""
+        return Reader(self)
 
     def _called(self, call: Callable[..., int], *arguments: object) -> int:
         """Makes a call of C on the device."""
@@ -211,10 +228,9 @@ class Image(DurableDevice):
                 _refuse_file(code, LIBRARY.mintlintel_image_errno(self._handle), self._path)
             return code
 
-    def _give_up(self) -> None:
-        """Closes the image. `FileFailed` if its last sync failed; then too it is closed."""
-        code = type(self)._close_handle(self._handle)
-        if code:
+    def _closed(self, code: object) -> None:
+        """`FileFailed` if its last sync failed; then too it is closed."""
+        if isinstance(code, int) and code:
             _refuse_file(code, ctypes.get_errno(), self._path)
 
     def copy(self, path: Union[str, os.PathLike[str]]) -> None:
@@ -225,6 +241,57 @@ class Image(DurableDevice):
             error = ctypes.get_errno()
         _refuse_file(code, error, os.fspath(path))
         self._checked(code)
+
+
+class Reader(Owner):
+    """Reads a device beside the thread that writes to it: a read waits for no write, collection, erase or sync, and other threads of Python run meanwhile.
+    Of a `Chip` it calls `read` beside the other methods. It answers what its sector had after a beginning of all writes and trims that were done, in their
+    order, which has all that this reader has seen.
+
+    >>> import tempfile, threading
+    >>> folder = tempfile.TemporaryDirectory()
+    >>> image = Image(f"{folder.name}/disk.img", blocks=8, pages=16, page_bytes=512, sectors=100)
+    >>> reader = image.reader()
+    >>> image.write(7, b"a page".ljust(512))
+    False
+    >>> thread = threading.Thread(target=lambda: print(reader.read(7)[:6]))
+    >>> thread.start(); thread.join()
+    b'a page'
+    >>> image.close()
+    >>> folder.cleanup()
+    """
+
+    _close_handle = LIBRARY.mintlintel_reader_close
+
+    def __init__(self, device: DurableDevice) -> None:
+        handle = _library.Reader()
+        super().__init__(handle)
+        self._of = device
+        with device._lock:
+            code = device._called(lambda at: int(LIBRARY.mintlintel_reader_open(handle, at)))
+            device._readers.add(self)
+        checked(code)
+
+    def _called(self, call: Callable[..., int], *arguments: object) -> int:
+        with self._lock:
+            code = call(self._handle, *arguments)
+        if code == Code.FILE_FAILED and isinstance(self._of, Image):
+            _refuse_file(code, LIBRARY.mintlintel_image_errno(self._of._handle), self._of._path)
+        return code
+
+    def _read(self, sector: int, start: int, length: int) -> bool:
+        code = self._called(LIBRARY.mintlintel_reader_read, number(sector), start, length)
+        return self._of._checked(code, sector, length)
+
+    def read(self, sector: int) -> Optional[bytes]:
+        """The page of a sector, or None for an empty one. `Unsettled` if its page was moved at each look: read again."""
+        page, start = new_bytes(self._of.page_bytes)
+        return page if self._read(sector, start, self._of.page_bytes) else None
+
+    def read_into(self, sector: int, buffer: WritableBuffer) -> bool:
+        """Reads a sector into a writable buffer of one page. Of an empty sector the buffer has any bytes; then it returns False."""
+        with bytes_of(buffer, writable=True) as (start, length):
+            return self._read(sector, start, length)
 
 
 class PageLost(Exception):
@@ -278,14 +345,69 @@ def _fill(start: int, length: int, found: object, name: str) -> None:
     ctypes.memmove(start, view.tobytes(), length)
 
 
-class ChipDevice(DurableDevice):
+class _CallsChip(Owner):
+    """What calls the methods of a chip by way of C: a device, or a reader in another thread. A call from within a call raises `Busy`."""
+
+    # Whether C runs, and may call the chip's methods; and what one of them has raised in this call.
+    _is_calling = False
+    _raised: Optional[BaseException] = None
+
+    def _refuse_within(self) -> None:
+        if self._is_calling:
+            raise Busy("this call came from within another one on the device: from a method of its chip, or from a signal's handler")
+
+    def _guarded(self, call: Callable[..., int], *arguments: object) -> int:
+        with self._lock:
+            self._refuse_within()
+            self._raised = None
+            try:
+                self._is_calling = True
+                code = call(*arguments)
+            finally:
+                self._is_calling = False
+            raised, self._raised = self._raised, None
+        if isinstance(raised, (CommandFailed, PageLost, PowerLost)):
+            gone = PowerGone("the power is gone")
+            gone.code = Code.POWER_GONE
+            raise gone from raised
+        if raised is not None:
+            raise raised
+        return code
+
+    def _answered(self, call: Callable[..., int], fault: Union[Type[Exception], Tuple[()]] = (), code: int = 3) -> Callable[..., None]:
+        """A function of C that calls a method of the chip. Its answer stays 3, power gone, until the method has ended well or raised its own fault: an
+        exception of a signal's handler may leave it at any point, also before its first statement. After a fault the chip gets no other command."""
+        def answer(_chip: object, *arguments: Any) -> None:
+            try:
+                if self._raised is None:
+                    arguments[-1][0] = call(*arguments[:-1])
+            except fault:
+                arguments[-1][0] = code
+            except BaseException as raised:  # noqa: BLE001, since it can't pass through C; the call raises it
+                self._raised = raised
+        return answer
+
+    def _read_function(self, chip: Chip, length: int) -> Any:
+        """The function of C that calls the chip's `read`."""
+        def read(block: int, page: int, main: Optional[int], stamp: int) -> int:
+            found = chip.read(block, page, main is not None)
+            if found is None:
+                return 1
+            if not isinstance(found, (tuple, list)) or len(found) != 2:
+                raise TypeError(f"Chip.read returned {reprlib.repr(found)}, and None or the bytes of a page and of its stamp are wanted")
+            if main is not None:
+                _fill(main, length, found[0], "the page")
+            _fill(stamp, STAMP_BYTES, found[1], "the stamp")
+            return 0
+
+        return _library.ANSWERING_TYPES["read"](self._answered(read, PageLost, 2))
+
+
+class ChipDevice(_CallsChip, DurableDevice):
     """A device that survives power cuts, on a `Chip`. It raises `PagesLost` as an `Image` does, unless `despite_losses`. What its chip raises a call raises,
     and then the power counts as gone: close the device, and open it again. A call from within a call raises `Busy`."""
 
     _close_handle = LIBRARY.mintlintel_durable_close
-    # Whether C runs, and may call the chip's methods; and what one of them has raised in this call.
-    _is_calling = False
-    _raised: Optional[BaseException] = None
 
     def __init__(self, chip: Chip, *, blocks: int, pages: int, page_bytes: int, sectors: int, luns: int = 1,
                  despite_losses: bool = False) -> None:
@@ -315,55 +437,17 @@ class ChipDevice(DurableDevice):
                 self._refuse_within()
                 super().close()
 
-    def _refuse_within(self) -> None:
-        if self._is_calling:
-            raise Busy("this call came from within another one on the device: from a method of its chip, or from a signal's handler")
-
     def _called(self, call: Callable[..., int], *arguments: object) -> int:
-        with self._lock:
-            self._refuse_within()
-            self._raised = None
-            try:
-                self._is_calling = True
-                code = call(self._device, *arguments)
-            finally:
-                self._is_calling = False
-            raised, self._raised = self._raised, None
-        if isinstance(raised, (CommandFailed, PageLost, PowerLost)):
-            gone = PowerGone("the power is gone")
-            gone.code = Code.POWER_GONE
-            raise gone from raised
-        if raised is not None:
-            raise raised
-        return code
+        return self._guarded(call, self._device, *arguments)
 
-    def _answered(self, call: Callable[..., int], fault: Union[Type[Exception], Tuple[()]] = (), code: int = 3) -> Callable[..., None]:
-        """A function of C that calls a method of the chip. Its answer stays 3, power gone, until the method has ended well or raised its own fault: an
-        exception of a signal's handler may leave it at any point, also before its first statement. After a fault the chip gets no other command."""
-        def answer(_chip: object, *arguments: Any) -> None:
-            try:
-                if self._raised is None:
-                    arguments[-1][0] = call(*arguments[:-1])
-            except fault:
-                arguments[-1][0] = code
-            except BaseException as raised:  # noqa: BLE001, since it can't pass through C; the call raises it
-                self._raised = raised
-        return answer
+    def reader(self) -> Reader:
+        """A reader, for another thread: the chip's `read` is called there too, beside its other methods. The first one takes 8 bytes for each sector, and reads
+        the stamp of each sector's page."""
+        return _ChipReader(self)
 
     def _functions(self) -> Dict[str, Any]:
         """The functions of C that call the chip's methods."""
         chip, length = self._chip, self._chip_bytes
-
-        def read(block: int, page: int, main: Optional[int], stamp: int) -> int:
-            found = chip.read(block, page, main is not None)
-            if found is None:
-                return 1
-            if not isinstance(found, (tuple, list)) or len(found) != 2:
-                raise TypeError(f"Chip.read returned {reprlib.repr(found)}, and None or the bytes of a page and of its stamp are wanted")
-            if main is not None:
-                _fill(main, length, found[0], "the page")
-            _fill(stamp, STAMP_BYTES, found[1], "the stamp")
-            return 0
 
         def is_bad(block: int) -> int:
             found = chip.is_bad(block)
@@ -381,8 +465,26 @@ class ChipDevice(DurableDevice):
             return done("program", block, page, ctypes.string_at(main, length), ctypes.string_at(stamp, STAMP_BYTES))
 
         calls = {
-            "read": self._answered(read, PageLost, 2), "program": self._answered(program, CommandFailed, 1),
+            "program": self._answered(program, CommandFailed, 1),
             "erase": self._answered(lambda block: done("erase", block), CommandFailed, 1), "is_bad": self._answered(is_bad),
             "mark_bad": self._answered(lambda block: done("mark_bad", block)), "sync": self._answered(lambda: done("sync"), CommandFailed, 1),
         }
-        return {name: _library.ANSWERING_TYPES[name](call) for name, call in calls.items()}
+        return {"read": self._read_function(chip, length), **{name: _library.ANSWERING_TYPES[name](call) for name, call in calls.items()}}
+
+
+class _ChipReader(_CallsChip, Reader):
+    """A reader of a chip. It has a function of its own that calls the chip's `read`, so that what that raises is this reader's."""
+
+    def __init__(self, device: ChipDevice) -> None:
+        Reader.__init__(self, device)
+        self._answering = _library.Answering(None, self._read_function(device._chip, device._chip_bytes))
+        assert self._handle is not None
+        self._handle.chip = ctypes.addressof(self._answering)
+
+    def close(self) -> None:
+        with self._lock:
+            self._refuse_within()
+            super().close()
+
+    def _called(self, call: Callable[..., int], *arguments: object) -> int:
+        return self._guarded(call, self._handle, *arguments)

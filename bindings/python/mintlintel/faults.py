@@ -83,6 +83,10 @@ class Unreadable(MintlintelError):
     """The sector's page can't be read, and no older one is given for it."""
 
 
+class Unsettled(MintlintelError):
+    """A reader's page was moved whenever it looked: read again."""
+
+
 class PagesLost(MintlintelError):
     """Pages have become unreadable, and older versions may stand for them. `despite_losses=True` opens the device all the same."""
 
@@ -143,6 +147,7 @@ _FAULTS: Dict[int, Tuple[Type[MintlintelError], str]] = {
     Code.OTHER_DEVICE: (OtherDevice, "the flash holds another device"),
     Code.NO_NUMBER: (OutOfNumbers, "the numbers have run out"),
     Code.UNREADABLE: (Unreadable, "the page can't be read"),
+    Code.UNSETTLED: (Unsettled, "the sector's page was moved at each look"),
     Code.PAGES_LOST: (PagesLost, "pages have become unreadable, and older versions may stand for them"),
     Code.IN_USE: (InUse, "the image is in use"),
     Code.NOT_AN_IMAGE: (NotAnImage, "not an image, or its head is damaged"),

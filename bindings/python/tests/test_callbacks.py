@@ -475,5 +475,73 @@ class Answers(Device):
         self.check_sectors(chip, numbers)
 
 
+class Readers(unittest.TestCase):
+    def test_see_what_is_written_beside_them(self):
+        with mintlintel.ChipDevice(Memory(), **NUMBERS) as device:
+            done, is_over, failed = [0] * 40, threading.Event(), []
+
+            def read_on(reader):
+                state, seen = random.Random(id(reader)), [0] * 40
+                try:
+                    while not is_over.is_set():
+                        sector = state.randrange(40)
+                        least = max(seen[sector], done[sector])
+                        try:
+                            found = reader.read(sector)
+                        except mintlintel.Unsettled:
+                            continue
+                        seen[sector] = int.from_bytes(found[:8], "little") if found else 0
+                        assert seen[sector] >= least and (found is None or found == page(seen[sector]))
+                except BaseException as fault:
+                    failed.append(fault)
+
+            threads = [threading.Thread(target=read_on, args=(device.reader(),)) for _ in range(3)]
+            for thread in threads:
+                thread.start()
+            draw = random.Random(1)
+            for value in range(1, 1500):
+                sector = draw.randrange(40)
+                device.write(sector, page(value))
+                done[sector] = value
+            is_over.set()
+            for thread in threads:
+                thread.join()
+            self.assertEqual(failed, [])
+            reader = device.reader()
+            self.assertEqual([reader.read(sector) for sector in range(40)], [device.read(sector) for sector in range(40)])
+            self.assertRaises(mintlintel.NoSuchSector, reader.read, 40)
+        self.assertRaises(mintlintel.Closed, reader.read, 3)
+
+    def test_raise_what_their_chip_raises(self):
+        chip = Memory()
+        with mintlintel.ChipDevice(chip, **NUMBERS) as device:
+            device.write(3, page(1))
+            reader, other = device.reader(), device.reader()
+
+            def before(name):
+                if threading.current_thread() is not threading.main_thread():
+                    raise Interrupted(name)
+
+            chip.before = before
+            raised = []
+
+            def read():
+                for _ in range(2):
+                    try:
+                        reader.read(3)
+                    except Interrupted as fault:
+                        raised.append(str(fault))
+
+            thread = threading.Thread(target=read)
+            thread.start()
+            thread.join()
+            self.assertEqual(raised, ["read", "read"])
+            self.assertEqual((device.read(3), other.read(3), reader.read(3)), (page(1),) * 3)
+            chip.before = lambda name: reader.read(3)
+            self.assertRaises(mintlintel.Busy, reader.read, 3)
+            chip.before = lambda name: None
+            self.assertEqual(reader.read(3), page(1))
+
+
 if __name__ == "__main__":
     unittest.main()

@@ -8,6 +8,7 @@ import random
 import subprocess
 import sys
 import tempfile
+import threading
 import types
 import unittest
 
@@ -109,6 +110,38 @@ class Images(unittest.TestCase):
         with mintlintel.Image(self.path, **NUMBERS) as image:
             self.assertEqual(len(list(mintlintel.replay(image, log))), 60)
             self.assertEqual(image.counts().programs, 60)
+
+    def test_readers_see_what_is_written_beside_them(self):
+        with tempfile.TemporaryDirectory() as folder, mintlintel.Image(f"{folder}/a", **NUMBERS, mode="never") as image:
+            faults, done = [], [0]
+
+            def read_on(reader):
+                seen = 0
+                try:
+                    while seen < 300:
+                        least, found = max(seen, done[0]), reader.read(3)
+                        value = int.from_bytes(found[:8], "little") if found else 0
+                        self.assertTrue(least <= value <= done[0] + 1)
+                        self.assertEqual(found or page(0), page(value))
+                        seen = value
+                except BaseException as fault:
+                    faults.append(fault)
+
+            threads = [threading.Thread(target=read_on, args=(image.reader(),)) for _ in range(3)]
+            for thread in threads:
+                thread.start()
+            for value in range(1, 301):
+                image.write(3, page(value))
+                done[0] = value
+                image.write(4 + value % 50, page(value))
+            for thread in threads:
+                thread.join()
+            self.assertEqual(faults, [])
+            reader = image.reader()
+            self.assertRaises(mintlintel.NoSuchSector, reader.read, 60)
+            self.assertRaises(mintlintel.NotAPage, reader.read_into, 3, bytearray(63))
+            image.close()
+            self.assertRaises(mintlintel.Closed, reader.read, 3)
 
     def test_what_is_refused(self):
         with self.assertRaises(FileNotFoundError):

@@ -7,11 +7,14 @@ use std::error::Error;
 use std::ffi::{c_void, CString};
 use std::fmt::{self, Display, Formatter};
 use std::io;
+use std::marker::PhantomData;
 use std::os::raw::c_int;
 use std::os::unix::ffi::OsStrExt;
 use std::panic::{catch_unwind, resume_unwind, AssertUnwindSafe};
 use std::path::Path;
+use std::ptr;
 use std::slice;
+use std::sync::{Arc, PoisonError, RwLock};
 
 /// The bytes of a stamp, which are programmed with their page into its spare bytes.
 pub const STAMP_BYTES: usize = 24;
@@ -71,6 +74,8 @@ pub struct Shape {
 #[derive(Debug)]
 #[non_exhaustive]
 pub enum DurableFault {
+    /// Of a reader: its image is closed.
+    Closed,
     NoSector,
     NotAPage,
     NoMemory,
@@ -89,10 +94,12 @@ pub enum DurableFault {
     /// The same, after a sync of the flash that failed.
     Failed,
     OtherDevice,
-    /// The numbers of versions have run out.
+    /// The numbers of versions have run out, or those of readers: then read the image itself, or by a reader that is opened now.
     NoNumber,
     /// The sector's page can't be read, and no older one is given for it.
     Unreadable,
+    /// Of a reader: its page was moved whenever it looked. Read again.
+    Unsettled,
     /// Pages have become unreadable, and older versions may stand for them. `open_despite_losses` opens the device all the same.
     PagesLost,
     InUse,
@@ -114,6 +121,7 @@ pub enum DurableFault {
 impl DurableFault {
     fn of(code: u32, file: impl FnOnce() -> io::Error) -> DurableFault {
         match code {
+            2 => DurableFault::Closed,
             3 => DurableFault::NoSector,
             4 => DurableFault::NotAPage,
             6 => DurableFault::NoMemory,
@@ -126,6 +134,7 @@ impl DurableFault {
             31 => DurableFault::NoNumber,
             33 => DurableFault::Unreadable,
             35 => DurableFault::PagesLost,
+            36 => DurableFault::Unsettled,
             40 | 46 => DurableFault::File(file()),
             41 => DurableFault::InUse,
             42 => DurableFault::NotAnImage,
@@ -148,6 +157,7 @@ impl DurableFault {
 impl Display for DurableFault {
     fn fmt(&self, f: &mut Formatter) -> fmt::Result {
         f.write_str(match self {
+            DurableFault::Closed => "the image is closed",
             DurableFault::NoSector => "no such sector",
             DurableFault::NotAPage => "not a page",
             DurableFault::NoMemory => "out of memory",
@@ -162,6 +172,7 @@ impl Display for DurableFault {
             DurableFault::NoNumber => "the numbers have run out",
             DurableFault::Unreadable => "the page can't be read",
             DurableFault::PagesLost => "pages have become unreadable, and older versions may stand for them",
+            DurableFault::Unsettled => "the sector's page was moved at each look",
             DurableFault::InUse => "the image is in use",
             DurableFault::NotAnImage => "not an image, or its head is damaged",
             DurableFault::OtherVersion => "an image of another version",
@@ -322,11 +333,13 @@ impl<N: Nand> Durable<N> {
         io::Error::from_raw_os_error(0)
     }
 
-    /// Goes on with a panic of the chip.
     fn go_on(&self) {
-        if let Some(panic) = unsafe { (*self.chip).panic.take() } {
-            resume_unwind(panic);
-        }
+        unsafe { go_on(self.chip) }
+    }
+
+    /// The device for one thread, and for readers in others as long as it is borrowed so.
+    pub fn share(&mut self) -> SharedDurable<'_, N> {
+        SharedDurable { device: self }
     }
 
     /// The flash.
@@ -344,6 +357,152 @@ impl<N: Nand> Drop for Durable<N> {
             raw::mintlintel_durable_close(self.at());
             drop(Box::from_raw(self.chip));
         }
+    }
+}
+
+/// A device beside whose calls other threads read.
+///
+/// ```
+/// # use mintlintel::{ChipFault, Durable, Nand, Reading, Shape, Was, STAMP_BYTES};
+/// # use std::sync::{Arc, Mutex};
+/// #[derive(Clone)]
+/// struct Flash(Arc<Mutex<Vec<Option<(Vec<u8>, [u8; STAMP_BYTES])>>>>);
+///
+/// impl Nand for Flash {
+///     // ..
+/// #   fn read(&mut self, block: u32, page: u32, main: Option<&mut [u8]>, stamp: &mut [u8; STAMP_BYTES]) -> Result<Reading, ChipFault> {
+/// #       let pages = self.0.lock().unwrap();
+/// #       let (bytes, with) = match &pages[(8 * block + page) as usize] {
+/// #           Some(found) => found,
+/// #           None => return Ok(Reading::Erased),
+/// #       };
+/// #       if let Some(main) = main { main.copy_from_slice(bytes) }
+/// #       *stamp = *with;
+/// #       Ok(Reading::Version)
+/// #   }
+/// #   fn program(&mut self, block: u32, page: u32, main: &[u8], stamp: &[u8; STAMP_BYTES]) -> Result<(), ChipFault> {
+/// #       self.0.lock().unwrap()[(8 * block + page) as usize] = Some((main.to_vec(), *stamp));
+/// #       Ok(())
+/// #   }
+/// #   fn erase(&mut self, block: u32) -> Result<(), ChipFault> {
+/// #       self.0.lock().unwrap()[8 * block as usize..][..8].fill(None);
+/// #       Ok(())
+/// #   }
+/// }
+///
+/// # fn main() -> Result<(), mintlintel::DurableFault> {
+/// # let flash = Flash(Arc::new(Mutex::new(vec![None; 64])));
+/// let mut device = Durable::open(flash, Shape { luns: 1, blocks: 8, pages: 8, page_bytes: 512, sectors: 30 })?;
+/// let mut shared = device.share();
+/// let mut reader = shared.reader()?;
+/// std::thread::scope(|threads| {
+///     threads.spawn(move || reader.read(7, &mut [0; 512]));
+///     shared.write(7, &[1; 512])
+/// })?;
+/// # let mut reader = shared.reader()?;
+/// # assert_eq!(reader.read(7, &mut [0; 512])?, Was::Written);
+/// # Ok(())
+/// # }
+/// ```
+///
+/// No reader outlives the device:
+///
+/// ```compile_fail,E0505
+/// fn outlives<N: mintlintel::Nand + Clone>(mut device: mintlintel::Durable<N>) {
+///     let mut reader = device.share().reader().unwrap();
+///     drop(device);
+///     reader.read(0, &mut [0; 512]).unwrap();
+/// }
+/// ```
+///
+/// Beside readers the device makes its calls by this alone:
+///
+/// ```compile_fail,E0499
+/// fn is_written<N: mintlintel::Nand + Clone>(mut device: mintlintel::Durable<N>) {
+///     let mut reader = device.share().reader().unwrap();
+///     device.write(0, &[0; 512]).unwrap();
+///     reader.read(0, &mut [0; 512]).unwrap();
+/// }
+/// ```
+pub struct SharedDurable<'a, N: Nand> {
+    device: &'a mut Durable<N>,
+}
+
+impl<'a, N: Nand> SharedDurable<'a, N> {
+    calls!(at);
+
+    fn at(&self) -> *mut raw::Durable {
+        self.device.at()
+    }
+
+    fn file_error(&self) -> io::Error {
+        self.device.file_error()
+    }
+
+    fn go_on(&self) {
+        self.device.go_on()
+    }
+
+    /// A reader, for another thread. It reads by a clone of the chip, which has to be of the same flash. The first one of a device takes 8 bytes for each
+    /// sector, and reads the stamp of each sector's page.
+    pub fn reader(&mut self) -> Result<DurableReader<'a, N>, DurableFault>
+    where
+        N: Clone,
+    {
+        let mut handle = raw::Reader::CLOSED;
+        let code = unsafe { raw::mintlintel_reader_open(&mut handle, self.at()) };
+        // From here on it is closed when it is dropped, also if the clone panics.
+        let mut reader = DurableReader { handle, chip: ptr::null_mut(), of: PhantomData };
+        self.was(code)?;
+        let Chip { nand, page_bytes, .. } = unsafe { &*self.device.chip };
+        reader.chip = Box::into_raw(Box::new(Chip { nand: nand.clone(), page_bytes: *page_bytes, panic: None }));
+        reader.handle.chip = reader.chip.cast();
+        Ok(reader)
+    }
+}
+
+/// Reads a device beside the thread that writes to it, as a [`Reader`] does an image. A panic of its chip is this read's.
+pub struct DurableReader<'a, N: Nand> {
+    handle: raw::Reader,
+    // A clone of the device's.
+    chip: *mut Chip<N>,
+    of: PhantomData<&'a Durable<N>>,
+}
+
+// A handle and its chip may go to another thread, as a whole.
+unsafe impl<N: Nand + Send> Send for DurableReader<'_, N> {}
+
+impl<N: Nand> DurableReader<'_, N> {
+    /// Reads a sector into a buffer of one page. Of an empty sector, and after a fault, the buffer has any bytes.
+    pub fn read(&mut self, sector: u32, out: &mut [u8]) -> Result<Was, DurableFault> {
+        let code = unsafe { raw::mintlintel_reader_read(&mut self.handle, sector, out.as_mut_ptr().cast(), out.len()) };
+        unsafe { go_on(self.chip) };
+        was_read(code)
+    }
+}
+
+impl<N: Nand> Drop for DurableReader<'_, N> {
+    fn drop(&mut self) {
+        unsafe { raw::mintlintel_reader_close(&mut self.handle) };
+        if !self.chip.is_null() {
+            drop(unsafe { Box::from_raw(self.chip) });
+        }
+    }
+}
+
+/// Goes on with a panic of a chip.
+unsafe fn go_on<N>(chip: *mut Chip<N>) {
+    if let Some(panic) = (*chip).panic.take() {
+        resume_unwind(panic);
+    }
+}
+
+/// What a reader's call has returned.
+fn was_read(code: u32) -> Result<Was, DurableFault> {
+    match code {
+        0 => Ok(Was::Empty),
+        1 => Ok(Was::Written),
+        code => Err(DurableFault::of(code, io::Error::last_os_error)),
     }
 }
 
@@ -438,6 +597,8 @@ pub enum Mode {
 /// ```
 pub struct Image {
     handle: UnsafeCell<raw::Image>,
+    // Readers hold it to read while they read, and the close to write.
+    is_open: Arc<RwLock<bool>>,
 }
 
 // A handle may go to another thread, as a whole.
@@ -467,7 +628,7 @@ impl Image {
             unsafe { raw::mintlintel_image_open(&mut handle, path, mode, luns, blocks, pages, page_bytes, sectors) }
         };
         match code {
-            0 => Ok(Image { handle: UnsafeCell::new(handle) }),
+            0 => Ok(Image { handle: UnsafeCell::new(handle), is_open: Arc::new(RwLock::new(true)) }),
             code => Err(DurableFault::of(code, io::Error::last_os_error)),
         }
     }
@@ -503,17 +664,85 @@ impl Image {
         }
     }
 
-    /// Closes the image, and tells whether its last sync failed.
+    /// A reader, for another thread. The first one of an image takes 8 bytes for each sector.
+    pub fn reader(&mut self) -> Result<Reader, DurableFault> {
+        let mut handle = raw::Reader::CLOSED;
+        match unsafe { raw::mintlintel_reader_open(&mut handle, self.at()) } {
+            0 => Ok(Reader { handle, is_open: Arc::clone(&self.is_open) }),
+            code => Err(DurableFault::of(code, || self.file_error())),
+        }
+    }
+
+    /// Closes the image, and tells whether its last sync failed. It waits for reads that are under way.
     pub fn close(self) -> Result<(), DurableFault> {
-        match unsafe { raw::mintlintel_image_close(self.handle.get()) } {
+        match self.end() {
             0 => Ok(()),
             code => Err(DurableFault::of(code, io::Error::last_os_error)),
         }
+    }
+
+    fn end(&self) -> u32 {
+        let mut is_open = self.is_open.write().unwrap_or_else(PoisonError::into_inner);
+        *is_open = false;
+        unsafe { raw::mintlintel_image_close(self.handle.get()) }
     }
 }
 
 impl Drop for Image {
     fn drop(&mut self) {
-        unsafe { raw::mintlintel_image_close(self.handle.get()) };
+        self.end();
+    }
+}
+
+/// Reads an image beside the thread that writes to it. A read waits for no write, collection, erase or sync. It answers what its sector had after a
+/// beginning of all writes and trims that were done, in their order, which has all that this reader has seen.
+///
+/// ```
+/// # use mintlintel::{Image, Mode, Shape, Was};
+/// # fn main() -> Result<(), Box<dyn std::error::Error>> {
+/// # let path = std::env::temp_dir().join(format!("mintlintel-readers-{}.img", std::process::id()));
+/// let mut image = Image::open(&path, Mode::Never, Shape { luns: 1, blocks: 8, pages: 16, page_bytes: 512, sectors: 100 })?;
+/// let mut reader = image.reader()?;
+/// image.write(7, &[1; 512])?;
+/// let thread = std::thread::spawn(move || {
+///     let mut page = [0; 512];
+///     reader.read(7, &mut page).map(|was| (was, page))
+/// });
+/// let (was, page) = thread.join().unwrap()?;
+/// assert_eq!((was, page), (Was::Written, [1; 512]));
+/// # std::fs::remove_file(&path)?;
+/// # Ok(())
+/// # }
+/// ```
+///
+/// It may go to another thread, and two threads can't share one:
+///
+/// ```compile_fail,E0277
+/// fn is_shared<T: Sync>() {}
+/// is_shared::<mintlintel::Reader>();
+/// ```
+pub struct Reader {
+    handle: raw::Reader,
+    is_open: Arc<RwLock<bool>>,
+}
+
+// A handle may go to another thread, as a whole.
+unsafe impl Send for Reader {}
+
+impl Reader {
+    /// Reads a sector into a buffer of one page. Of an empty sector, and after a fault, the buffer has any bytes.
+    pub fn read(&mut self, sector: u32, out: &mut [u8]) -> Result<Was, DurableFault> {
+        // Only a close holds the lock otherwise, and a closed image isn't waited for.
+        let _open = match self.is_open.try_read() {
+            Ok(is_open) if *is_open => is_open,
+            _ => return Err(DurableFault::Closed),
+        };
+        was_read(unsafe { raw::mintlintel_reader_read(&mut self.handle, sector, out.as_mut_ptr().cast(), out.len()) })
+    }
+}
+
+impl Drop for Reader {
+    fn drop(&mut self) {
+        unsafe { raw::mintlintel_reader_close(&mut self.handle) };
     }
 }

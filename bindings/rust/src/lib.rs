@@ -24,7 +24,7 @@ mod shared;
 
 pub use broom::{BlockCounts, Broom, Collect, Collected, Drain, Erase, Phase, State, Tally};
 pub use device::{Block, Counts, Device};
-pub use durable::{ChipFault, Durable, DurableFault, Image, Mode, Nand, Reading, Shape, STAMP_BYTES};
+pub use durable::{ChipFault, Durable, DurableFault, DurableReader, Image, Mode, Nand, Reader, Reading, Shape, SharedDurable, STAMP_BYTES};
 pub use fault::{Fault, OpenError, OpenFault};
 pub use host::{Held, Host, PagePlace};
 pub use shared::SharedDevice;

@@ -147,6 +147,18 @@ impl Image {
     pub const CLOSED: Image = Image { device: Durable::CLOSED, file: ptr::null_mut() };
 }
 
+/// The handle of a reader.
+#[repr(C)]
+pub struct Reader {
+    search: Handle,
+    of: *mut c_void,
+    pub chip: *mut c_void,
+}
+
+impl Reader {
+    pub const CLOSED: Reader = Reader { search: Handle::CLOSED, of: ptr::null_mut(), chip: ptr::null_mut() };
+}
+
 #[repr(C)]
 #[derive(Default)]
 pub struct DurableNumbers {
@@ -189,6 +201,9 @@ extern "C" {
     pub fn mintlintel_durable_losses(h: *mut Durable, losses: *mut u64) -> u32;
     pub fn mintlintel_durable_block(h: *mut Durable, block: u32, report: *mut Block) -> u32;
     pub fn mintlintel_durable_numbers(h: *mut Durable, numbers: *mut DurableNumbers) -> u32;
+    pub fn mintlintel_reader_open(r: *mut Reader, h: *mut Durable) -> u32;
+    pub fn mintlintel_reader_read(r: *mut Reader, sector: u32, out: *mut c_void, bytes: usize) -> u32;
+    pub fn mintlintel_reader_close(r: *mut Reader);
     pub fn mintlintel_image_open(
         h: *mut Image, path: *const c_char, mode: c_int, luns: u32, blocks: u32, pages: u32, page_bytes: u32, sectors: u32,
     ) -> u32;

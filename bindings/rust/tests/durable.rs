@@ -1,6 +1,8 @@
 //! A device over a chip whose power goes, or that panics, and an image, against plain arrays.
 use mintlintel::{ChipFault, Durable, DurableFault, Image, Mode, Nand, Reading, Shape, Was, STAMP_BYTES};
 use std::panic::{catch_unwind, AssertUnwindSafe};
+use std::sync::atomic::{AtomicBool, AtomicU64, Ordering::SeqCst};
+use std::sync::{Arc, Mutex};
 
 const SHAPE: Shape = Shape { luns: 1, blocks: 12, pages: 8, page_bytes: 16, sectors: 60 };
 
@@ -280,5 +282,167 @@ fn image_keeps_what_was_written() -> Result<(), Box<dyn std::error::Error>> {
     assert_eq!(copy.read(3, &mut page)?, Was::Written);
     std::fs::remove_file(&path)?;
     std::fs::remove_file(&copied)?;
+    Ok(())
+}
+
+#[test]
+fn readers_see_what_is_written_beside_them() -> Result<(), Box<dyn std::error::Error>> {
+    let path = std::env::temp_dir().join(format!("mintlintel-readers-test-{}.img", std::process::id()));
+    let mut image = Image::open(&path, Mode::Never, SHAPE)?;
+    let page_bytes = SHAPE.page_bytes as usize;
+    let readers = (0..3).map(|_| image.reader()).collect::<Result<Vec<_>, _>>()?;
+    let threads: Vec<_> = readers
+        .into_iter()
+        .map(|mut reader| {
+            std::thread::spawn(move || {
+                let (mut page, mut seen) = (vec![0; page_bytes], 0);
+                loop {
+                    match reader.read(3, &mut page) {
+                        Ok(Was::Empty) => assert_eq!(seen, 0),
+                        Ok(Was::Written) => {
+                            assert!(page.iter().all(|byte| *byte == page[0]) && page[0] >= seen);
+                            seen = page[0];
+                        }
+                        Err(DurableFault::Unsettled) => {}
+                        Err(DurableFault::Closed) => return seen,
+                        Err(other) => panic!("{other}"),
+                    }
+                }
+            })
+        })
+        .collect();
+    for value in 1..=200 {
+        image.write(3, &vec![value; page_bytes])?;
+        image.write(u32::from(value) % 60, &vec![value; page_bytes])?;
+    }
+    assert!(matches!(image.reader()?.read(SHAPE.sectors, &mut [0; 1]), Err(DurableFault::NoSector)));
+    image.close()?;
+    for thread in threads {
+        assert!(thread.join().map_err(|_| "a reader failed")? <= 200);
+    }
+    std::fs::remove_file(&path)?;
+    Ok(())
+}
+
+/// Flash that several threads may have. A page is torn while it is programmed, and a clone is of the same flash. In a thread of this name it panics.
+#[derive(Clone)]
+struct Flash(Arc<Vec<Mutex<Page>>>);
+
+impl Flash {
+    fn page(&self, block: u32, page: u32) -> std::sync::MutexGuard<'_, Page> {
+        self.0[(8 * block + page) as usize].lock().expect("no thread panics with a page")
+    }
+}
+
+impl Nand for Flash {
+    fn read(&mut self, block: u32, page: u32, main: Option<&mut [u8]>, stamp: &mut [u8; STAMP_BYTES]) -> Result<Reading, ChipFault> {
+        assert!(std::thread::current().name() != Some("panics"), "a panic of a reader's chip");
+        match &*self.page(block, page) {
+            Page::Erased => Ok(Reading::Erased),
+            Page::Torn => Ok(Reading::Unreadable),
+            Page::Version(bytes, with) => {
+                if let Some(main) = main {
+                    main.copy_from_slice(bytes);
+                }
+                *stamp = *with;
+                Ok(Reading::Version)
+            }
+        }
+    }
+
+    fn program(&mut self, block: u32, page: u32, main: &[u8], stamp: &[u8; STAMP_BYTES]) -> Result<(), ChipFault> {
+        *self.page(block, page) = Page::Torn;
+        std::thread::yield_now();
+        *self.page(block, page) = Page::Version(main.try_into().expect("a page has 16 bytes"), *stamp);
+        Ok(())
+    }
+
+    fn erase(&mut self, block: u32) -> Result<(), ChipFault> {
+        (0..8).for_each(|page| *self.page(block, page) = Page::Erased);
+        Ok(())
+    }
+}
+
+fn flash() -> Flash {
+    Flash(Arc::new((0..96).map(|_| Mutex::new(Page::Erased)).collect()))
+}
+
+/// A page of a sector's write, whose numbers rise.
+fn numbered(sector: u32, number: u64) -> [u8; 16] {
+    let mut page = [0; 16];
+    page[..8].copy_from_slice(&number.to_le_bytes());
+    page[8..].copy_from_slice(&(number * u64::from(sector + 1)).to_le_bytes());
+    page
+}
+
+#[test]
+fn readers_of_a_chip_see_what_is_written_beside_them() -> Result<(), DurableFault> {
+    let mut device = Durable::open(flash(), SHAPE)?;
+    let acknowledged: Vec<AtomicU64> = (0..60).map(|_| AtomicU64::new(0)).collect();
+    let is_over = AtomicBool::new(false);
+    let (acknowledged, is_over) = (&acknowledged, &is_over);
+    let mut shared = device.share();
+    let readers = (0..3).map(|_| shared.reader()).collect::<Result<Vec<_>, _>>()?;
+    std::thread::scope(|threads| {
+        for (turn, mut reader) in readers.into_iter().enumerate() {
+            threads.spawn(move || {
+                let (mut state, mut seen) = (362_436_069 + turn as u64, [0; 60]);
+                while !is_over.load(SeqCst) {
+                    let (sector, mut page) = (drawn(&mut state) % 60, [0; 16]);
+                    let least = acknowledged[sector as usize].load(SeqCst).max(seen[sector as usize]);
+                    match reader.read(sector, &mut page) {
+                        Ok(Was::Written) => {
+                            let number = u64::from_le_bytes(page[..8].try_into().expect("eight bytes"));
+                            assert!(page == numbered(sector, number) && number >= least);
+                            seen[sector as usize] = number;
+                        }
+                        // Trims empty sectors from 40 on.
+                        Ok(Was::Empty) => assert!(sector >= 40 || least == 0),
+                        Err(DurableFault::Unsettled) => {}
+                        Err(other) => panic!("{other}"),
+                    }
+                }
+            });
+        }
+        let mut state = 88_172_645_463_325_252;
+        for number in 1..=4000 {
+            let sector = drawn(&mut state) % 60;
+            if number % 8 == 0 {
+                shared.trim(40 + sector % 16, 4)?;
+            } else {
+                shared.write(sector, &numbered(sector, number))?;
+                acknowledged[sector as usize].store(number, SeqCst);
+            }
+        }
+        is_over.store(true, SeqCst);
+        Ok::<(), DurableFault>(())
+    })?;
+    let mut reader = shared.reader()?;
+    for sector in 0..60 {
+        let (mut told, mut held) = ([0; 16], [0; 16]);
+        assert_eq!(reader.read(sector, &mut told)?, shared.read(sector, &mut held)?);
+        assert!(told == held || held == [0; 16]);
+    }
+    assert!(matches!(reader.read(60, &mut [0; 16]), Err(DurableFault::NoSector)));
+    assert!(matches!(reader.read(0, &mut [0; 15]), Err(DurableFault::NotAPage)));
+    Ok(())
+}
+
+#[test]
+fn a_panic_of_a_reader_is_its_own() -> Result<(), DurableFault> {
+    let mut device = Durable::open(flash(), SHAPE)?;
+    device.write(3, &numbered(3, 1))?;
+    let mut shared = device.share();
+    let mut reader = shared.reader()?;
+    std::thread::scope(|threads| {
+        let thread = std::thread::Builder::new().name("panics".into());
+        let reader = &mut reader;
+        let failed = thread.spawn_scoped(threads, move || reader.read(3, &mut [0; 16]).map(drop)).expect("a thread begins").join();
+        assert!(failed.is_err());
+    });
+    shared.write(3, &numbered(3, 2))?;
+    let mut page = [0; 16];
+    assert_eq!(shared.reader()?.read(3, &mut page)?, Was::Written);
+    assert_eq!(page, numbered(3, 2));
     Ok(())
 }
