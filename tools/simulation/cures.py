@@ -54,22 +54,36 @@ def advice(program, fault: str) -> str | None:
 
 def of_numbers(kind: str, numbers: dict) -> str:
     """What numbers that make no device lack."""
-    shared, blocks, pages, sectors = numbers["workers"] > 0, numbers["blocks"], numbers["pages"], numbers["sectors"]
-    taken = numbers["workers"] + 2 * numbers["brooms"] if shared else 1
+    blocks, pages, sectors = numbers["blocks"], numbers["pages"], numbers["sectors"]
     if kind == "TooFewBlocks":
-        most, fewest = (blocks - taken) * pages - (not shared), -(-(sectors + (not shared)) // pages) + taken
-        fewest = -(-fewest // numbers["luns"]) * numbers["luns"]
+        most, fewest = most_sectors(numbers), fewest_blocks(numbers)
         return f"{sectors:,} sectors do not fit {blocks:,} blocks of {pages:,} pages: " + either(("sectors", most), ("blocks", fewest))
     if kind == "Passes":
         return of_passes(numbers)
     if kind == "TooManyWords":
-        return device.fault_of({name: numbers[name] for name in device.DEFAULTS}, shared)
+        return device.fault_of({name: numbers[name] for name in device.DEFAULTS}, numbers["workers"] > 0)
     name, luns = kind.lower(), numbers["luns"]
     if name == "blocks" and blocks in device.RANGES["blocks"]:
         return f"{blocks:,} blocks aren't a multiple of {luns} LUNs: " + either(("blocks", blocks // luns * luns), ("blocks", -(-blocks // luns) * luns))
     wanted = device.RANGES[name]
     nearest = min(max(numbers[name], wanted.least), wanted.most)
     return f"{numbers[name]:,} {name}, and a device has {wanted.least:,} to {wanted.most:,}: --{name} {nearest}"
+
+
+def taken(numbers: dict) -> int:
+    """The blocks that hold no sector: a spare one, or those of workers and brooms."""
+    return numbers["workers"] + 2 * numbers["brooms"] if numbers["workers"] else 1
+
+
+def most_sectors(numbers: dict) -> int:
+    """The sectors that fit these blocks."""
+    return (numbers["blocks"] - taken(numbers)) * numbers["pages"] - (not numbers["workers"])
+
+
+def fewest_blocks(numbers: dict) -> int:
+    """The blocks that these sectors need."""
+    fewest = -(-(numbers["sectors"] + (not numbers["workers"])) // numbers["pages"]) + taken(numbers)
+    return -(-fewest // numbers["luns"]) * numbers["luns"]
 
 
 def either(*options) -> str:
@@ -90,15 +104,15 @@ def of_line(number: int, kind: str, numbers: dict) -> str | None:
     line = line_of(number)
     if line is None:
         return None
-    if number == 1 and (other := of_other_file(line)):
+    if number == 1 and (other := of_other_file(first_line())):
         return other
     shown = line if len(line) <= LONGEST_SHOWN else f"{line[:LONGEST_SHOWN]}.."
     worker, op, sector, data = (line.split(",") + [""] * 4)[:4]
     of_kind = {
         "Fields": lambda: f"{line.count(',') + 1} fields, and a line has four: worker,op,sector,data",
-        "Worker": lambda: f"worker {worker!r}: " + of_index(worker, "workers", numbers["workers"] or 500),
+        "Worker": lambda: f"worker {worker!r}: " + of_index(worker, "workers", numbers["workers"] or 500, numbers),
         "Op": lambda: f"{op!r} is none of {', '.join(OPS)}" + (f": write {op.strip().lower()!r}" if op.strip().lower() in OPS else ""),
-        "Sector": lambda: f"sector {sector!r}: " + of_index(sector, "sectors", numbers["sectors"]),
+        "Sector": lambda: f"sector {sector!r}: " + of_index(sector, "sectors", numbers["sectors"], numbers),
         "Hex": lambda: of_digits(data),
         "TooLong": lambda: f"{len(data) // 2:,} bytes, and a page has {8 * numbers['words']:,}: --words {-(-len(data) // 16)}",
         "Unused": lambda: f"a {op} has no data, and a meet worker and sector 0: leave it out",
@@ -106,13 +120,25 @@ def of_line(number: int, kind: str, numbers: dict) -> str | None:
     return f"`{shown}`: {of_kind()}" if of_kind else None
 
 
-def of_index(text: str, name: str, count: int) -> str:
+def first_line() -> str:
+    """The first line of standard input, without comments of a job file."""
+    number = 1
+    while (line := line_of(number) or "")[:1] in ("#", ";"):
+        number += 1
+    return line
+
+
+def of_index(text: str, name: str, count: int, numbers: dict) -> str:
     """A number that is none, or isn't below those that there are."""
     if not (text.isascii() and text.isdigit()) or len(text) > 7:
         return f"a number of at most seven digits from 0 to {count - 1:,} is wanted"
     needed = int(text) + 1
     most = device.RANGES["sectors"].most if name == "sectors" else MOST["workers"]
-    return f"there are 0 to {count - 1:,}: " + (f"--{name} {needed}" if needed <= most else f"at most {most:,} can be given")
+    if needed > most:
+        return f"there are 0 to {count - 1:,}: at most {most:,} can be given"
+    wanted = {**numbers, name: needed}
+    more = f" --blocks {fewest_blocks(wanted)}" if wanted["sectors"] > most_sectors(wanted) else ""
+    return f"there are 0 to {count - 1:,}: --{name} {needed}{more}"
 
 
 def of_digits(data: str) -> str:

@@ -6,7 +6,7 @@ import sys
 
 VERSION = "0.1.0"
 INSTALLED = "flashplay-"
-TOOLS = ("trace", "simulate", "report", "sweep", "model")
+TOOLS = ("trace", "simulate", "report", "sweep", "model", "crash")
 
 
 def own():

@@ -20,6 +20,7 @@ NOT_RUN = {
     ("README.md", "disk="): "it needs the plugin: packaging/first_lines runs it in a root of Debian",
     ("docs/BLOCK_DEVICE.md", f"{LIBRARY}mkdir /tmp/flash &&"): "bindings/nbdkit/check runs the lines behind make",
     ("docs/BLOCK_DEVICE.md", f"{LIBRARY}mkdir -p /tmp/flash/disk"): "bindings/nbdkit/check runs the lines behind make",
+    ("docs/BLOCK_DEVICE.md", "mkdir /tmp/flash\n"): "it needs the plugin: bindings/nbdkit/check runs it",
     ("docs/BLOCK_DEVICE.md", "nbdkit -f"): "it runs until the power is cut: bindings/nbdkit/check tries that",
     ("docs/BLOCK_DEVICE.md", "nbdcopy 'nbd+unix:///stats"): "it needs a server that is running: bindings/nbdkit/check reads the export so",
     ("docs/SIMULATING.md", "apt-get install fio"): "tools/check has installed these packages before the lines are run",
@@ -38,7 +39,7 @@ SMALLER = {
 FENCE = re.compile(r"^( *)```(\w*)\n(.*?)^\1```$", re.DOTALL | re.MULTILINE)
 # What a page shows may follow its lines with at most as much text between them.
 BETWEEN = 3
-LONGEST = 900
+LONGEST = 1800
 
 
 class Differs(AssertionError):

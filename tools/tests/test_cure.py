@@ -33,12 +33,14 @@ TRACES = (
     (b"0,write,0,4x\n", "`0,write,0,4x`: 'x' is no digit of 0-9, a-f or A-F"),
     (b"0,write,0,010203040506070809\n", "9 bytes, and a page has 8: --words 2"),
     (b"0,read,3072,\n", "`0,read,3072,`: sector '3072': there are 0 to 3,071: --sectors 3073"),
+    (b"0,read,99999,\n", "there are 0 to 3,071: --sectors 100000 --blocks 1564"),
     (b"500,read,0,\n", "worker '500': there are 0 to 499: at most 500 can be given"),
     (b"0,Read,0,\n", "'Read' is none of read, write, new, trim, meet: write 'read'"),
     (b"0,read,0\n", "3 fields, and a line has four: worker,op,sector,data"),
     (b"0,read,0,41\n", "a read has no data, and a meet worker and sector 0: leave it out"),
     (b"fio version 3 iolog\n", "this is a log of fio: flashplay simulate LOG"),
     (b"[job]\nsize=1m\n", "this is a job file of fio: flashplay simulate JOB"),
+    (b"# Mixed,\n; written at random.\n\n[job]\nsize=1m\n", "this is a job file of fio: flashplay simulate JOB"),
     (b'0,write,0,"41"\n0,write,0,4x\n', "an odd number of digits, or another character: write two digits of 0-9, a-f or A-F for each byte"),
 )
 

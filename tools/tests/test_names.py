@@ -9,7 +9,7 @@ import unittest
 
 from tests.tools import TOOLS, TOP
 
-NAMES = ("trace", "simulate", "report", "sweep", "model")
+NAMES = ("trace", "simulate", "report", "sweep", "model", "crash")
 # What stands for the program: its help has an option, a status and a fault of two lines.
 PROGRAM = """#!/bin/sh
 echo 'Plays a trace.

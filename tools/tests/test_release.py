@@ -14,7 +14,7 @@ from tests.tools import TOP
 # The packages of a commit; with `names` in the tree they name the folder of their build.
 MAKEFILE = """.PHONY: docs dist
 docs:
-\t@true
+\t@for page in CALLS DEFINITIONS; do echo "# $$page.md" >docs/$$page.md; done
 dist:
 \t@rm -rf out && mkdir -p out/dist out/tree/mintlintel-1.2.3/lib
 \t@echo wheel >out/tree/mintlintel-1.2.3/lib/mintlintel-1.2.3-py3-none-linux_x86_64.whl
@@ -29,10 +29,9 @@ class Release(unittest.TestCase):
         folder = tempfile.TemporaryDirectory()
         self.addCleanup(folder.cleanup)
         self.top = pathlib.Path(folder.name) / "top"
-        for name, text in {"Makefile": MAKEFILE, "CHANGELOG.md": CHANGES, ".gitignore": "out/\n"}.items():
+        for name, text in {"Makefile": MAKEFILE, "CHANGELOG.md": CHANGES, ".gitignore": "out/\ndocs/CALLS.md\ndocs/DEFINITIONS.md\n"}.items():
             self.write(name, text)
-        for name in ("CALLS.md", "DEFINITIONS.md", "GALLERY.md"):
-            self.write(f"docs/{name}", f"# {name}\n")
+        self.write("docs/GALLERY.md", "# GALLERY.md\n")
         (self.top / "packaging").mkdir()
         shutil.copy(TOP / "packaging/make_release", self.top / "packaging")
         self.git("init", "-q")
@@ -95,9 +94,9 @@ class Release(unittest.TestCase):
         self.assertEqual(self.release()[::2], (1, "release: files are not committed, so this is no commit's release\n"))
 
     def test_refuses_pages_that_are_older_than_the_sources(self):
-        self.write("Makefile", MAKEFILE.replace("@true", "@echo new >docs/CALLS.md"))
+        self.write("Makefile", MAKEFILE.replace("docs:\n", "docs:\n\t@echo new >docs/GALLERY.md\n"))
         self.commit()
-        self.assertIn("the generated pages are older than the sources: commit what make docs writes\n M docs/CALLS.md\n", self.release()[2])
+        self.assertIn("the generated pages are older than the sources: commit what make docs writes\n M docs/GALLERY.md\n", self.release()[2])
 
     def test_refuses_packages_of_another_version(self):
         other = self.top.parent / "arm64"

@@ -2,7 +2,7 @@ import unittest
 
 from tests.tools import Run
 
-CALLS = (("trace", "make"), ("trace", "convert"), ("trace",), ("report",), ("model",), ("simulate",), ("sweep",), ("pictures",))
+CALLS = (("trace", "make"), ("trace", "convert"), ("trace",), ("report",), ("model",), ("simulate",), ("sweep",), ("pictures",), ("crash",))
 
 
 class Usage(unittest.TestCase):
