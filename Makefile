@@ -3,7 +3,7 @@
 # make check-quick  tests what needs no proof, in at most a quarter of an hour on four processors; the same for what it lacks
 # make install   installs flashplay, the tools, their manual pages and completions, the libraries, a Python wheel and the documents below DESTDIR and PREFIX
 # make dist      packs them into out/dist: Debian packages (program and tools, library, headers, Python, nbdkit's plugin, documents) and a tar file
-# make docs      writes the pages that are made from the sources
+# make docs      writes the pages that are made from the sources, and the two of them that git doesn't keep: docs/CALLS.md and docs/DEFINITIONS.md
 # make release   builds all that goes with a tag into out/release, twice with the same bytes; OTHER_DIST names folders of other machines' packages
 # make release-check  says what is missing for a release
 # make clean     removes out/, with the programs that ./flashplay keeps there
@@ -15,7 +15,7 @@ BIN := $(DESTDIR)$(PREFIX)/bin
 MAN := $(DESTDIR)$(PREFIX)/share/man/man1
 BASH := $(DESTDIR)$(PREFIX)/share/bash-completion/completions
 ZSH := $(DESTDIR)$(PREFIX)/share/zsh/site-functions
-TOOLS := trace report sweep model simulate
+TOOLS := trace report sweep model simulate crash
 DOC := $(DESTDIR)$(PREFIX)/share/doc/mintlintel
 DRIVERS := flash.h mtd.c zone.c
 PROGRAM := crates/flashplay/out/flashplay
@@ -49,7 +49,8 @@ install: all
 	for tool in $(TOOLS); do ln -sf flashplay $(BASH)/flashplay-$$tool; done
 	packaging/completion zsh $(PROGRAMS) > $(ZSH)/_flashplay
 	install -m 644 README.md CHANGELOG.md CONTRIBUTING.md $(wildcard LICENSE) $(DOC)
-	install -m 644 docs/*.md docs/*.svg $(DOC)/docs
+	.ci/definitions --write >/dev/null
+	install -m 644 docs/*.md docs/*.svg docs/flash.html docs/flash.png $(DOC)/docs
 	install -m 644 bench/*.md $(DOC)/bench
 	install -d $(DOC)/examples/parts $(DOC)/examples/mtd $(DOC)/bindings/examples
 	install -m 644 examples/*.csv examples/*.args examples/*.out examples/*.fio $(DOC)/examples

@@ -1,11 +1,10 @@
-//! Compares the commands and mounts of the proved core with the model's rule, over the runs that `crates/durable_runs` prints, and over those with
-//! failures, a reserve and lost pages of `bindings/tests/core_runs.c`.
+//! Compares the commands and mounts of the proved core with the model's rule, over the runs of `bindings/tests/core_runs.c`.
 
 use crate::flash::{Block, Cell, Device, Page, Place, Size, Version, BLOCKS};
 use crate::layer::{Array, Command, Freed, Rule, Wrong};
 
-/// Wrong rules that short runs without failures and flushes tell apart.
-pub const TOLD_APART: [Wrong; 18] = [
+/// Wrong rules that the runs tell apart.
+pub const TOLD_APART: [Wrong; 35] = [
     Wrong::FirstFound,
     Wrong::LastFound,
     Wrong::NumbersStartAgain,
@@ -24,10 +23,6 @@ pub const TOLD_APART: [Wrong; 18] = [
     Wrong::RangeFirstSector,
     Wrong::RangeOneMore,
     Wrong::WriteEndsTombstone,
-];
-
-/// Those that longer runs with failures and lost pages tell apart, too.
-pub const TOLD_APART_BY_FAILURES: [Wrong; 17] = [
     Wrong::NumberAboveKept,
     Wrong::TwinBySector,
     Wrong::CopyNumberedZero,
@@ -97,8 +92,7 @@ impl Follower {
             }
             ["call", call @ ..] => self.begin(&numbers(call)?),
             ["nothing"] => self.done(Command::Nothing),
-            ["mount", entries @ .., "losses", losses] => self.mount(entries, Some(losses)),
-            ["mount", entries @ ..] => self.mount(entries, None),
+            ["mount", entries @ .., "losses", losses] => self.mount(entries, losses),
             ["order", order @ ..] => self.fail(&numbers(order)?),
             ["lose", place @ ..] => self.lose(&numbers(place)?),
             [name, numbers_of @ .., "done"] => {
@@ -118,19 +112,18 @@ impl Follower {
         }
     }
 
-    /// A device's blocks, pages and sectors; and how many of its blocks are in reserve, and whether it drops trims.
+    /// A device's blocks, pages and sectors, how many of its blocks are in reserve, and whether it drops trims.
     fn start(&mut self, sizes: &[usize]) -> Result<(), String> {
-        let (size, reserve, drops_trims) = match *sizes {
-            [blocks, pages, sectors] => (Size { blocks, pages, sectors }, 0, true),
-            [blocks, pages, sectors, reserve, drops_trims] => (Size { blocks, pages, sectors }, reserve, drops_trims == 1),
-            _ => return Err("a device has three numbers, or five".to_string()),
+        let [blocks, pages, sectors, reserve, drops_trims] = *sizes else {
+            return Err("a device has five numbers".to_string());
         };
+        let size = Size { blocks, pages, sectors };
         let devices = self.compared.devices + 1;
         let compared = std::mem::take(&mut self.compared);
         *self = Follower::new(size, self.rule.wrong);
         self.compared = Compared { devices, ..compared };
         self.rule.has_reserve = reserve > 0;
-        self.rule.drops_tombstones = drops_trims;
+        self.rule.drops_tombstones = drops_trims == 1;
         self.device.blocks[size.blocks - reserve..size.blocks].iter_mut().for_each(|block| block.is_reserve = true);
         Ok(())
     }
@@ -257,9 +250,9 @@ impl Follower {
 
     /// The map has to be one that a mount may make, with the array from before the call or from after it, unless a page was lost and the flash shows
     /// no trace of it or a loss is told. The losses have to be the rule's.
-    fn mount(&mut self, entries: &[&str], losses: Option<&str>) -> Result<(), String> {
+    fn mount(&mut self, entries: &[&str], losses: &str) -> Result<(), String> {
         let told = self.rule.losses(&self.device);
-        if losses.map_or(false, |losses| losses != told.to_string()) {
+        if losses != told.to_string() {
             return Err(format!("the rule has {told} losses"));
         }
         let (before, may_differ) = match self.lost.take() {

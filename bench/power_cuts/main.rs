@@ -10,13 +10,12 @@ mod layer;
 mod runs;
 
 use explore::Outcome;
-use layer::Wrong;
 use runs::{Expected, Run};
 use std::time::Instant;
 
 const USAGE: &str = "usage: power_cuts [--long] [WORD..]   makes the runs whose names have each WORD; --long: those that take minutes, too
        power_cuts --list             names the runs
-       power_cuts --agree FILE       compares the runs that crates/durable_runs or bindings/tests/core_runs.c has told with the model's rule";
+       power_cuts --agree FILE       compares the runs that bindings/tests/core_runs.c has told with the model's rule";
 
 fn main() {
     let mut words: Vec<String> = std::env::args().skip(1).collect();
@@ -57,14 +56,12 @@ fn main() {
 fn agrees(file: &str) -> i32 {
     let told = std::fs::read_to_string(file).map_err(|error| error.to_string()).and_then(|text| {
         let agree::Compared { devices, calls, commands, cuts, failures, lost } = agree::compare(&text, None)?;
-        let more: &[Wrong] = if failures > 0 { &agree::TOLD_APART_BY_FAILURES } else { &[] };
-        let wrong_rules: Vec<Wrong> = agree::TOLD_APART.iter().chain(more).copied().collect();
-        let alike: Vec<&Wrong> = wrong_rules.iter().filter(|wrong| agree::compare(&text, Some(**wrong)).is_ok()).collect();
+        let alike: Vec<_> = agree::TOLD_APART.iter().filter(|wrong| agree::compare(&text, Some(**wrong)).is_ok()).collect();
         if !alike.is_empty() {
             return Err(format!("the wrong rules {alike:?} agree, too"));
         }
         let done = format!("{commands} commands, {cuts} power cuts, {failures} failures and {lost} lost pages");
-        Ok(format!("the rule agrees on {devices} devices, {calls} calls, {done}; {} wrong rules differ", wrong_rules.len()))
+        Ok(format!("the rule agrees on {devices} devices, {calls} calls, {done}; {} wrong rules differ", agree::TOLD_APART.len()))
     });
     match told {
         Ok(told) => {

@@ -4,6 +4,17 @@ import re
 
 from gate import laws, tree
 
+HEAD = """# Public calls
+
+For authors of programs in Rattle, and for proof engineers.
+
+This page has each public call with the sentence above it in the sources, and each of its clauses by its label: what the call
+requires of its caller, and then what it promises. A clause is shown by the comment above it, or by the definitions that it names, with
+the sentence of each where a crate names it first; one that names no such definition stands as it is, unless it is long. Each definition
+is in [DEFINITIONS.md](DEFINITIONS.md). [PROVED.md](PROVED.md) says what the promises rest on and what isn't proved, and the
+[glossary](GLOSSARY.md) has words such as pass, pin, hold, broom and drain.
+
+"""
 LAWS = """## Laws of the definitions\n
 A clause says no more than the definitions that it names. So each of these functions, which have no code, says where a definition holds
 and where it doesn't.\n
@@ -64,7 +75,7 @@ def page(known):
     """The page, and what is wrong with the sources."""
     used = [name for name in tree.crates() if name not in laws.CALLERS]
     known = {it: its for it, its in known.items() if its.sentence and it[0] in used}
-    text = tree.beginning("docs/CALLS.md") + "".join(part(name, known) for name in used if name != "laws") + LAWS
+    text = HEAD + "".join(part(name, known) for name in used if name != "laws") + LAWS
     files = [path for name in used if (path := tree.folder(name) / "src/laws.rt").exists()]
     its = [*public("laws"), *((it, path, path.read_text()) for path in files for it in tree.functions(path.read_text()))]
     for function, path, its_text in its:

@@ -24,7 +24,8 @@ AFTER = (".ci/twins --due", ".ci/wrong-definitions --due", "./flashplay --prove"
 ROWS = (
     (".ci/uncompiled", "bench/run --try", "bench/power_cuts/check", "tools/check", "examples/launcher --quick"),
     ("examples/check", "examples/sessions", "examples/hostile", "examples/short_of_memory", "examples/launcher", "bindings/check",
-     "bench/designs/measure --try", "examples/firmware/check --quick", "bindings/nbdkit/check", "examples/mtd/check", "bindings/tests/machines"),
+     "bench/designs/measure --try", "bench/readers --try", "examples/firmware/check --quick", "bindings/nbdkit/check", "examples/mtd/check",
+     "bindings/tests/machines"),
 )  # fmt: skip
 # How a script lists the packages of Debian that it needs.
 PACKAGES = re.compile(r"^ *(?:\.\./)?\.ci/needs (.*)|^PACKAGES = \(([^)]*)", re.M)

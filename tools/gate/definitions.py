@@ -1,12 +1,21 @@
-"""definitions [--write]: docs/DEFINITIONS.md, made from the comments above the public definitions of specs/ and above the types that a crate exports;
-and docs/CALLS.md, made by calls.py. Without --write it changes nothing, and fails if a page differs; if a definition or a public call has no comment;
-if only functions need a definition that nobody calls; or if one of a public clause has no law, no caller and no reason in laws.py, or no wrong
-definition that says less, by tried.py."""
+"""definitions [--write]: fails if a definition or a public call has no comment; if only functions need a definition that nobody calls; or if one of a
+public clause has no law, no caller and no reason in laws.py, or no wrong definition that says less, by tried.py. --write then makes two pages, which git
+doesn't keep: docs/DEFINITIONS.md, of the comments above the public definitions of specs/ and above the types that a crate exports, and docs/CALLS.md,
+by calls.py."""
 
 import re
 
 from gate import calls, laws, tree, tried
 
+HEAD = """# Definitions
+
+For proof engineers.
+
+This page lists each definition that a contract may cite, with the sentence above it in the sources. The crates are in the order of
+`crates.txt`. The types of a crate come last, and its internal definitions are hidden until you open them. The
+[glossary](GLOSSARY.md) has words such as pass, pin, hold, broom, drain and meet.
+
+"""
 SHOWN = """- Only premises name these, directly or through other definitions, so no promise shows what they say; each caller has to prove them:
 {}.
 - No clause names these, directly or through other definitions. They are used in proofs: {}.
@@ -60,7 +69,7 @@ def made(known):
     crates = [name for name in tree.crates() if (tree.folder(name) / "specs/Lib.antt").exists()]
     lists = (", ".join(f"`{name}` of `{crate}`" for crate, _, name in its) or "none" for its in (premises, [it for it in names if it not in everywhere]))
     about = SHOWN.format(*lists, laws.counted(shown_as))
-    page = tree.beginning("docs/DEFINITIONS.md") + about + "".join(part(name, known) for name in crates).rstrip("\n") + "\n"
+    page = HEAD + about + "".join(part(name, known) for name in crates).rstrip("\n") + "\n"
     bare = [f"crates/{crate}/specs/{module}.antt: {name}" for (crate, module, name), its in known.items() if not its.sentence]
     bare += [f"crates/{crate}: {name}" for crate in crates for name, sentence in exported_types(crate) if not sentence]
     wrong = [*(f"{it} has no sentence above it" for it in bare), *laws.idle(premises, names, clauses), *laws.without(shown_as)]
@@ -70,5 +79,7 @@ def made(known):
 def main(words):
     known = {it: its for crate in tree.crates() for it, its in tree.definitions(crate).items()}
     (page, wrong), (calls_page, bare) = made(known), calls.page(known)
-    wrong = [*wrong, *bare] or [*tree.differing(words, "definitions", DEFINITIONS=page, CALLS=calls_page)]
-    return tree.verdict(wrong, f"docs/DEFINITIONS.md has the {page[page.index(chr(10) + '## '):].count(chr(10) + '| `')} definitions of the sources")
+    if words == ["--write"] and not (wrong or bare):
+        for name, text in (("DEFINITIONS", page), ("CALLS", calls_page)):
+            (tree.TOP / f"docs/{name}.md").write_text(text)
+    return tree.verdict([*wrong, *bare], f"each of {len(known)} definitions and each public call has a sentence above it")

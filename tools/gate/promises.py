@@ -114,7 +114,7 @@ def leads(page, link):
     """Whether a link of a page leads to a file, and to a heading in it if it names one."""
     file, _, heading = link.partition("#")
     target = page.parent / file if file else page
-    titles = re.findall(r"^#+ (.*)", target.read_text(), re.M) if target.is_file() else ()
+    titles = re.findall(r"^#+ (.*)", target.read_text(), re.M) if heading and target.is_file() else ()
     return heading in [re.sub(r"[^\w\- ]", "", title).strip().lower().replace(" ", "-") for title in titles] if heading else target.exists()
 
 

@@ -9,7 +9,8 @@ from functools import cache
 
 from gate import tree
 
-CRATES = ("geometry", "flash_rule", "flash_table", "host", "broom", "erase_queue", "volume", "handles", "exports", "version_map", "shared_nand")
+CRATES = ("geometry", "flash_rule", "flash_table", "host", "broom", "erase_queue", "volume", "handles", "exports", "version_map", "shared_nand",
+          "reader_exports")
 # The other crates that these may use. A call of one of them by its path is one of CALLS.
 OTHERS = ("atomic_table", "core", "crossbeam_queue", "ftl_one", "std", "std_alloc", "std_heap", "thiserror")
 # Each loop, as its head with what the names of its bound stand for, why it ends after a number of turns that no other thread can raise, and where it is.
