@@ -1,7 +1,7 @@
 /* Readers beside the thread that writes, trims and collects, on a chip whose blocks fail and whose power is cut, and of which a page reads as garbage while it
  * is programmed or erased. Each answer is whole, no older than what was acknowledged before it or what its reader had seen, and no newer than what has begun;
  * and an open after a cut finds each change that any read had returned. Before that, without chance: a reader and the device tell the same behind trims of
- * several sectors, copies of them, and mounts in place. Then the same on images, in the folder that is named or else in out. */
+ * several sectors, copies of them, mounts in place, and a read beside an erase. Then the same on images, in the folder that is named or else in out. */
 #include "mintlintel_image.h"
 #include "mintlintel_reader.h"
 #include "testing.h"
@@ -28,6 +28,11 @@ static long fails, cuts, erases;
  * takes that page with it. */
 static int is_script;
 static uint32_t harms_before;
+/* The next read is slow: sectors are written while it lasts, until its block is erased, and it gets what its page has in the middle of that. */
+enum { NO_BLOCK = BLOCKS };
+static int is_slow;
+static struct halfway { uint32_t block, page; uint64_t main[MAIN_WORDS], stamp[STAMP_WORDS]; } halfway = {.block = NO_BLOCK};
+static void wait_for_erase(void);
 
 static void get(_Atomic uint64_t *words, void *bytes, int count)
 {
@@ -58,6 +63,14 @@ static int chip_read(void *chip, uint32_t block, uint32_t page, void *main, void
     int is_programmed = p->is_programmed;
     get(p->main, main, MAIN_WORDS);
     get(p->stamp, stamp, STAMP_WORDS);
+    if (is_slow) {
+        is_slow = 0;
+        halfway.block = block;
+        halfway.page = page;
+        wait_for_erase();
+        memcpy(main, halfway.main, PAGE_BYTES);
+        memcpy(stamp, halfway.stamp, MINTLINTEL_STAMP_BYTES);
+    }
     return is_programmed ? 0 : 1;
 }
 
@@ -108,6 +121,11 @@ static int chip_erase(void *chip, uint32_t block)
         if (code != 0 && drawn(&chip_state) % 2)
             continue;
         set(pages[block][page].main, NULL, MAIN_WORDS);
+        if (block == halfway.block && page == halfway.page) {
+            get(pages[block][page].main, halfway.main, MAIN_WORDS);
+            get(pages[block][page].stamp, halfway.stamp, STAMP_WORDS);
+            halfway.block = NO_BLOCK;
+        }
         pages[block][page].is_programmed = 0;
         if (page % 2)
             sched_yield();
@@ -404,6 +422,27 @@ static void mounts_in_place(uint32_t before)
     end_script(&reader);
 }
 
+static void wait_for_erase(void)
+{
+    uint64_t state = 5;
+    while (halfway.block != NO_BLOCK)
+        CHECK(write_event(1 + drawn(&state) % (SECTORS - 1), 2) == MINTLINTEL_WRITTEN);
+}
+
+/* A reader reads a page while its block is erased: it looks again, and finds the copy. */
+static void reads_beside_an_erase(void)
+{
+    struct mintlintel_reader reader = {0};
+    uint64_t page[MAIN_WORDS];
+    begin_script(&reader);
+    is_slow = 1;
+    CHECK(mintlintel_reader_read(&reader, 0, page, sizeof page) == MINTLINTEL_WRITTEN);
+    CHECK(!is_slow && halfway.block == NO_BLOCK);
+    CHECK(event_of(page, 0) == 1);
+    agree(&reader);
+    end_script(&reader);
+}
+
 static void play_images(const char *folder, int sessions, uint64_t *state)
 {
     snprintf(path, sizeof path, "%s/readers.img", folder);
@@ -423,6 +462,7 @@ int main(int count, char **words)
     trims();
     mounts_in_place(1);
     mounts_in_place(2);
+    reads_beside_an_erase();
     for (int i = 0; i < sessions; i++)
         play_session(&state);
     CHECK(answers > 100 * sessions && empties > 0 && fails > 0 && cuts > 0);
