@@ -1,12 +1,13 @@
 /* programs BLOCKS PAGES: how many pages the core of the durable layer programs for a write, and the most copies that one write waits for, on so many
  * blocks, by how many of the pages are in use: as the core is, and with copies kept apart. Each sector is written once, then as many pages as the device
  * has twice over, and what comes in as many writes again counts. The sectors are uniform, or by Zipf's law: the sector of rank n is written 1/n as often
- * as the first. */
+ * as the first. At last each device that was written as the core is is mounted, and written on with copies kept apart: a sixteenth of it, and then twice. */
 #include "mintlintel_durable.h"
 #include <stdio.h>
 #include <stdlib.h>
+#include <string.h>
 
-enum { PROGRAM = 1, COPY = 2, TURNS = 2 };
+enum { PROGRAM = 1, COPY = 2, ERASE = 3, TURNS = 2, PARTS = 16 };
 
 static struct mintlintel_core core;
 static uint64_t state = 88172645463325252u;
@@ -74,6 +75,31 @@ static uint32_t uniform(uint32_t sectors)
     return (uint32_t)(drawn() * sectors);
 }
 
+/* What the flash holds: the sector and the number of each page, which is 0 for an erased one. */
+static struct page { uint32_t sector; uint64_t number; } *flash;
+static uint32_t pages_of_block;
+
+static void note(const struct mintlintel_command *did)
+{
+    struct page *block = flash + (uint64_t)did->block * pages_of_block;
+    if (did->kind == ERASE)
+        memset(block, 0, pages_of_block * sizeof *block);
+    else if (did->kind == COPY)
+        block[did->page] = flash[(uint64_t)did->from_block * pages_of_block + did->from_page];
+    else
+        block[did->page] = (struct page){did->sector, did->number + 1};
+}
+
+static void mount(uint32_t blocks, uint32_t pages, uint32_t sectors, int apart)
+{
+    need(mintlintel_core_open(&core, blocks, pages, sectors));
+    for (const struct page *page = flash; page < flash + (uint64_t)blocks * pages; page++)
+        need(mintlintel_core_note(&core, page->number > 0, page->sector, 1, page->number - (page->number > 0)));
+    need(mintlintel_core_finish(&core));
+    if (apart)
+        need(mintlintel_core_keep_apart(&core));
+}
+
 /* Writes a sector: how many copies it waits for. */
 static uint64_t copies_of(uint32_t sector)
 {
@@ -82,38 +108,47 @@ static uint64_t copies_of(uint32_t sector)
     do {
         need(mintlintel_core_next(&core, sector, 1, &command));
         need(mintlintel_core_done(&core, sector, 1, &command));
+        note(&command);
         copies += command.kind == COPY;
     } while (command.kind != PROGRAM);
     return copies;
+}
+
+static void count(const char *name, uint32_t percent, const char *how, uint64_t writes, uint32_t sectors, uint32_t (*sector)(uint32_t))
+{
+    uint64_t copies = 0, most = 0;
+    for (uint64_t i = 0; i < writes; i++) {
+        uint64_t made = copies_of(sector(sectors));
+        copies += made;
+        most = made > most ? made : most;
+    }
+    if (how)
+        printf("%s, %u %%%s: %.2f programs a write, at most %llu copies\n", name, percent, how, 1 + (double)copies / (double)writes,
+               (unsigned long long)most);
 }
 
 static void measure(const char *name, uint32_t blocks, uint32_t pages, uint32_t percent, uint32_t (*sector)(uint32_t), int apart)
 {
     uint64_t all = (uint64_t)blocks * pages;
     uint32_t sectors = (uint32_t)(all * percent / 100);
-    need(mintlintel_core_open(&core, blocks, pages, sectors));
-    for (uint64_t page = 0; page < all; page++)
-        need(mintlintel_core_note(&core, 0, 0, 0, 0));
-    need(mintlintel_core_finish(&core));
-    if (apart)
-        need(mintlintel_core_keep_apart(&core));
+    flash = room_for(all, sizeof *flash);
+    pages_of_block = pages;
+    mount(blocks, pages, sectors, apart);
     rank(sectors);
     for (uint32_t n = 0; n < sectors; n++)
         copies_of(ranked[n]);
-    uint64_t copies = 0, most = 0;
-    for (int turn = 0; turn < TURNS; turn++) {
-        copies = most = 0;
-        for (uint64_t i = 0; i < 2 * all; i++) {
-            uint64_t made = copies_of(sector(sectors));
-            copies += made;
-            most = made > most ? made : most;
-        }
-    }
-    printf("%s, %u %%%s: %.2f programs a write, at most %llu copies\n", name, percent, apart ? ", apart" : "", 1 + (double)copies / (double)(2 * all),
-           (unsigned long long)most);
+    for (int turn = 0; turn < TURNS; turn++)
+        count(name, percent, turn + 1 < TURNS ? NULL : apart ? ", apart" : "", 2 * all, sectors, sector);
     mintlintel_core_close(&core);
+    if (!apart) {
+        mount(blocks, pages, sectors, 1);
+        count(name, percent, ", apart after a mount", all / PARTS, sectors, sector);
+        count(name, percent, ", and then", 2 * all, sectors, sector);
+        mintlintel_core_close(&core);
+    }
     free(ranked);
     free(share);
+    free(flash);
 }
 
 int main(int argc, char **argv)

@@ -345,13 +345,25 @@ impl Model {
             }
             if command != Command::Refused {
                 let put = self.put(&self.before(device, command), call, command);
-                self.ends(&self.done(&put, call, command), seen)?;
+                let done = self.done(&put, call, command);
+                self.goes_on(&done, command)?;
+                self.ends(&done, seen)?;
             } else if self.rule.has_space() {
                 return Err(format!("refused though there is space\n{device}"));
             }
         }
         seen.insert(print, true);
         Ok(())
+    }
+
+    /// After an erase or a copy the call needs no erase.
+    fn goes_on(&self, device: &Device, command: Command) -> Result<(), String> {
+        let Some(call) = device.call else { return Ok(()) };
+        let may_erase = matches!(command, Command::GiveUp { .. }) || !self.rule.has_space();
+        if may_erase || self.rule.commands(device, call).iter().any(|next| !matches!(next, Command::Erase { .. })) {
+            return Ok(());
+        }
+        Err(format!("{command}: the call needs an erase behind it\n{device}"))
     }
 
     fn check(&self, device: &Device) -> Result<(), String> {

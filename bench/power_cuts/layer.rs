@@ -104,6 +104,10 @@ wrong_rules! {
     HostInCopiesAtNone,
     /// Where no block is free any victim is taken.
     AnyVictimAtNone,
+    /// A copy that a call doesn't need takes the last page that is open.
+    CopiesTakeLastPage,
+    /// What a host writes goes to the block of copies, too, while one is open for hosts.
+    HostInCopiesBesideHosts,
     /// The block of copies is given up though no block is free.
     GivesUpAtNone,
     /// An open block without kept pages is taken for free.
@@ -543,10 +547,10 @@ impl Rule {
         Room { hosts: device.open_blocks(false), copies: device.open_blocks(true), free, needed }
     }
 
-    /// Whether the proved core opens a block for hosts next, and not for copies: if it can.
+    /// Whether the proved core opens a block for hosts next, and not for copies: beside that of copies, or beside two free ones.
     pub fn opens_for_hosts(&self, device: &Device) -> bool {
         let room = self.room(device);
-        self.hosts > 0 && room.hosts.is_empty() && (!room.copies.is_empty() || room.free.len() > room.needed)
+        self.hosts > 0 && room.hosts.is_empty() && (!room.copies.is_empty() || room.free.len() > room.needed + 1)
     }
 
     /// What a mount after a cut rests on: a block is free, or the only open one has nothing but copies of pages that still stand.
@@ -563,7 +567,10 @@ impl Rule {
     /// What a host writes goes to a block of hosts; while none is open, to that of copies. A block stays free then.
     fn programs(&self, room: &Room) -> Vec<Command> {
         let is_spared = room.is_spared() || room.hosts.is_empty() && self.is(Wrong::HostInCopiesAtNone);
-        let blocks = if room.hosts.is_empty() { &room.copies } else { &room.hosts };
+        let blocks = match room.hosts.is_empty() || self.is(Wrong::HostInCopiesBesideHosts) {
+            true => [&room.hosts[..], &room.copies].concat(),
+            false => room.hosts.clone(),
+        };
         blocks.iter().filter(|_| is_spared).map(|block| Command::Program { block: *block }).collect()
     }
 
@@ -587,7 +594,8 @@ impl Rule {
         all
     }
 
-    /// Copies to the blocks for them, from closed ones: beside a free block from any, and otherwise from one with the fewest sectors.
+    /// Copies to the blocks for them, from closed ones: beside a free block from any, if a page stays open for what the host writes, and otherwise from
+    /// one with the fewest sectors.
     fn collecting(&self, device: &Device, room: &Room) -> Vec<Command> {
         let blocks = (0..self.size.blocks).map(|number| (number, &device.blocks[number]));
         let is_victim = |block: &Block| block.open.is_none() && self.is_used(block) && block.kept_pages() > 0;
@@ -596,8 +604,11 @@ impl Rule {
         if fewest.is_none() && !room.is_spared() && !room.free.is_empty() {
             return room.copies.iter().map(|block| Command::Program { block: *block }).collect();
         }
+        let open_pages = |block: &usize| self.size.pages - device.blocks[*block].open.unwrap_or(0) as usize;
+        let leaves_page =
+            !room.hosts.is_empty() || room.copies.iter().map(open_pages).sum::<usize>() > 1 || self.is(Wrong::CopiesTakeLastPage);
         let may_go = |count: usize| match room.is_spared() {
-            true => device.choices > 0,
+            true => device.choices > 0 && leaves_page,
             false => count < self.size.pages && Some(count) == fewest || self.is(Wrong::AnyVictimAtNone),
         };
         let pairs = victims.iter().filter(|(count, _)| may_go(*count)).flat_map(|(_, victim)| room.copies.iter().map(move |to| (*victim, *to)));

@@ -184,13 +184,17 @@ fn on_its_device(wrong: Wrong) -> Run {
         Wrong::TornTakenForLoss | Wrong::KeepsBehindGap => run(3, 2, 2).one_value().core().wrong(wrong),
         Wrong::FreesByTwinsBehindGap => run(4, 2, 3).reserve(1).one_value().wrong(wrong),
         Wrong::HostsTakeLast | Wrong::ContinuesCopies | Wrong::OpenTakenForFree => run(4, 2, 3).one_value().core().hosts(1).wrong(wrong),
-        Wrong::HostsTakeLastBesideCopies | Wrong::HostInCopiesAtNone | Wrong::AnyVictimAtNone => run(3, 2, 3).one_value().core().hosts(1).wrong(wrong),
+        Wrong::HostsTakeLastBesideCopies | Wrong::HostInCopiesAtNone | Wrong::AnyVictimAtNone | Wrong::CopiesTakeLastPage => {
+            run(3, 2, 3).one_value().core().hosts(1).wrong(wrong)
+        }
         Wrong::GivesUpAtNone => run(3, 3, 4).starts(Start::Filled(2)).one_value().core().hosts(1).gives_up(2).wrong(wrong),
         Wrong::SecondTakesLast => run(4, 2, 2).one_value().core().hosts(2).wrong(wrong),
         Wrong::NumbersApart => run(4, 1, 2).core().hosts(2).wrong(wrong),
         Wrong::ErasesBesideCopies => run(4, 2, 3).one_value().core().hosts(1).side_by_side().wrong(wrong),
         Wrong::ErasesBesidePrograms | Wrong::ErasesBesideOthers => run(3, 2, 3).one_value().core().hosts(2).side_by_side().wrong(wrong),
-        Wrong::SharesUnsynced => run(3, 2, 2).one_value().core().hosts(1).synced(Sync::FlushAndAfterErase, Promise::Whole, "flush, whole").wrong(wrong),
+        Wrong::SharesUnsynced | Wrong::HostInCopiesBesideHosts => {
+            run(3, 2, 2).one_value().core().hosts(1).synced(Sync::FlushAndAfterErase, Promise::Whole, "flush, whole").wrong(wrong)
+        }
         Wrong::AcknowledgesOthers => run(4, 1, 2).core().hosts(2).side_by_side().wrong(wrong),
         Wrong::TwinBySector | Wrong::FreesNoBlock | Wrong::NoReserve => run(3, 2, 3).one_value().wrong(wrong),
         _ => run(3, 2, 2).wrong(wrong),

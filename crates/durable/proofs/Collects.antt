@@ -13,7 +13,8 @@ use Rattle.durable.specs.Next.{HasFree, IsFewestBeside, Opens}
 use Rattle.durable.specs.Choice.{IsNextCommand}
 use Rattle.durable.proofs.Counts.{weight_here, weight_elsewhere, kept_in_set, kept_there, none_counted, other_has_room}
 use Rattle.durable.proofs.Done.{Becomes}
-use Rattle.durable.proofs.Opened.{after_copied, after_programmed, apart_copied, apart_programmed, free_copied, free_or_copies, free_programmed, is_open}
+use Rattle.durable.proofs.Opened.{after_copied, after_programmed, apart_copied, apart_programmed, free_copied, free_or_copies, free_or_not, free_programmed}
+use Rattle.durable.proofs.Opened.{is_open}
 use Rattle.durable.proofs.Opened.{none_or_some, none_some, opens_apart, opens_on, page_after_is, some_free, some_not_none, some_same, stays_on}
 
 -- with a free block there is room to collect
@@ -35,6 +36,13 @@ some_pages blocks (suc pages) sectors few = omega arith
 pub free_beside_hosts : (core : Core) → core.next_pages.hosts ≢ None → HasFree core.blocks core.map.items core.next_pages
 free_beside_hosts core some = some_free core.blocks core.map.items core.next_pages (core.can_collect.0 some)
 
+-- so with none free there is none
+none_beside_full : (core : Core) → (HasFree core.blocks core.map.items core.next_pages → ⊥) → core.next_pages.hosts ≡ None
+none_beside_full core full = ⊎_elim
+    (λ none. none)
+    (λ some. absurd (full (free_beside_hosts core (some_not_none core.next_pages.hosts some.0 some.1))))
+    (none_or_some core.next_pages.hosts)
+
 module _ (core : Core) (s : Extent) where
   pub program_collects : (at : PageAddr) (n : ℕ) (map : List (Option PageAddr)) (next : NextPages) → IsNextCommand core (Program at n)
       → MapsAll core.map.items map s at → IsProgrammed core.next_pages at core.pages next → CanCollect map core.blocks core.pages next
@@ -46,20 +54,22 @@ module _ (core : Core) (s : Extent) where
       (stays_on core.next_pages next at core.pages opened after core.blocks core.on_device)
 
   module _ (k : ℕ) (from to : PageAddr) (is : IsNextCommand core (Copy k from to)) where
-    module _ (none : core.next_pages.hosts ≡ None) where
-      -- the victim has a live page, so the block of copies is not full after it
-      pub not_last : to.page + 1 ≡ core.pages → ⊥
-      not_last e = core.can_collect.2 to none is.0 (λ b lt differs.
-          omega (arith, e, (is.3 none b lt differs).2, kept_there from.block core.map.items k from is.1 is.2 refl))
+    either : HasFree core.blocks core.map.items core.next_pages ⊎ (HasFree core.blocks core.map.items core.next_pages → ⊥)
+    either = free_or_not core.blocks core.map.items core.next_pages
 
-      victim_apart : from.block ≢ to.block
-      victim_apart e = core.can_collect.2 to none is.0 (λ b lt differs. absurd ((is.3 none b lt differs).1 e))
+    -- where none is free the victim has a live page, so the block of copies is not full after it
+    pub not_last : core.next_pages.hosts ≡ None → to.page + 1 ≡ core.pages → ⊥
+    not_last none e = ⊎_elim
+        (λ free. omega (arith, e, (is.4 free).3 none))
+        (λ full. core.can_collect.2 to none is.0 (λ b lt differs.
+        omega (arith, e, (is.3 full b lt differs).2, kept_there from.block core.map.items k from is.1 is.2 refl)))
+        either
 
     pub copy_apart : from.block ≢ to.block
     copy_apart = ⊎_elim
-        (λ none. victim_apart none)
-        (λ some. (is.4 (some_not_none core.next_pages.hosts some.0 some.1)).0 to (inr is.0))
-        (none_or_some core.next_pages.hosts)
+        (λ free. (is.4 free).0 to (inr is.0))
+        (λ full. λ e. core.can_collect.2 to (none_beside_full core full) is.0 (λ b lt differs. absurd ((is.3 full b lt differs).1 e)))
+        either
 
     copied_out : live_in from.block (set core.map.items k (Some to)) + 1 ≡ live_in from.block core.map.items
     copied_out = omega (
@@ -73,33 +83,32 @@ module _ (core : Core) (s : Extent) where
     pub copy_collects : (next : NextPages) → IsCopied core.next_pages to core.pages next
         → CanCollect (set core.map.items k (Some to)) core.blocks core.pages next
     copy_collects next copied = ⊎_elim
-        (λ none. (
-          (λ some. absurd (some (copied.0 ∙ none))),
-          (λ hosts closed live. not_last none (copied.1.1 closed)),
-          (λ on hosts opened full.
-              let e = page_after_is to on core.pages next.copies copied.1 opened in
-              core.can_collect.2 to none is.0 (λ b lt differs.
-              let victim = is.3 none b lt differs in
-              omega (arith, full from.block victim.0 (λ here. victim.1 (here ∙ e.0)), victim.2, copied_out, e.1))),
-        ))
-        (λ some.
+        (λ free.
         let after = after_copied core.next_pages next to core.pages core.apart is.0 copied in
         free_collects (set core.map.items k (Some to)) core.blocks core.pages next
-        (free_copied core.next_pages next to core.pages (inr is.0) after core.blocks core.map.items k is.1
-        (free_beside_hosts core (some_not_none core.next_pages.hosts some.0 some.1)))
+        (free_copied core.next_pages next to core.pages (inr is.0) after core.blocks core.map.items k is.1 free)
         (stays_on core.next_pages next to core.pages (inr is.0) after core.blocks core.on_device))
-        (none_or_some core.next_pages.hosts)
+        (λ full. let none = none_beside_full core full in (
+          (λ some. absurd (some (copied.0 ∙ none))),
+          (λ hosts closed live. not_last none (copied.1.1 closed)),
+          (λ on hosts opened all.
+              let e = page_after_is to on core.pages next.copies copied.1 opened in
+              core.can_collect.2 to none is.0 (λ b lt differs.
+              let victim = is.3 full b lt differs in
+              omega (arith, all from.block victim.0 (λ here. victim.1 (here ∙ e.0)), victim.2, copied_out, e.1))),
+        ))
+        either
 
     -- what is left is enough still
     pub copy_enough : (next : NextPages) (left : ℕ) → IsCopied core.next_pages to core.pages next → left + 1 ≤ core.pages → left + 1 ≤ core.left
         → ((left + 1 ≡ core.pages) ⊎ (left + 1 ≡ core.left)) → IsEnough core.pages next left
-    copy_enough next left copied most less either = ⊎_elim
+    copy_enough next left copied most less as_many = ⊎_elim
         (λ none.
         let more = core.enough.3 to none is.0 in
         let on = core.on_device to (inr is.0) in
         let room : to.page + 1 < core.pages = ⊎_elim (λ e. absurd (not_last none e)) (λ differs. omega (arith, differs, on.1))
         (cases_eq (to.page + 1) core.pages) in (
-          ⊎_elim (λ e. omega (arith, e, room)) (λ e. omega (arith, e, more, room)) either,
+          ⊎_elim (λ e. omega (arith, e, room)) (λ e. omega (arith, e, more, room)) as_many,
           omega (arith, most),
           (λ hosts closed. absurd (not_last none (copied.1.1 closed))),
           (λ on hosts opened.
@@ -108,8 +117,8 @@ module _ (core : Core) (s : Extent) where
         ))
         (λ some.
         let some_hosts = some_not_none core.next_pages.hosts some.0 some.1 in
-        let room = is.4 some_hosts in (
-          ⊎_elim (λ e. omega (arith, e, room.2)) (λ e. omega (arith, e, room.1)) either,
+        let room = is.4 (free_beside_hosts core some_hosts) in (
+          ⊎_elim (λ e. omega (arith, e, room.2)) (λ e. omega (arith, e, room.1)) as_many,
           omega (arith, most),
           (λ hosts closed. absurd (some_hosts (sym copied.0 ∙ hosts))),
           (λ on hosts opened. absurd (some_hosts (sym copied.0 ∙ hosts))),

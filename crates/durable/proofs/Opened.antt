@@ -205,6 +205,12 @@ pub some_free : (blocks : ℕ) (map : List (Option PageAddr)) (next : NextPages)
     → (((b : ℕ) → b < blocks → IsNotOpen next b → 0 < live_in b map) → ⊥) → HasFree blocks map next
 some_free blocks map next = found map (IsNotOpen next) (closed_or_open next) blocks
 
+pub free_or_not : (blocks : ℕ) (map : List (Option PageAddr)) (next : NextPages) → HasFree blocks map next ⊎ (HasFree blocks map next → ⊥)
+free_or_not blocks map next = ⊎_elim
+    (λ free. inl free)
+    (λ live. inr (λ free. omega (arith, live free.0 free.1 free.2, none_counted free.0 map free.3)))
+    (free_or_live map (IsNotOpen next) (closed_or_open next) blocks)
+
 pub some_free_beside : (blocks : ℕ) (map : List (Option PageAddr)) (next : NextPages) (avoided : ℕ)
     → (((b : ℕ) → b < blocks → b ≢ avoided → IsNotOpen next b → 0 < live_in b map) → ⊥) → HasFreeBeside blocks map next avoided
 some_free_beside blocks map next avoided some =

@@ -20,15 +20,15 @@ IsFewestBeside blocks map opened victim = (b : ℕ) → b < blocks → b ≢ ope
     → (victim < blocks) × (victim ≢ opened) × (live_in victim map ≤ live_in b map)
 
 -- the command comes next, on so many blocks of so many pages, with this map, next pages and next number, and at most so many commands left. A program
--- needs a free block. A copy comes from any closed block while one is open for hosts, and otherwise from one with the fewest live pages. An erase is the
--- first command of a call, and opens a block: beside another free one, unless none is open
+-- needs a free block. A copy beside a free block comes from any closed one, and leaves an open page for the call's program. Where none is free it comes from
+-- a block with the fewest live pages. An erase is the first command of a call, and opens a block: beside another free one, unless none is open
 abbrev pub IsNextFor : ℕ → ℕ → List (Option PageAddr) → NextPages → ℕ → ℕ → Command → Type 0
 IsNextFor blocks pages map next left number (Program at n) =
     (page_for_hosts next.hosts next.copies ≡ Some at) × (n ≡ number) × (n + 1 < 2 ^ 64) × HasFree blocks map next
 IsNextFor blocks pages map next left number (Copy k from to) =
     (next.copies ≡ Some to) × (k < length map) × (slice_index_or map k None ≡ Some from)
-    × (next.hosts ≡ None → IsFewestBeside blocks map to.block from.block)
-    × (next.hosts ≢ None → IsNotOpen next from.block × (1 < left) × (1 < pages))
+    × (¬ HasFree blocks map next → IsFewestBeside blocks map to.block from.block)
+    × (HasFree blocks map next → IsNotOpen next from.block × (1 < left) × (1 < pages) × (next.hosts ≡ None → to.page + 1 < pages))
 IsNextFor blocks pages map next left number (Erase b) =
     (left ≡ pages + 1) × (b < blocks) × IsFree map b × IsNotOpen next b
     × (next.hosts ≢ None → next.copies ≡ None)

@@ -21,6 +21,7 @@ ghost use Rattle.durable.specs.Losses.{HasNoLoss, IsGapless, IsWholeOrHere, gaps
 ghost use Rattle.durable.specs.Marks.{IsMarkedWith, is_valued};
 ghost use Rattle.durable.specs.Memory.{IsMappedTo, map_entry};
 ghost use Rattle.durable.specs.Mounting.{IsStampOf, TellsValue, TellsValues, next_in, after_in};
+ghost use Rattle.durable.specs.Next.{HasFree};
 ghost use Rattle.durable.specs.Spare.{IsDuplicated};
 ghost use Rattle.durable.specs.Promise.{IsConsistent, IsReadable, IsRecoverable, KeepsAcknowledged};
 ghost use Rattle.durable.specs.Runs.{Completed, CutBetween, CutInside, Event, Failed, IsMountedFrom, Runs, RunsOnReserve};
@@ -288,11 +289,15 @@ pub fn next_commands()
     ensures target { (core : Layer) (from to : Addr)
         → IsNextCommand core (command.Copy 7 from to) → (next_pages_of core).copies ≡ Some to }
     ensures fewest { (core : Layer) (from to : Addr)
-        → IsNextCommand core (command.Copy 7 from to) → (next_pages_of core).hosts ≡ None
-        → to.block ≡ 0 → 1 < core.blocks
+        → IsNextCommand core (command.Copy 7 from to)
+        → ¬ HasFree core.blocks core.map.items core.next_pages → to.block ≡ 0 → 1 < core.blocks
         → live_in 1 core.map.items + 1 ≡ live_in from.block core.map.items → ⊥ }
     ensures closed { (core : Layer) (from to at : Addr) → IsNextCommand core (command.Copy 7 from to)
         → (next_pages_of core).hosts ≡ Some at → from.block ≢ at.block }
+    ensures last { (core : Layer) (from to : Addr) → IsNextCommand core (command.Copy 7 from to)
+        → (next_pages_of core).hosts ≡ None → to.page + 1 ≡ core.pages → ⊥ }
+    ensures before { (core : Layer) (from to at : Addr) → IsNextCommand core (command.Copy 7 from to)
+        → (next_pages_of core).hosts ≡ Some at → left core ≡ 1 → ⊥ }
     ensures opened { (core : Layer) → IsNextCommand core (command.Erase 0) → left core ≡ core.pages + 1 }
     ensures first { Spends (command.Erase 0) 4 5 4 }
     ensures twice { ¬ Spends (command.Erase 0) 4 4 4 }

@@ -1,6 +1,6 @@
 ghost use Rattle.std.specs.Prelude.{◌≡◌, ◌≢◌, ◌<◌, ◌≤◌, ◌+◌, ◌^◌, List, None, Some, IfSome, true, false};
 ghost use Rattle.durable.specs.Collecting.{IsNotOpen, IsFree, live_in};
-ghost use Rattle.durable.specs.Next.{HasFreeBeside, Opens};
+ghost use Rattle.durable.specs.Next.{HasFree, HasFreeBeside, Opens};
 
 use crate::command::Command;
 use crate::counting::{remap, remap_all};
@@ -78,7 +78,8 @@ impl Core {
     pub fn keep_copies_apart(&mut self)
         ensures { self.new ≡ self.old }
     {
-        self.counts.keep_copies_apart();
+        let sectors = self.map.len() as u32;
+        self.counts.keep_copies_apart(sectors);
     }
 
     /// The command that comes next for a write or trim of these sectors. It depends on nothing but the layer's memory.
@@ -119,7 +120,9 @@ impl Core {
                 self.next_number = number + 1;
                 self.next_pages = self.next_pages.programmed(at, self.pages);
                 self.left = u64::from(self.pages) + 1;
-                let victim = self.counts.victim_after(self.victim, self.next_pages);
+                let victim = self
+                    .counts
+                    .victim_after(self.victim, self.next_pages, self.turn);
                 self.owners
                     .prepare(&self.map, &self.counts, self.victim, victim);
                 self.victim = victim;
@@ -134,7 +137,8 @@ impl Core {
             }
             Command::Erase(block) => {
                 let next_pages = self.opened(block);
-                self.counts.erased(block);
+                let source = self.victim.source(next_pages, block);
+                self.counts.erased(block, self.turn, source);
                 self.turn = self.turn.wrapping_add(1);
                 let victim = self.counts.victim_beside(self.victim, next_pages, block);
                 self.owners
@@ -179,8 +183,8 @@ impl Core {
             None => match next.copies {
                 Some(_) => for_hosts,
                 None => match self.counts.other_empty(next, block) {
-                    Some(_) => for_hosts,
-                    None => for_copies,
+                    Some(_) if self.counts.has_many_empty() => for_hosts,
+                    _ => for_copies,
                 },
             },
         }
@@ -217,6 +221,32 @@ impl Core {
         requires { self.now.next_pages.hosts ≢ None }
         ensures { IfSome result (λ m. IsNextCommand self.now m × (m ≢ Refused)) }
     {
+        match self.next_pages.copies {
+            Some(to) => self.spare_copy(to),
+            None => {
+                self.due()?;
+                Some(Command::Erase(self.block_to_open()?))
+            }
+        }
+    }
+
+    // A copy that the call doesn't need, beside a free block.
+    fn spare_copy(&self, to: PageAddr) -> Option<Command>
+        requires copies { self.now.next_pages.copies ≡ Some to }
+        requires free { HasFree self.now.blocks self.now.map.items self.now.next_pages }
+        requires room { self.now.next_pages.hosts ≡ None → to.page + 1 < self.now.pages }
+        ensures { IfSome result (λ m. IsNextCommand self.now m × (m ≢ Refused)) }
+    {
+        let victim = self.due()?;
+        let (sector, from) = source(&self.map, &self.owners, victim)?;
+        Some(Command::Copy(sector, from, to))
+    }
+
+    // The block that such a copy comes from, if one is due.
+    fn due(&self) -> Option<u32>
+        ensures { IfSome result (λ b. IsNotOpen self.now.next_pages b
+            × (1 < self.now.left) × (1 < self.now.pages)) }
+    {
         let victim = self.victim.block;
         if victim >= self.blocks || !self.next_pages.is_closed(victim) {
             return None;
@@ -224,16 +254,11 @@ impl Core {
         if self.counts.get(victim) == 0 || self.left <= 1 || self.pages <= 1 {
             return None;
         }
-        if self.left + u64::from(self.victim.pace) <= u64::from(self.pages) {
+        let pace = u64::from(self.victim.pace);
+        if pace == 0 || self.left + pace <= u64::from(self.pages) {
             return None;
         }
-        match self.next_pages.copies {
-            Some(to) => {
-                let (sector, from) = source(&self.map, &self.owners, victim)?;
-                Some(Command::Copy(sector, from, to))
-            }
-            None => Some(Command::Erase(self.block_to_open()?)),
-        }
+        Some(victim)
     }
 
     // A block that can be opened beside another free one.
@@ -258,7 +283,7 @@ impl Core {
         ensures next { IsNextCommand self.now result }
         ensures progress { next_number_of self.now + 1 < 2 ^ 64 → result ≢ Refused }
     {
-        if let Some(block) = self.block_to_open() {
+        if let Some(block) = self.for_hosts() {
             return Command::Erase(block);
         }
         match self.next_pages.copies {
@@ -270,6 +295,17 @@ impl Core {
         }
     }
 
+    // A block to be opened for hosts, if enough pages are left.
+    fn for_hosts(&self) -> Option<u32>
+        ensures { IfSome result (λ b. (self.now.left ≡ self.now.pages + 1) × (b < self.now.blocks) × IsFree self.now.map.items b
+            × IsNotOpen self.now.next_pages b × HasFreeBeside self.now.blocks self.now.map.items self.now.next_pages b) }
+    {
+        if !self.counts.has_room(self.victim, self.next_pages) {
+            return None;
+        }
+        self.block_to_open()
+    }
+
     // The same, while only the block of copies is open.
     fn in_copies(&self, to: PageAddr) -> Command
         requires hosts { self.now.next_pages.hosts ≡ None }
@@ -279,6 +315,11 @@ impl Core {
     {
         let victim = self.counts.fewest(to.block);
         if self.is_free_beside(victim, to.block) {
+            if self.pages - to.page > 1 {
+                if let Some(command) = self.spare_copy(to) {
+                    return command;
+                }
+            }
             if self.next_number >= u64::MAX {
                 return Command::Refused;
             }

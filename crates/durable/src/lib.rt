@@ -3,6 +3,7 @@
 #![tactic(auto)]
 
 mod candidates;
+mod cleaning;
 mod command;
 mod counting;
 mod extent;

@@ -2,10 +2,11 @@ ghost use Rattle.std.specs.Prelude.{◌≡◌, ◌<◌, ◌≤◌, ◌^◌, leng
 ghost use Rattle.durable.specs.Collecting.{AreInTwoBlocks, AreLiveCounts, ArePagesOn, CanCollect, HasCapacity, IsEnough};
 ghost use Rattle.durable.specs.Next.{IsNextFor};
 
+use crate::cleaning::Victim;
 use crate::command::Command;
 use crate::next_pages::NextPages;
 use crate::owners::Owners;
-use crate::ranking::{Counts, Victim};
+use crate::ranking::Counts;
 use packed_map::PackedMap;
 
 /// What the layer knows of a flash: where each sector is, the pages to be programmed next, and the next version's number.

@@ -2,6 +2,7 @@ ghost use Rattle.std.specs.Prelude.{◌≡◌, ◌≢◌, ◌⊎◌, ◌<◌, �
 ghost use Rattle.durable.specs.Flash.{Flash};
 
 use crate::candidates::{freeable, is_of_device, take};
+use crate::cleaning::Victim;
 use crate::command::Command;
 use crate::counting::counts_of;
 use crate::fault::MountFault;
@@ -12,7 +13,6 @@ use crate::memory::Core;
 use crate::mount::Mount;
 use crate::next_pages::NextPages;
 use crate::owners::Owners;
-use crate::ranking::Victim;
 use geometry::PageAddr;
 use std::alloc::Global;
 

@@ -2,9 +2,10 @@ ghost use Rattle.std.specs.Prelude.{◌≡◌, ◌<◌, ◌^◌, length, None, S
 ghost use Rattle.durable.specs.Updates.{LiesWithin};
 ghost use Rattle.packed_map.specs.Entries.{IsPackable};
 
+use crate::cleaning::Victim;
 use crate::extent::Extent;
 use crate::hints::Hints;
-use crate::ranking::{Counts, Victim};
+use crate::ranking::Counts;
 use geometry::PageAddr;
 use packed_map::PackedMap;
 use std::alloc::{AllocError, Global};

@@ -1,6 +1,7 @@
 ghost use Rattle.std.specs.Prelude.{◌≡◌, ◌≢◌, ◌<◌, ◌≤◌, ◌+◌, ◌-◌, ◌^◌, ℕ, length, replicate, slice_set, slice_index, slice_index_or, IfOk, IfSome, IfNone};
 ghost use Rattle.durable.specs.Collecting.{IsNotOpen};
 
+use crate::cleaning::most_copies;
 use crate::next_pages::NextPages;
 use crate::search::fewest;
 use std::alloc::{AllocError, Global};
@@ -8,37 +9,32 @@ use std::marker::Model;
 use victims::BucketQueue;
 
 // How many blocks are compared for the least erased one.
-const COMPARED: usize = 8;
+pub(crate) const COMPARED: usize = 8;
 
-const NO_BLOCK: u32 = u32::MAX;
+pub(crate) const NO_BLOCK: u32 = u32::MAX;
 
-// With so many blocks without live pages no victim is looked for.
-const MANY: u32 = 4;
-
-/// The block that copies come from, and how many of them come before a program.
+/// When a block was opened, in erases of all blocks, and how often what it was opened for had been copied.
 #[derive(Clone, Copy)]
-pub struct Victim {
-    pub block: u32,
-    pub pace: u32,
-}
-
-impl Victim {
-    pub const NONE: Victim = Victim {
-        block: NO_BLOCK,
-        pace: 0,
-    };
+pub struct Opening {
+    pub turn: u32,
+    pub copies: u32,
 }
 
 /// How many live pages each block has, and the blocks in the order of that.
 #[derive(Drop)]
 pub struct Counts {
-    counts: Vec<u32>,
+    pub(crate) counts: Vec<u32>,
     // How often each block was erased.
-    erases: Vec<u16>,
+    pub(crate) erases: Vec<u16>,
     // The key of a block is its count, or the greatest key if that is less.
-    queue: BucketQueue,
-    // Whether blocks are opened for hosts.
-    keeps_apart: bool,
+    pub(crate) queue: BucketQueue,
+    pub(crate) openings: Vec<Opening>,
+    // A block with live pages that was erased less often than the others that were looked at, and the most erases of a block.
+    pub(crate) coldest: u32,
+    pub(crate) most_erases: u16,
+    pub(crate) pages: u32,
+    // How many copies that a call doesn't need come before its program at most; 0 if no block is opened for hosts.
+    pub(crate) most_copies: u32,
 }
 
 impl Model for Counts {
@@ -51,6 +47,7 @@ impl Model for Counts {
     ghost invariant = { λ s. record {
       same : length s.queue.keys.items ≡ length s.counts.items;
       erases : length s.erases.items ≡ length s.counts.items;
+      openings : length s.openings.items ≡ length s.counts.items;
       few : length s.counts.items < 2 ^ 32;
       some : 1 < length s.queue.starts.items;
       at_most : (b : ℕ) → b < length s.counts.items → slice_index s.queue.keys.items b ≤ slice_index s.counts.items b;
@@ -68,7 +65,11 @@ impl Counts {
             counts: vec![in alloc; 0; blocks as usize]?,
             erases: vec![in alloc; 0; blocks as usize]?,
             queue: BucketQueue::new(alloc, blocks, (pages as usize).min(65534) + 2)?,
-            keeps_apart: false,
+            openings: vec![in alloc; Opening { turn: 0, copies: 0 }; blocks as usize]?,
+            coldest: NO_BLOCK,
+            most_erases: 0,
+            pages,
+            most_copies: 0,
         })
     }
 
@@ -116,15 +117,22 @@ impl Counts {
         requires { block < length self.old }
         ensures { self.new ≡ self.old }
     {
-        self.erases[block as usize] = erases.min(u32::from(u16::MAX)) as u16;
+        let erases = erases.min(u32::from(u16::MAX)) as u16;
+        self.erases[block as usize] = erases;
+        self.most_erases = self.most_erases.max(erases);
     }
 
-    /// A block was erased.
-    pub fn erased(&mut self, block: u32)
+    /// A block was erased, after so many others, and is opened for copies from a block, or for hosts.
+    pub fn erased(&mut self, block: u32, turn: u32, source: u32)
         requires { block < length self.old }
         ensures { self.new ≡ self.old }
     {
-        self.erases[block as usize] = self.erases[block as usize].saturating_add(1);
+        let copies = self.copies_from(source);
+        self.openings[block as usize] = Opening { turn, copies };
+        let erases = self.erases[block as usize].saturating_add(1);
+        self.erases[block as usize] = erases;
+        self.most_erases = self.most_erases.max(erases);
+        self.coldest = self.colder(turn);
     }
 
     /// A block without live pages, if there is one: of a few the least erased. In each turn these are others, so that blocks wear evenly.
@@ -138,11 +146,11 @@ impl Counts {
         Some(least_erased(&self.queue, &self.erases, block, NO_BLOCK))
     }
 
-    /// Blocks are opened for hosts from now on.
-    pub fn keep_copies_apart(&mut self)
+    /// Blocks are opened for hosts from now on, on a device of so many sectors.
+    pub fn keep_copies_apart(&mut self, sectors: u32)
         ensures { self.new ≡ self.old }
     {
-        self.keeps_apart = true;
+        self.most_copies = most_copies(sectors, self.counts.len() as u32, self.pages);
     }
 
     /// A closed block without live pages, beside one, if blocks are opened for hosts.
@@ -150,7 +158,7 @@ impl Counts {
         ensures { IfSome result (λ b. (b < length self.now) × (slice_index_or self.now b 0 ≡ 0)
             × IsNotOpen next b × (b ≢ avoided)) }
     {
-        if !self.keeps_apart {
+        if self.most_copies == 0 {
             return None;
         }
         for turn in 0..4 {
@@ -160,66 +168,6 @@ impl Counts {
             }
         }
         None
-    }
-
-    /// The victim after a program: another one once it has no live pages, while a block is open for hosts and few blocks are free.
-    pub fn victim_after(&self, victim: Victim, next: NextPages) -> Victim {
-        let block = victim.block;
-        if (block as usize) < self.counts.len() && next.is_closed(block) {
-            if self.counts[block as usize] > 0 {
-                return victim;
-            }
-        }
-        if next.hosts.is_none() || self.queue.count(0) >= MANY {
-            return Victim::NONE;
-        }
-        self.emptiest(next)
-    }
-
-    /// The victim once a block was erased: with none open for hosts, the one with the fewest live pages.
-    pub fn victim_beside(&self, victim: Victim, next: NextPages, block: u32) -> Victim {
-        if next.hosts.is_some() {
-            return victim;
-        }
-        Victim {
-            block: self.fewest(block),
-            pace: 0,
-        }
-    }
-
-    // A closed block with the fewest live pages, of those with some: of a few the least erased.
-    fn emptiest(&self, next: NextPages) -> Victim {
-        let order = &self.queue.sorted.order;
-        let first = self.queue.starts[1] as usize;
-        let mut best = NO_BLOCK;
-        for place in first..order.len().min(first.saturating_add(COMPARED)) {
-            let other = order[place];
-            if next.is_closed(other) && self.is_better(other, best) {
-                best = other;
-            }
-        }
-        Victim {
-            block: best,
-            pace: self.pace(best),
-        }
-    }
-
-    // Whether a block that comes later in the order is better to collect: it has as few live pages, and fewer erases.
-    fn is_better(&self, block: u32, best: u32) -> bool
-        requires { block < length self.now }
-    {
-        if best as usize >= self.counts.len() {
-            return true;
-        }
-        self.queue.keys[block as usize] == self.queue.keys[best as usize]
-            && self.erases[block as usize] < self.erases[best as usize]
-    }
-
-    // How many copies of a block come before a program, so that it is empty before hosts have written as much as that frees.
-    fn pace(&self, block: u32) -> u32 {
-        let pages = (self.queue.starts.len() as u32).saturating_sub(2);
-        let live = self.counts.get(block as usize).map_or(0, |live| *live);
-        (live / pages.saturating_sub(live).max(1)).saturating_add(1)
     }
 
     /// The block with the fewest live pages, beside one: of a few the least erased.

@@ -9,12 +9,13 @@ ghost use Rattle.durable.specs.Retiring.{Keeps};
 ghost use Rattle.durable.specs.Updates.{LiesWithin};
 ghost use Rattle.durable.specs.declared.command.Command.TheVariants.{Program};
 
+use crate::cleaning::Victim;
 use crate::command::Command;
 use crate::counting::{remap_all, renumber};
 use crate::extent::Extent;
 use crate::memory::Core;
 use crate::next_pages::NextPages;
-use crate::ranking::{Counts, Victim};
+use crate::ranking::Counts;
 use crate::search::source_in_map;
 use packed_map::PackedMap;
 

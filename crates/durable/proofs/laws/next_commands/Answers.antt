@@ -1,5 +1,7 @@
 use Rattle.std.proofs.Common.{inl, sym, subst, arith}
 use Rattle.durable.specs.Collecting.{IsFree}
+use Rattle.durable.specs.Updates.{sole}
+use Rattle.durable.proofs.Collects.{free_beside_hosts, not_last}
 use Rattle.durable.proofs.Opened.{some_not_none}
 use Rattle.durable.proofs.laws.next_commands.Goals as goal
 
@@ -13,4 +15,11 @@ returns-clause-beside c core at blocks opened used next =
 
 pub returns-clause-closed : goal.returns-clause-closed
 returns-clause-closed c core from to at next opened =
-    (next.4 (some_not_none core.next_pages.hosts at opened)).0 at (inl opened)
+    (next.4 (free_beside_hosts core (some_not_none core.next_pages.hosts at opened))).0 at (inl opened)
+
+pub returns-clause-last : goal.returns-clause-last
+returns-clause-last c core from to next hosts last = not_last core (sole 0) 7 from to next hosts last
+
+pub returns-clause-before : goal.returns-clause-before
+returns-clause-before c core from to at next opened one =
+    let room = next.4 (free_beside_hosts core (some_not_none core.next_pages.hosts at opened)) in omega (arith, room.1, one)
