@@ -1,5 +1,5 @@
 -- There is room to collect after each command, and what is left of a call is enough for it.
-use Rattle.std.proofs.Common.{get_or, ◌≡◌, ◌≢◌, ◌⊎◌, inr, ⊎_elim, ◌+◌, ◌-◌, ◌*◌, ◌<◌, ◌≤◌, ℕ, zero, suc, List, length, Option, None, Some, set, refl, sym}
+use Rattle.std.proofs.Common.{get_or, ◌≡◌, ◌≢◌, ◌⊎◌, inl, inr, ⊎_elim, ◌+◌, ◌-◌, ◌*◌, ◌<◌, ◌≤◌, ℕ, zero, suc, List, length, Option, None, Some, set, refl, sym}
 use Rattle.std.proofs.Common.{◌∙◌, ap, subst, arith}
 use Rattle.std.proofs.lemmas.Bool.{cases_eq}
 use Rattle.geometry.specs.declared.page_addr.PageAddr.{PageAddr}
@@ -9,12 +9,12 @@ use Rattle.durable.specs.declared.command.Command.TheVariants.{Program, Copy, Er
 use Rattle.durable.specs.declared.memory.Core.{Core}
 use Rattle.durable.specs.declared.next_pages.NextPages.{NextPages}
 use Rattle.durable.specs.Collecting.{AreInTwoBlocks, ArePagesOn, CanCollect, IsCopied, IsEnough, IsFree, IsProgrammed, MapsAll, first_page, live_in, weight}
-use Rattle.durable.specs.Next.{HasFree, IsFewestBeside, Opens}
+use Rattle.durable.specs.Next.{HasFree, IsFewestBeside, IsRoomy, Opens}
 use Rattle.durable.specs.Choice.{IsNextCommand}
 use Rattle.durable.proofs.Counts.{weight_here, weight_elsewhere, kept_in_set, kept_there, none_counted, other_has_room}
 use Rattle.durable.proofs.Done.{Becomes}
 use Rattle.durable.proofs.Opened.{after_copied, after_programmed, apart_copied, apart_programmed, free_copied, free_or_copies, free_or_not, free_programmed}
-use Rattle.durable.proofs.Opened.{is_open}
+use Rattle.durable.proofs.Opened.{free_beside, is_open}
 use Rattle.durable.proofs.Opened.{none_or_some, none_some, opens_apart, opens_on, page_after_is, some_free, some_not_none, some_same, stays_on}
 
 -- with a free block there is room to collect
@@ -60,7 +60,7 @@ module _ (core : Core) (s : Extent) where
     -- where none is free the victim has a live page, so the block of copies is not full after it
     pub not_last : core.next_pages.hosts ≡ None → to.page + 1 ≡ core.pages → ⊥
     not_last none e = ⊎_elim
-        (λ free. omega (arith, e, (is.4 free).3 none))
+        (λ free. omega (arith, e, (is.4 free).4 none))
         (λ full. core.can_collect.2 to none is.0 (λ b lt differs.
         omega (arith, e, (is.3 full b lt differs).2, kept_there from.block core.map.items k from is.1 is.2 refl)))
         either
@@ -98,6 +98,21 @@ module _ (core : Core) (s : Extent) where
               omega (arith, all from.block victim.0 (λ here. victim.1 (here ∙ e.0)), victim.2, copied_out, e.1))),
         ))
         either
+
+    -- while a block is open and another one is free, this stays so
+    pub roomy_copied : (next : NextPages) → IsCopied core.next_pages to core.pages next → IsRoomy core.blocks core.map.items core.next_pages
+        → IsRoomy core.blocks (set core.map.items k (Some to)) next
+    roomy_copied next copied roomy = (
+      ⊎_elim
+          (λ none. ⊎_elim
+          (λ closed. absurd (not_last none (copied.1.1 closed)))
+          (λ on. (on.0, inr on.1))
+          (none_or_some next.copies))
+          (λ some. (some.0, inl (copied.0 ∙ some.1)))
+          (none_or_some core.next_pages.hosts),
+      free_copied core.next_pages next to core.pages (inr is.0) (after_copied core.next_pages next to core.pages core.apart is.0 copied) core.blocks
+          core.map.items k is.1 roomy.1,
+    )
 
     -- what is left is enough still
     pub copy_enough : (next : NextPages) (left : ℕ) → IsCopied core.next_pages to core.pages next → left + 1 ≤ core.pages → left + 1 ≤ core.left
@@ -157,6 +172,12 @@ module _ (core : Core) (s : Extent) where
           (λ mine. absurd (none_some (first_page b) (sym copies ∙ mine.1)))
           opens),
       (λ to hosts copies. omega arith),
+    )
+
+    pub roomy_erased : IsRoomy core.blocks core.map.items core.next_pages → IsRoomy core.blocks core.map.items next
+    roomy_erased roomy = (
+      ⊎_elim (λ hosts. (first_page b, inl hosts.0)) (λ copies. (first_page b, inr copies.1)) opens,
+      free_beside core.blocks core.map.items core.next_pages next b opens (is.5 roomy.0.0 roomy.0.1),
     )
 
   pub collects_after : (m : Command) (map : List (Option PageAddr)) (number : ℕ) (next : NextPages) → IsNextCommand core m

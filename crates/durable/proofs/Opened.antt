@@ -45,6 +45,11 @@ pub page_after_is : (at to : PageAddr) (pages : ℕ) (next : Option PageAddr) �
 page_after_is at to pages next after is = subst (λ (k : Option PageAddr). IfSome k (λ to. (to.block ≡ at.block) × (to.page ≡ at.page + 1) ×
     (to.page < pages))) is after.0
 
+pub page_after_exact : (at : PageAddr) (pages : ℕ) (next : Option PageAddr) → IsPageAfter at pages next → at.page + 1 < pages
+    → next ≡ Some (record { block = at.block; page = at.page + 1 })
+page_after_exact at pages None after more = absurd (omega (arith, after.1 refl, more))
+page_after_exact at pages (Some to) after more = λ i. Some (record { block = after.0.0 i; page = after.0.1 i })
+
 -- what is open after a page was used: the page after it, and what was open in the other block
 abbrev pub IsAfter : NextPages → PageAddr → ℕ → NextPages → Type 0
 IsAfter old at pages new = (to : PageAddr) → IsOpenAt new to
@@ -57,6 +62,20 @@ which_page None copies at is = inr (refl, is)
 
 pub is_open : (next : NextPages) (at : PageAddr) → page_for_hosts next.hosts next.copies ≡ Some at → IsOpenAt next at
 is_open next at is = ⊎_elim (λ hosts. inl hosts) (λ copies. inr copies.1) (which_page next.hosts next.copies at is)
+
+pub programmed_stays : (old new : NextPages) (at : PageAddr) (pages : ℕ) → page_for_hosts old.hosts old.copies ≡ Some at → IsProgrammed old at pages new
+    → at.page + 1 < pages → IsOpenAt new (record { block = at.block; page = at.page + 1 })
+programmed_stays old new at pages is used more = ⊎_elim
+    (λ hosts. inl (page_after_exact at pages new.hosts (used.0 at hosts).0 more))
+    (λ none. inr (page_after_exact at pages new.copies (used.1 none.0).1 more))
+    (which_page old.hosts old.copies at is)
+
+-- with only the block of copies open the others are closed
+pub only_copies_open : (next : NextPages) (to : PageAddr) (b : ℕ) → next.hosts ≡ None → next.copies ≡ Some to → b ≢ to.block → IsNotOpen next b
+only_copies_open next to b hosts copies differs at opened here = ⊎_elim
+    (λ is. some_not_none next.hosts at is hosts)
+    (λ is. differs (here ∙ sym (ap (λ (x : PageAddr). x.block) (some_same to at (sym copies ∙ is)))))
+    opened
 
 module _ (old new : NextPages) (at : PageAddr) (pages : ℕ) (apart : AreInTwoBlocks old) where
   pub after_programmed : page_for_hosts old.hosts old.copies ≡ Some at → IsProgrammed old at pages new → IsAfter old at pages new
@@ -123,7 +142,7 @@ module _ (blocks : ℕ) (map : List (Option PageAddr)) (old new : NextPages) (b 
       (λ copies. ⊎_elim (λ here. inr (inl (sym copies.0 ∙ here))) (λ there. inl (some_same to (first_page b) (sym there ∙ copies.1))) opened)
       opens
 
-  free_beside : HasFreeBeside blocks map old b → HasFree blocks map new
+  pub free_beside : HasFreeBeside blocks map old b → HasFree blocks map new
   free_beside free = (
     free.0,
     free.1,

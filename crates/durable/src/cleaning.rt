@@ -1,4 +1,5 @@
-ghost use Rattle.std.specs.Prelude.{◌<◌, length};
+ghost use Rattle.std.specs.Prelude.{◌≡◌, ◌<◌, ◌≤◌, length};
+ghost use Rattle.durable.specs.Collecting.{most_copies as most_in_all, share};
 
 use crate::next_pages::NextPages;
 use crate::ranking::{COMPARED, Counts, NO_BLOCK};
@@ -291,14 +292,18 @@ impl Counts {
 }
 
 /// The most copies before a program that are needed to keep copies apart, on so many sectors and blocks.
-pub fn most_copies(sectors: u32, blocks: u32, pages: u32) -> u32 {
+pub fn most_copies(sectors: u32, blocks: u32, pages: u32) -> u32
+    ensures { result ≤ most_in_all sectors blocks pages }
+{
     let live = sectors / blocks.saturating_sub(5).max(1);
     let copies = shares(u64::from(live), u64::from(pages.saturating_sub(live)));
     (copies.min(u64::from(pages)) as u32).saturating_add(1)
 }
 
 // The size of each of so many equal shares of a number, rounded up.
-fn shares(number: u64, count: u64) -> u64 {
+fn shares(number: u64, count: u64) -> u64
+    ensures { result ≤ share number count }
+{
     if number == 0 {
         return 0;
     }

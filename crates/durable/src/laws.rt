@@ -9,7 +9,7 @@ ghost use Rattle.durable.specs.Calls.{TellsLosses, TellsNoFalseLoss};
 ghost use Rattle.durable.specs.Choice.{IsNextCommand, Spends, StaysOpen, left, number_after};
 ghost use Rattle.durable.specs.declared.found.Candidate.{Candidate as Seen};
 ghost use Rattle.durable.specs.Collecting.{AreInTwoBlocks, AreLiveCounts, ArePagesOn, CanCollect, HasCapacity, IsCopied, IsEnough, IsFree, IsProgrammed};
-ghost use Rattle.durable.specs.Collecting.{IsOpenAt, MapsAll, live_in};
+ghost use Rattle.durable.specs.Collecting.{IsOpenAt, MapsAll, live_in, most_copies};
 ghost use Rattle.durable.specs.Commands.{Completes, CutLeaves, IsAllowed, is_program, updates_with};
 ghost use Rattle.durable.specs.Device.{Device, HasOwnVersions, IsReadOn, IsStampOn, IsWrittenOn, NamesOn, device_in, device_of, live_sectors, losses_of};
 ghost use Rattle.durable.specs.Device.{next_number_in, next_number_of, next_pages_of};
@@ -296,6 +296,9 @@ pub fn next_commands()
         → (next_pages_of core).hosts ≡ Some at → from.block ≢ at.block }
     ensures last { (core : Layer) (from to : Addr) → IsNextCommand core (command.Copy 7 from to)
         → (next_pages_of core).hosts ≡ None → to.page + 1 ≡ core.pages → ⊥ }
+    ensures few { (core : Layer) (from to : Addr) → IsNextCommand core (command.Copy 7 from to)
+        → HasFree core.blocks core.map.items core.next_pages
+        → core.pages < left core + most_copies (device_of core).sectors core.blocks core.pages }
     ensures before { (core : Layer) (from to at : Addr) → IsNextCommand core (command.Copy 7 from to)
         → (next_pages_of core).hosts ≡ Some at → left core ≡ 1 → ⊥ }
     ensures opened { (core : Layer) → IsNextCommand core (command.Erase 0) → left core ≡ core.pages + 1 }

@@ -1,7 +1,9 @@
-ghost use Rattle.std.specs.Prelude.{◌≡◌, ◌≢◌, ◌<◌, ◌≤◌, ◌+◌, ◌^◌, List, None, Some, IfSome, true, false};
-ghost use Rattle.durable.specs.Collecting.{IsNotOpen, IsFree, live_in};
-ghost use Rattle.durable.specs.Next.{HasFree, HasFreeBeside, Opens};
+ghost use Rattle.std.specs.Prelude.{◌≡◌, ◌≢◌, ◌<◌, ◌≤◌, ◌+◌, ◌^◌, List, length, None, Some, IfSome, true, false};
+ghost use Rattle.durable.specs.Collecting.{IsNotOpen, IsFree, live_in, most_copies as most_in_all};
+ghost use Rattle.durable.specs.Commands.{is_program};
+ghost use Rattle.durable.specs.Next.{HasFree, HasFreeBeside, IsRoomy, Opens};
 
+use crate::cleaning::most_copies;
 use crate::command::Command;
 use crate::counting::{remap, remap_all};
 use crate::extent::Extent;
@@ -78,8 +80,8 @@ impl Core {
     pub fn keep_copies_apart(&mut self)
         ensures { self.new ≡ self.old }
     {
-        let sectors = self.map.len() as u32;
-        self.counts.keep_copies_apart(sectors);
+        let most = most_copies(self.map.len() as u32, self.blocks, self.pages);
+        self.counts.keep_copies_apart(most);
     }
 
     /// The command that comes next for a write or trim of these sectors. It depends on nothing but the layer's memory.
@@ -111,6 +113,11 @@ impl Core {
         // Each command but the program brings the call nearer to its end.
         ensures spends { Spends command (device_of self.old).pages (left self.old) (left self.new) }
         ensures open { StaysOpen command (device_of self.old).pages (next_pages_of self.new) }
+
+        // While a block is open and another one is free, this stays so until the call's program.
+        ensures roomy { is_program command ≡ false
+            → IsRoomy self.old.blocks self.old.map.items self.old.next_pages
+            → IsRoomy self.new.blocks self.new.map.items self.new.next_pages }
     {
         self.chosen = Command::Refused;
         match command {
@@ -245,7 +252,9 @@ impl Core {
     // The block that such a copy comes from, if one is due.
     fn due(&self) -> Option<u32>
         ensures { IfSome result (λ b. IsNotOpen self.now.next_pages b
-            × (1 < self.now.left) × (1 < self.now.pages)) }
+            × (1 < self.now.left) × (1 < self.now.pages)
+            × (self.now.pages < self.now.left
+            + most_in_all (length self.now.map.items) self.now.blocks self.now.pages)) }
     {
         let victim = self.victim.block;
         if victim >= self.blocks || !self.next_pages.is_closed(victim) {
@@ -254,7 +263,8 @@ impl Core {
         if self.counts.get(victim) == 0 || self.left <= 1 || self.pages <= 1 {
             return None;
         }
-        let pace = u64::from(self.victim.pace);
+        let most = most_copies(self.map.len() as u32, self.blocks, self.pages);
+        let pace = u64::from(self.victim.pace.min(most));
         if pace == 0 || self.left + pace <= u64::from(self.pages) {
             return None;
         }

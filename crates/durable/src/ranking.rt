@@ -1,7 +1,6 @@
 ghost use Rattle.std.specs.Prelude.{◌≡◌, ◌≢◌, ◌<◌, ◌≤◌, ◌+◌, ◌-◌, ◌^◌, ℕ, length, replicate, slice_set, slice_index, slice_index_or, IfOk, IfSome, IfNone};
 ghost use Rattle.durable.specs.Collecting.{IsNotOpen};
 
-use crate::cleaning::most_copies;
 use crate::next_pages::NextPages;
 use crate::search::fewest;
 use std::alloc::{AllocError, Global};
@@ -146,11 +145,11 @@ impl Counts {
         Some(least_erased(&self.queue, &self.erases, block, NO_BLOCK))
     }
 
-    /// Blocks are opened for hosts from now on, on a device of so many sectors.
-    pub fn keep_copies_apart(&mut self, sectors: u32)
+    /// Blocks are opened for hosts from now on, with so many copies before a program at most.
+    pub fn keep_copies_apart(&mut self, most_copies: u32)
         ensures { self.new ≡ self.old }
     {
-        self.most_copies = most_copies(sectors, self.counts.len() as u32, self.pages);
+        self.most_copies = most_copies;
     }
 
     /// A closed block without live pages, beside one, if blocks are opened for hosts.

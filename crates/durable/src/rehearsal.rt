@@ -1,4 +1,4 @@
-ghost use Rattle.std.specs.Prelude.{◌≡◌, ◌<◌, ◌≤◌, ◌+◌, ◌^◌};
+ghost use Rattle.std.specs.Prelude.{◌≡◌, ◌<◌, ◌≤◌, ◌+◌, ◌^◌, length};
 
 use crate::command::Command;
 use crate::extent::Extent;
@@ -12,15 +12,20 @@ pub struct Cost {
 }
 
 impl Core {
+    ghost use Rattle.durable.specs.Collecting.{most_copies};
     ghost use Rattle.durable.specs.Device.{device_of, next_number_of};
+    ghost use Rattle.durable.specs.Next.{IsRoomy};
     ghost use Rattle.durable.specs.Updates.{LiesWithin};
 
-    /// A whole call in memory, as if each command succeeded. It costs at most one erase, a copy fewer than a block has pages, and one program.
+    /// A whole call in memory, as if each command succeeded. It costs at most one erase, a copy fewer than a block has pages, and one program; and
+    /// few copies if a block is open and another one is free.
     pub fn rehearse(&mut self, extent: Extent) -> Cost
         requires within { LiesWithin (device_of self.old).sectors extent }
         requires number { next_number_of self.old + 1 < 2 ^ 64 }
         ensures erases { result.erases ≤ 1 }
         ensures copies { result.copies + 1 ≤ (device_of self.old).pages }
+        ensures few { IsRoomy self.old.blocks self.old.map.items self.old.next_pages
+            → result.copies ≤ most_copies (length self.old.map.items) self.old.blocks self.old.pages }
         ensures device { device_of self.new ≡ device_of self.old }
         ensures number { next_number_of self.new ≡ next_number_of self.old + 1 }
     {

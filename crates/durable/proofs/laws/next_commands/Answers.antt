@@ -20,6 +20,9 @@ returns-clause-closed c core from to at next opened =
 pub returns-clause-last : goal.returns-clause-last
 returns-clause-last c core from to next hosts last = not_last core (sole 0) 7 from to next hosts last
 
+pub returns-clause-few : goal.returns-clause-few
+returns-clause-few c core from to next free = (next.4 free).3
+
 pub returns-clause-before : goal.returns-clause-before
 returns-clause-before c core from to at next opened one =
     let room = next.4 (free_beside_hosts core (some_not_none core.next_pages.hosts at opened)) in omega (arith, room.1, one)

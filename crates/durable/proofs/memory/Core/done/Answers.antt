@@ -1,12 +1,16 @@
-use Rattle.std.proofs.Common.{rules, ◌≡◌, ◌⊎◌, ◌<◌, ◌^◌, ◌+◌, ◌-◌, ℕ, min, inl, ⊎_elim, List, length, Some, inr, refl, sym, ◌∙◌, ap, subst, arith}
-use Rattle.std.proofs.lemmas.Bool.{cases_lt}
+use Rattle.std.proofs.Common.{rules, ◌≡◌, ◌⊎◌, ◌<◌, ◌^◌, ◌+◌, ◌-◌, ℕ, min, inl, ⊎_elim, List, length, Option, Some, inr, refl, sym, ◌∙◌, ap, subst, arith}
+use Rattle.std.proofs.lemmas.Bool.{cases_lt, false≢true}
 use Rattle.std.proofs.lemmas.List.{length-set}
 use Rattle.durable.specs.Collecting.{AreLiveCounts, HasCapacity, IsEnough}
-use Rattle.durable.specs.Choice.{IsNextCommand}
+use Rattle.geometry.specs.declared.page_addr.PageAddr.{PageAddr}
+use Rattle.durable.specs.Choice.{IsNextCommand, StaysOpen}
+use Rattle.durable.specs.Commands.{is_program}
+use Rattle.durable.specs.Next.{IsRoomy}
 use Rattle.durable.specs.declared.command.Command.{Command}
 use Rattle.durable.proofs.Done.{Becomes}
-use Rattle.durable.proofs.Collects.{apart_after, collects_after, copy_enough, erase_enough, on_device_after, some_pages}
-use Rattle.durable.proofs.Opened.{is_open}
+use Rattle.durable.proofs.Collects.{apart_after, collects_after, copy_enough, erase_enough, on_device_after, roomy_copied, roomy_erased}
+use Rattle.durable.proofs.Collects.{some_pages}
+use Rattle.durable.proofs.Opened.{is_open, programmed_stays}
 use Rattle.durable.proofs.Promises.{acknowledges}
 use Rattle.durable.proofs.Whole.{remains_whole}
 use Rattle.durable.proofs.memory.Core.done.Goals as goal
@@ -208,3 +212,26 @@ returns-in-Refused-clause-acknowledges c =
     acknowledges core _ c.args.extent c.args.command c.requires.within c.requires.next
     (subst (λ (m : Command). Becomes core c.args.extent m core.map.items core.next_number core.next_pages) (sym c.in-Refused.is) (refl, refl, refl)) refl refl
     refl
+
+pub returns-in-Program-clause-roomy : goal.returns-in-Program-clause-roomy
+returns-in-Program-clause-roomy c other = absurd (false≢true (sym other ∙ ap is_program c.in-Program.is))
+
+pub returns-in-Copy-clause-roomy : goal.returns-in-Copy-clause-roomy
+returns-in-Copy-clause-roomy c other roomy =
+    let core = c.args.self.now in
+    subst (λ (m : List (Option PageAddr)). IsRoomy core.blocks m c.copied-self.result) (sym c.remap.ensures.map)
+    (roomy_copied core c.args.extent c.in-Copy.sector c.in-Copy.from c.in-Copy.to (subst (IsNextCommand core) c.in-Copy.is c.requires.next)
+    c.copied-self.result c.copied-self.ensures roomy)
+
+pub returns-in-Erase-clause-roomy : goal.returns-in-Erase-clause-roomy
+returns-in-Erase-clause-roomy c other roomy =
+    let core = c.args.self.now in
+    roomy_erased core c.args.extent c.in-Erase.block c.opened-next_pages.result (subst (IsNextCommand core) c.in-Erase.is c.requires.next)
+    c.opened-next_pages.ensures roomy
+
+pub returns-in-Program-clause-open : goal.returns-in-Program-clause-open
+returns-in-Program-clause-open c =
+    let core = c.args.self.now in
+    let next = subst (IsNextCommand core) c.in-Program.is c.requires.next in
+    subst (λ (m : Command). StaysOpen m core.pages c.programmed-self.result) (sym c.in-Program.is)
+    (programmed_stays core.next_pages c.programmed-self.result c.in-Program.at core.pages next.0 c.programmed-self.ensures)

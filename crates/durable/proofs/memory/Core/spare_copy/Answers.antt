@@ -15,6 +15,7 @@ returns c =
           subst (IsNotOpen core.next_pages) (sym found.2) c.in_ok-victim.ensures.0,
           c.in_ok-victim.ensures.1,
           c.in_ok-victim.ensures.2,
+          c.in_ok-victim.ensures.3,
           c.requires.room,
         )),
       ),
