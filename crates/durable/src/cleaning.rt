@@ -9,7 +9,7 @@ const LOOKED_AT: u32 = 16;
 
 const LOOKED_AT_FOR_WEAR: u32 = 4;
 
-// A block whose erases are so many below the most is collected, whatever it has.
+// A block whose erases are so many below those of a free one is collected, whatever it has.
 const WEAR_GAP: u16 = 16;
 
 // So many blocks' pages are left when a victim is chosen: then the two open blocks can be filled while it is emptied, and another block is free still.
@@ -219,18 +219,16 @@ impl Counts {
         live.saturating_add(shares(live, u64::from(self.most_copies)))
     }
 
-    // Whether the coldest block was erased much less often than others.
+    // Whether the coldest block was erased much less often than a free one, which takes its pages then.
     fn lags_behind(&self, next: NextPages) -> bool {
+        let worn = self
+            .empty_for(next)
+            .map_or(0, |block| self.erases_of(block));
         let live = self.live(self.coldest);
-        match self.erases.get(self.coldest as usize) {
-            Some(erases) => {
-                next.is_closed(self.coldest)
-                    && 0 < live
-                    && live <= self.pages
-                    && *erases < self.most_erases.saturating_sub(WEAR_GAP)
-            }
-            None => false,
-        }
+        next.is_closed(self.coldest)
+            && 0 < live
+            && live <= self.pages
+            && self.erases_of(self.coldest) < worn.saturating_sub(WEAR_GAP)
     }
 
     /// The coldest block, or one of the next few that was erased less often, if they have live pages.

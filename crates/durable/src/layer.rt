@@ -279,7 +279,7 @@ impl Core {
         if self.left <= u64::from(self.pages) {
             return None;
         }
-        let block = self.counts.empty(self.turn)?;
+        let block = self.counts.empty_for(self.next_pages)?;
         if !self.next_pages.is_closed(block) {
             return None;
         }

@@ -28,9 +28,8 @@ pub struct Counts {
     // The key of a block is its count, or the greatest key if that is less.
     pub(crate) queue: BucketQueue,
     pub(crate) openings: Vec<Opening>,
-    // A block with live pages that was erased less often than the others that were looked at, and the most erases of a block.
+    // A block with live pages that was erased less often than the others that were looked at.
     pub(crate) coldest: u32,
-    pub(crate) most_erases: u16,
     pub(crate) pages: u32,
     // How many copies that a call doesn't need come before its program at most; 0 if no block is opened for hosts.
     pub(crate) most_copies: u32,
@@ -66,7 +65,6 @@ impl Counts {
             queue: BucketQueue::new(alloc, blocks, (pages as usize).min(65534) + 2)?,
             openings: vec![in alloc; Opening { turn: 0, copies: 0 }; blocks as usize]?,
             coldest: NO_BLOCK,
-            most_erases: 0,
             pages,
             most_copies: 0,
         })
@@ -116,9 +114,7 @@ impl Counts {
         requires { block < length self.old }
         ensures { self.new ≡ self.old }
     {
-        let erases = erases.min(u32::from(u16::MAX)) as u16;
-        self.erases[block as usize] = erases;
-        self.most_erases = self.most_erases.max(erases);
+        self.erases[block as usize] = erases.min(u32::from(u16::MAX)) as u16;
     }
 
     /// A block was erased, after so many others, and is opened for copies from a block, or for hosts.
@@ -128,9 +124,7 @@ impl Counts {
     {
         let copies = self.copies_from(source);
         self.openings[block as usize] = Opening { turn, copies };
-        let erases = self.erases[block as usize].saturating_add(1);
-        self.erases[block as usize] = erases;
-        self.most_erases = self.most_erases.max(erases);
+        self.erases[block as usize] = self.erases[block as usize].saturating_add(1);
         self.coldest = self.colder(turn);
     }
 
@@ -142,7 +136,22 @@ impl Counts {
             → 0 < slice_index_or self.now b 0) }
     {
         let block = self.queue.in_turn(0, turn)?;
-        Some(least_erased(&self.queue, &self.erases, block, NO_BLOCK))
+        Some(by_erases(&self.queue, &self.erases, block, NO_BLOCK, false))
+    }
+
+    /// A block without live pages, if there is one: for copies the most erased of a few, since what is copied is written seldom, and for hosts the least.
+    pub fn empty_for(&self, next: NextPages) -> Option<u32>
+        ensures some { IfSome result (λ b. (b < length self.now)
+            × (slice_index_or self.now b 0 ≡ 0)) }
+    {
+        let block = self.queue.in_turn(0, 0)?;
+        Some(by_erases(
+            &self.queue,
+            &self.erases,
+            block,
+            NO_BLOCK,
+            next.hosts.is_some(),
+        ))
     }
 
     /// Blocks are opened for hosts from now on, with so many copies before a program at most.
@@ -182,7 +191,7 @@ impl Counts {
                 return if self.counts[best as usize] == 0 {
                     best
                 } else {
-                    least_erased(&self.queue, &self.erases, best, avoided)
+                    by_erases(&self.queue, &self.erases, best, avoided, false)
                 };
             }
         }
@@ -190,9 +199,9 @@ impl Counts {
     }
 }
 
-// The least erased of a block and of a few behind it that have its key, beside one.
+// The least erased of a block and of a few behind it that have its key, beside one; or the most erased.
 #[inline(never)]
-fn least_erased(queue: &BucketQueue, erases: &[u16], block: u32, avoided: u32) -> u32
+fn by_erases(queue: &BucketQueue, erases: &[u16], block: u32, avoided: u32, is_most: bool) -> u32
     requires block { block < length queue.now.keys.items }
     requires erases { length erases.now ≡ length queue.now.keys.items }
     ensures within { result < length queue.now.keys.items }
@@ -208,7 +217,8 @@ fn least_erased(queue: &BucketQueue, erases: &[u16], block: u32, avoided: u32) -
         if queue.keys[other as usize] != queue.keys[block as usize] {
             break;
         }
-        if other != avoided && worn(erases, other, avoided) < worn(erases, best, avoided) {
+        let is_less = worn(erases, other, avoided) < worn(erases, best, avoided);
+        if other != avoided && is_less != is_most {
             best = other;
         }
     }

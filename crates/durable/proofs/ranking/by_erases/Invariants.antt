@@ -1,5 +1,5 @@
 use Rattle.std.proofs.Common.{◌≡◌, ◌≢◌, ◌<◌, length, slice_index}
-use Rattle.durable.proofs.ranking.least_erased.Given as goal
+use Rattle.durable.proofs.ranking.by_erases.Given as goal
 
 abbrev pub invariant-loop-place : goal.invariant-loop-place
 invariant-loop-place l = record {
