@@ -1,4 +1,4 @@
-use Rattle.std.proofs.Common.{◌≡◌, ◌≤◌, inl, inr, ⊎_elim, ◌+◌, sym, ◌∙◌, ap, subst, arith}
+use Rattle.std.proofs.Common.{inl, inr, ⊎_elim, ◌∙◌, ap, subst, arith}
 use Rattle.durable.specs.Choice.{IsNextCommand, Spends, number_after}
 use Rattle.durable.specs.Collecting.{most_copies}
 use Rattle.durable.specs.Commands.{is_program}
