@@ -125,12 +125,12 @@ static uint32_t free_blocks(const struct plain *plain, const struct live *live)
 /* Whether an erase opens a block for hosts, and not for copies: if another block is free beside it. */
 static int opens_for_hosts(const struct plain *plain, const struct live *live)
 {
-    return plain->keeps_apart && !plain->hosts && (plain->copies || free_blocks(plain, live) > 1);
+    return plain->keeps_apart && !plain->hosts && (plain->copies || free_blocks(plain, live) > 2);
 }
 
 /* Whether a command may come next for sectors from this one on: an erase of a free block, beside another one, unless none is open; a program, if a
- * block is free; or a copy out of a closed block. While none is open for hosts, there is a copy only if no block is free, and it is out of one with the
- * fewest live sectors. */
+ * block is free; or a copy out of a closed block. Beside a free block there is a copy only if copies are kept apart and a page stays open for the program;
+ * and otherwise it is out of a block with the fewest live sectors. */
 static int plain_allows(struct plain *plain, const struct mintlintel_command *command, uint32_t first)
 {
     struct live live = live_of(plain);
@@ -149,7 +149,9 @@ static int plain_allows(struct plain *plain, const struct mintlintel_command *co
     if (command->from_block == command->block || command->from_block == block_of(plain, plain->hosts))
         return 0;
     uint32_t count = live.in[command->from_block];
-    return plain->hosts || (free == 0 && count < plain->pages && count == fewest_beside(plain, &live, command->block));
+    if (free > 0)
+        return plain->keeps_apart && (plain->hosts || command->page + 1 < plain->pages);
+    return count < plain->pages && count == fewest_beside(plain, &live, command->block);
 }
 
 /* What a command puts onto its page: the new version of a call's sectors, or that of the page which is copied. */

@@ -1,6 +1,6 @@
 -- How many sectors are mapped to each block, and when there is room to collect.
-use Rattle.std.specs.Prelude.{◌≡◌, ◌≢◌, ◌⊎◌, ◌<◌, ◌≤◌, ◌+◌, ◌-◌, ◌*◌, ◌/◌, ◌==◌, ℕ, Bool, false, cond, min, max, List, [], ◌∷◌, length, Option, None, Some, IfSome}
-use Rattle.std.specs.Prelude.{slice_index_or}
+use Rattle.std.specs.Prelude.{◌≡◌, ◌≢◌, ◌⊎◌, ◌<◌, ◌≤◌, ◌+◌, ◌-◌, ◌*◌, ◌/◌, ◌==◌, ℕ, Bool, false, cond, min, max, List, [], ◌∷◌, length}
+use Rattle.std.specs.Prelude.{Option, None, Some, IfSome, slice_index_or}
 use Rattle.geometry.specs.declared.page_addr.PageAddr.{PageAddr}
 use Rattle.durable.specs.Updates.{Covers}
 use Rattle.durable.specs.declared.extent.Extent.{Extent}
@@ -99,10 +99,10 @@ IsEnough pages next left =
     × ((to : PageAddr) → next.hosts ≡ None → next.copies ≡ Some to → pages ≤ left + to.page)
 
 -- each of so many equal shares of a number, rounded up
-abbrev pub share : ℕ → ℕ → ℕ
-share number count = cond (number == 0) 0 ((number - 1) / max count 1 + 1)
+abbrev pub even_share : ℕ → ℕ → ℕ
+even_share number count = cond (number == 0) 0 ((number - 1) / max count 1 + 1)
 
 -- the most copies before a program while a block is free: with as many, a block that has an even share of the sectors is empty before hosts have written its
 -- other pages; and one more
 abbrev pub most_copies : ℕ → ℕ → ℕ → ℕ
-most_copies sectors blocks pages = let live = sectors / max (blocks - 5) 1 in min (share live (pages - live)) pages + 1
+most_copies sectors blocks pages = let live = sectors / max (blocks - 5) 1 in min (even_share live (pages - live)) pages + 1

@@ -1,5 +1,5 @@
 ghost use Rattle.std.specs.Prelude.{◌≡◌, ◌<◌, ◌≤◌, length};
-ghost use Rattle.durable.specs.Collecting.{most_copies as most_in_all, share};
+ghost use Rattle.durable.specs.Collecting.{most_copies as most_in_all, even_share};
 
 use crate::next_pages::NextPages;
 use crate::ranking::{COMPARED, Counts, NO_BLOCK};
@@ -300,7 +300,7 @@ pub fn most_copies(sectors: u32, blocks: u32, pages: u32) -> u32
 
 // The size of each of so many equal shares of a number, rounded up.
 fn shares(number: u64, count: u64) -> u64
-    ensures { result ≤ share number count }
+    ensures { result ≤ even_share number count }
 {
     if number == 0 {
         return 0;

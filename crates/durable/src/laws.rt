@@ -21,7 +21,7 @@ ghost use Rattle.durable.specs.Losses.{HasNoLoss, IsGapless, IsWholeOrHere, gaps
 ghost use Rattle.durable.specs.Marks.{IsMarkedWith, is_valued};
 ghost use Rattle.durable.specs.Memory.{IsMappedTo, map_entry};
 ghost use Rattle.durable.specs.Mounting.{IsStampOf, TellsValue, TellsValues, next_in, after_in};
-ghost use Rattle.durable.specs.Next.{HasFree};
+ghost use Rattle.durable.specs.Next.{HasFree, IsRoomy};
 ghost use Rattle.durable.specs.Spare.{IsDuplicated};
 ghost use Rattle.durable.specs.Promise.{IsConsistent, IsReadable, IsRecoverable, KeepsAcknowledged};
 ghost use Rattle.durable.specs.Runs.{Completed, CutBetween, CutInside, Event, Failed, IsMountedFrom, Runs, RunsOnReserve};
@@ -322,6 +322,15 @@ pub fn next_commands()
     ensures begins { ¬ StaysOpen (command.Erase 1) 4 (record { hosts = None; copies = None }) }
     ensures ends { StaysOpen (command.Program (record { block = 1; page = 3 }) 5) 4
         (record { hosts = None; copies = None }) }
+{}
+
+/// When a write waits for few copies, and for how many at most.
+pub fn few_copies()
+    ensures free { (map : List (Option Addr)) (next : Nexts) → IsRoomy 2 map next → HasFree 2 map next }
+    ensures open { (map : List (Option Addr)) → ¬ IsRoomy 2 map (record { hosts = None; copies = None }) }
+    ensures shares { most_copies 1920 45 64 ≡ 4 }
+    ensures empty { most_copies 0 45 64 ≡ 1 }
+    ensures full { most_copies 640 10 64 ≡ 65 }
 {}
 
 /// The order in which stamps are noted, and what is kept of them.
