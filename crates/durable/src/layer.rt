@@ -1,3 +1,5 @@
+mod laws;
+
 ghost use Rattle.std.specs.Prelude.{◌≡◌, ◌≢◌, ◌<◌, ◌≤◌, ◌+◌, ◌^◌, List, length, None, Some, IfSome, true, false};
 ghost use Rattle.durable.specs.Collecting.{IsNotOpen, IsFree, live_in, most_copies as most_in_all};
 ghost use Rattle.durable.specs.Commands.{is_program};

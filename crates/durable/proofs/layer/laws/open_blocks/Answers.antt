@@ -1,5 +1,5 @@
 use Rattle.std.proofs.Common.{refl, arith}
-use Rattle.durable.proofs.laws.open_blocks.Goals as goal
+use Rattle.durable.proofs.layer.laws.open_blocks.Goals as goal
 
 pub returns-clause-apart : goal.returns-clause-apart
 returns-clause-apart c apart = apart (record { block = 1; page = 0 }) (record { block = 1; page = 2 }) refl refl refl

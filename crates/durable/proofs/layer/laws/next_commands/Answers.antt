@@ -3,7 +3,7 @@ use Rattle.durable.specs.Collecting.{IsFree}
 use Rattle.durable.specs.Updates.{sole}
 use Rattle.durable.proofs.Collects.{free_beside_hosts, not_last}
 use Rattle.durable.proofs.Opened.{some_not_none}
-use Rattle.durable.proofs.laws.next_commands.Goals as goal
+use Rattle.durable.proofs.layer.laws.next_commands.Goals as goal
 
 pub returns-clause-open : goal.returns-clause-open
 returns-clause-open c core at opened here next = next.3 at (inl opened) (sym here)
