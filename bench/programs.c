@@ -1,13 +1,14 @@
 /* programs BLOCKS PAGES: how many pages the core of the durable layer programs for a write, and the most copies that one write waits for, on so many
  * blocks, by how many of the pages are in use: as the core is, and with copies kept apart. Each sector is written once, then as many pages as the device
  * has twice over, and what comes in as many writes again counts. The sectors are uniform, or by Zipf's law: the sector of rank n is written 1/n as often
- * as the first. At last each device that was written as the core is is mounted, and written on with copies kept apart: a sixteenth of it, and then twice. */
+ * as the first. Each device that was written as the core is is then mounted, and written on with copies kept apart: a sixteenth of it, and then twice. At last
+ * a tenth of the sectors is written, on 80 % of the pages, until a block has 1,000 erases: which share of all blocks' erases is used by then. */
 #include "mintlintel_durable.h"
 #include <stdio.h>
 #include <stdlib.h>
 #include <string.h>
 
-enum { PROGRAM = 1, COPY = 2, ERASE = 3, TURNS = 2, PARTS = 16 };
+enum { PROGRAM = 1, COPY = 2, ERASE = 3, TURNS = 2, PARTS = 16, LIFE = 1000, COLD_PERCENT = 80 };
 
 static struct mintlintel_core core;
 static uint64_t state = 88172645463325252u;
@@ -78,13 +79,17 @@ static uint32_t uniform(uint32_t sectors)
 /* What the flash holds: the sector and the number of each page, which is 0 for an erased one. */
 static struct page { uint32_t sector; uint64_t number; } *flash;
 static uint32_t pages_of_block;
+/* How often each block was erased, and the greatest of these counts. */
+static uint32_t *erases, most_erases;
 
 static void note(const struct mintlintel_command *did)
 {
     struct page *block = flash + (uint64_t)did->block * pages_of_block;
-    if (did->kind == ERASE)
+    if (did->kind == ERASE) {
         memset(block, 0, pages_of_block * sizeof *block);
-    else if (did->kind == COPY)
+        erases[did->block]++;
+        most_erases = erases[did->block] > most_erases ? erases[did->block] : most_erases;
+    } else if (did->kind == COPY)
         block[did->page] = flash[(uint64_t)did->from_block * pages_of_block + did->from_page];
     else
         block[did->page] = (struct page){did->sector, did->number + 1};
@@ -127,28 +132,59 @@ static void count(const char *name, uint32_t percent, const char *how, uint64_t 
                (unsigned long long)most);
 }
 
-static void measure(const char *name, uint32_t blocks, uint32_t pages, uint32_t percent, uint32_t (*sector)(uint32_t), int apart)
+/* A new device, with each sector written once: how many sectors it has. */
+static uint32_t begin(uint32_t blocks, uint32_t pages, uint32_t percent, int apart)
 {
     uint64_t all = (uint64_t)blocks * pages;
     uint32_t sectors = (uint32_t)(all * percent / 100);
     flash = room_for(all, sizeof *flash);
+    erases = room_for(blocks, sizeof *erases);
+    most_erases = 0;
     pages_of_block = pages;
     mount(blocks, pages, sectors, apart);
     rank(sectors);
     for (uint32_t n = 0; n < sectors; n++)
         copies_of(ranked[n]);
-    for (int turn = 0; turn < TURNS; turn++)
-        count(name, percent, turn + 1 < TURNS ? NULL : apart ? ", apart" : "", 2 * all, sectors, sector);
+    return sectors;
+}
+
+static void end(void)
+{
     mintlintel_core_close(&core);
-    if (!apart) {
-        mount(blocks, pages, sectors, 1);
-        count(name, percent, ", apart after a mount", all / PARTS, sectors, sector);
-        count(name, percent, ", and then", 2 * all, sectors, sector);
-        mintlintel_core_close(&core);
-    }
     free(ranked);
     free(share);
     free(flash);
+    free(erases);
+}
+
+static void measure(const char *name, uint32_t blocks, uint32_t pages, uint32_t percent, uint32_t (*sector)(uint32_t), int apart)
+{
+    uint64_t all = (uint64_t)blocks * pages;
+    uint32_t sectors = begin(blocks, pages, percent, apart);
+    for (int turn = 0; turn < TURNS; turn++)
+        count(name, percent, turn + 1 < TURNS ? NULL : apart ? ", apart" : "", 2 * all, sectors, sector);
+    if (!apart) {
+        mintlintel_core_close(&core);
+        mount(blocks, pages, sectors, 1);
+        count(name, percent, ", apart after a mount", all / PARTS, sectors, sector);
+        count(name, percent, ", and then", 2 * all, sectors, sector);
+    }
+    end();
+}
+
+static void measure_wear(uint32_t blocks, uint32_t pages, int apart)
+{
+    uint32_t hot = begin(blocks, pages, COLD_PERCENT, apart) / 10, least = UINT32_MAX;
+    uint64_t used = 0;
+    while (most_erases < LIFE)
+        copies_of(ranked[uniform(hot)]);
+    for (uint32_t block = 0; block < blocks; block++) {
+        used += erases[block];
+        least = erases[block] < least ? erases[block] : least;
+    }
+    printf("nine tenths cold, %d %%%s: %.1f %% of the erases are used when a block has %d and another one %u\n", COLD_PERCENT, apart ? ", apart" : "",
+           100.0 * (double)used / ((double)blocks * LIFE), LIFE, least);
+    end();
 }
 
 int main(int argc, char **argv)
@@ -163,5 +199,7 @@ int main(int argc, char **argv)
             measure("uniform", blocks, pages, percents[i], uniform, apart);
             measure("Zipf", blocks, pages, percents[i], by_zipf, apart);
         }
+    for (int apart = 0; apart <= 1; apart++)
+        measure_wear(blocks, pages, apart);
     return 0;
 }
