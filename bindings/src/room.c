@@ -53,11 +53,12 @@ static uint64_t hints_bytes(const struct mintlintel_durable_numbers *n)
     return mtl_lent(8 * ((pages * width < most ? pages * width : most) / 64 + 2));
 }
 
-/* What the core has after a mount, and has not before: counts, erases and an order of the blocks, and each page's sector. */
+/* What the core has after a mount, and has not before: counts, erases, openings and an order of the blocks, and each page's sector. */
 static uint64_t mounted_bytes(const struct mintlintel_durable_numbers *n)
 {
     uint64_t blocks = n->blocks, counts = (n->pages < MOST_COUNTS ? n->pages : MOST_COUNTS) + 2;
-    return 3 * mtl_lent(4 * blocks) + 2 * mtl_lent(2 * blocks) + mtl_lent(4 * counts) + hints_bytes(n) + mtl_lent(4 * ((uint64_t)n->pages + 1));
+    return 3 * mtl_lent(4 * blocks) + 2 * mtl_lent(2 * blocks) + mtl_lent(8 * blocks) + mtl_lent(4 * counts) + hints_bytes(n)
+        + mtl_lent(4 * ((uint64_t)n->pages + 1));
 }
 
 static uint64_t greater(uint64_t a, uint64_t b)

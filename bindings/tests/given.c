@@ -4,7 +4,7 @@
 #include "testing.h"
 #include <pthread.h>
 
-enum { DEVICES = 400, THREADS = 4, MOST_BLOCKS = 300, MOST_PAGES = 40, MOST_BYTES = 64, STAMP = MINTLINTEL_STAMP_BYTES, UNTOUCHED = 0xa5 };
+enum { DEVICES = 400, THREADS = 4, MOST_BLOCKS = 300, MANY_BLOCKS = 4000, MOST_PAGES = 40, MOST_BYTES = 64, STAMP = MINTLINTEL_STAMP_BYTES, UNTOUCHED = 0xa5 };
 
 struct page { uint8_t has_version, main[MOST_BYTES], stamp[STAMP]; };
 /* A flash, its device, and what each sector has. */
@@ -190,6 +190,8 @@ static void one_device(struct run *run)
     n->sectors = below(run, (n->blocks - 1) * n->pages - 1);
     if (drawn(&run->state) % 8 == 0)
         n->sectors = 1 + n->sectors % 20;
+    if (drawn(&run->state) % 16 == 0)
+        *n = (struct mintlintel_durable_numbers){1, MANY_BLOCKS, 2, n->page_bytes, 1 + n->sectors % 20};
     uint64_t bytes = mintlintel_durable_bytes(n, flags);
     CHECK(bytes > 0 && bytes <= mintlintel_durable_bytes(n, flags & MINTLINTEL_DESPITE_LOSSES));
     run->pages = calloc((size_t)n->blocks * n->pages, sizeof *run->pages);
