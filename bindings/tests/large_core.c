@@ -86,7 +86,7 @@ static void use(uint32_t blocks, uint32_t pages, uint32_t percent, double of_a_s
         write_one(drawn(&draws) % device.sectors);
         CHECK(i % 1024 != 0 || (clock() - start) / CLOCKS_PER_SEC < MOST_SECONDS);
     }
-    check_memory("in use", &device, resident() - before, of_a_sector, 16);
+    check_memory("in use", &device, resident() - before, of_a_sector, 24);
     mintlintel_core_close(&core);
 }
 
@@ -206,7 +206,7 @@ static void use_largest(uint32_t blocks, uint32_t pages, uint32_t sectors)
     write_on_flash(&device, sectors - 2, 1);
     mintlintel_core_close(&core);
     mount_all(&device);
-    check_memory("mounts, and a few writes,", &device, peak() - before, 4.25, 16);
+    check_memory("mounts, and a few writes,", &device, peak() - before, 4.25, 24);
     mintlintel_core_close(&core);
 }
 
