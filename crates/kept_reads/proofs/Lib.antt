@@ -1,0 +1,3 @@
+-- Lemmas of reads that are kept.
+pub mod Kept
+pub mod Shown
