@@ -64,8 +64,12 @@ struct mintlintel_nand {
     /* 0 read, 1 erased, 2 unreadable, 3 power gone. `main` may be null: then the stamp alone is read. */
     int (*read)(void *chip, uint32_t block, uint32_t page, void *main, void *stamp);
     /* 0 done, 1 failed, 3 power gone. The page is erased, and the pages of a block are programmed in order. A block that has failed a program, a copy
-     * or an erase gets none of them again: the call moves out of it what is needed, and marks it before it returns. If the power goes before the mark,
-     * if there is no room (27) or no memory (6) for that, or without `mark_bad`, the next open takes the block for a good one. */
+     * or an erase gets none of them again: the call moves out of it what is needed, and marks it before it returns. Until then the stamp of each page
+     * that is programmed names such a block. So the next open knows it once a page is whole behind the failure, and each later one once a new version is,
+     * the call's or one that moves: the open reads what the block holds, and the first write or trim moves that and marks the block. An open takes it for a
+     * good one if the power has gone before that, if no page was programmed since there was no room (27) or no memory (6), or without both `is_bad` and
+     * `mark_bad`. Where several blocks have failed and aren't marked, it may take one for good until as many new versions as there are such blocks have
+     * followed the last failure and the last open. */
     int (*program)(void *chip, uint32_t block, uint32_t page, const void *main, const void *stamp);
     /* The same, of a page with its stamp, which was read before and is given: the copy gets these bytes, also if their check doesn't fit the page.
      * Null: the page is read and programmed. */

@@ -64,13 +64,13 @@ static int check_version(struct look *look, const uint8_t *spare, uint64_t at, u
     if (!read_all(look->fd, look->page, look->numbers.page_bytes, at))
         return 0;
     int fits = stamp.kind != STAMP_LOST && mintlintel_stamp_fits(spare, look->page, look->numbers.page_bytes);
-    int is_known = mtl_stamp_is_of(&stamp, look->numbers.sectors);
+    int is_known = mtl_stamp_is_of(&stamp, look->numbers.sectors, look->numbers.blocks);
     look->broken += !fits || !is_known;
     look->versions += fits && is_known;
     if (!is_known)
         return 1;
     note(look, &stamp, block, fits);
-    if (stamp.number >= *newest_of_block) {
+    if (stamp.number >= *newest_of_block && !mtl_names(&stamp)) {
         *newest_of_block = stamp.number;
         look->erases[block] = stamp.erases;
     }

@@ -46,10 +46,28 @@ static void note_values(struct mintlintel_flash *flash, uint32_t first, uint32_t
     }
 }
 
+/* Whether a block has failed and isn't marked. */
+static int is_failed(const struct mintlintel_flash *flash, uint32_t block)
+{
+    return flash->state[block] == FAILED || flash->state[block] == BROKEN;
+}
+
+/* What a page tells in place of these erases while blocks have failed and aren't marked: one of them, in turn. A copy keeps the name of one. */
+static uint32_t erases_or_failed(struct mintlintel_flash *flash, uint32_t erases)
+{
+    uint32_t block = flash->turn, named = erases & STAMP_MOST_ERASES;
+    if (flash->failed == 0 || !mtl_keeps_marks(flash) || (erases != named && named < flash->numbers.blocks && is_failed(flash, named)))
+        return erases;
+    while (!is_failed(flash, block))
+        block = (block + 1) % flash->numbers.blocks;
+    flash->turn = (block + 1) % flash->numbers.blocks;
+    return (flash->state[block] == FAILED ? STAMP_FAILED : STAMP_BROKEN) | block;
+}
+
 /* Programs the page of a step with a version of this kind and number. What is no value is a page of zeros. */
 static int program_page(struct mintlintel_flash *flash, const struct mintlintel_step *step, uint32_t kind, uint64_t number, const uint8_t *bytes)
 {
-    struct stamp stamp = {kind, number, step->first, step->count, flash->erases[step->block]};
+    struct stamp stamp = {kind, number, step->first, step->count, erases_or_failed(flash, flash->erases[step->block])};
     uint8_t made[MINTLINTEL_STAMP_BYTES];
     if (!bytes)
         memset(flash->page, 0, flash->numbers.page_bytes);
@@ -76,12 +94,14 @@ static int program(struct mintlintel_flash *flash, const struct mintlintel_step 
     return answer;
 }
 
-/* A copy keeps its stamp with its check. A copyback is given the stamp alone, and the page isn't read. In place of a page that can't be read its sector
- * gets a version that is lost, by the greatest number so far: each older version of the sector has a smaller one, and the next update a greater one. */
+/* A copy keeps its stamp with its check, but for a name. A copyback is given the stamp alone, and the page isn't read. In place of a page that can't be read
+ * its sector gets a version that is lost, by the greatest number so far: each older version of the sector has a smaller one, and the next update a
+ * greater one. */
 static int copy(struct mintlintel_flash *flash, const struct mintlintel_step *step)
 {
     const struct mintlintel_nand *nand = &flash->nand;
-    uint8_t stamp[MINTLINTEL_STAMP_BYTES], *page = nand->copyback ? NULL : flash->page;
+    int is_copyback = nand->copyback && flash->failed == 0;
+    uint8_t stamp[MINTLINTEL_STAMP_BYTES], *page = is_copyback ? NULL : flash->page;
     int answer = nand->read(nand->chip, step->from_block, step->from_page, page, stamp);
     if (answer < 0 || answer > 2)
         return POWER_OFF;
@@ -89,8 +109,12 @@ static int copy(struct mintlintel_flash *flash, const struct mintlintel_step *st
         answer = program_page(flash, step, STAMP_LOST, flash->newest, NULL);
     else {
         struct stamp copied = mtl_stamp_from(stamp);
-        answer = nand->copyback ? nand->copyback(nand->chip, step->from_block, step->from_page, step->block, step->page, stamp)
-                                : nand->program(nand->chip, step->block, step->page, page, stamp);
+        if (flash->failed > 0) {
+            copied.erases = erases_or_failed(flash, copied.erases);
+            mtl_stamp_into(stamp, &copied, crc_of(flash, page));
+        }
+        answer = is_copyback ? nand->copyback(nand->chip, step->from_block, step->from_page, step->block, step->page, stamp)
+                             : nand->program(nand->chip, step->block, step->page, page, stamp);
         if (answer == WORKED)
             mtl_readers_tell(flash, TOLD_COPY, &copied, step->block, step->page);
     }
@@ -260,7 +284,7 @@ static void give_up_failed(struct mintlintel_durable *device, uint32_t failed)
     while (code == MINTLINTEL_DONE && flash->failed == failed && flash->stranded < flash->numbers.sectors)
         code = move_next(device, flash->numbers.sectors);
     for (uint32_t block = 0; code == MINTLINTEL_DONE && flash->failed == failed && block < flash->numbers.blocks; block++)
-        if (flash->state[block] == FAILED || flash->state[block] == BROKEN)
+        if (is_failed(flash, block))
             code = mark(flash, block) == WORKED ? MINTLINTEL_DONE : mtl_stops(flash, MINTLINTEL_POWER_GONE), failed--;
     flash->stranded = 0;
 }
@@ -293,7 +317,11 @@ static uint32_t go_on(struct mintlintel_durable *device, struct update new, uint
 /* Gives sectors a new version for a caller, and moves one out of the reserve, if it has any. */
 static uint32_t change(struct mintlintel_durable *device, struct update new)
 {
-    uint32_t code = device->flash->worn ? device->flash->worn : run(device, new);
+    uint32_t code = device->flash->worn;
+    if (code == MINTLINTEL_DONE && device->flash->failed > 0)
+        give_up_failed(device, device->flash->failed);
+    if (code == MINTLINTEL_DONE)
+        code = device->flash->stopped ? device->flash->stopped : run(device, new);
     while (lacks_reserve(device))
         code = go_on(device, new, code);
     if (!device->flash->stopped && !device->flash->worn)

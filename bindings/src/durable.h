@@ -11,8 +11,8 @@
 enum { GOOD, RESERVED, FAILED, BROKEN, MARKED };
 
 /* A page as its stamp tells it: what a read of the stamp alone returned, and if that is 0 the version. Of how many sectors one is isn't kept, but
- * whether it is of several. */
-struct noted { uint32_t number_low, sector, number_high : 24, reading : 2, is_of_several : 1; };
+ * whether it is of several; nor the block that it names, but whether it names one. */
+struct noted { uint32_t number_low, sector, number_high : 24, reading : 2, is_of_several : 1, names : 1; };
 
 /* What a mount reads first: each page as its stamp tells it, and of each sector twice the newest number, and one more if two pages have it. */
 struct stamps { struct noted *pages; uint64_t *newest; };
@@ -29,6 +29,7 @@ struct mintlintel_flash {
     uint32_t used, good; /* how many blocks a mount has numbered as in use; and as those and the reserve */
     uint32_t stranded; /* the first sector that may be in a block that isn't in use */
     uint32_t failed; /* how many blocks have failed and aren't marked */
+    uint32_t turn; /* from this one on the next page names one of these */
     int has_marked; /* blocks were marked since the reserve was looked at */
     uint64_t newest; /* the greatest number of a version */
     struct stamp found; /* of the page that was read last for the driver, into `moved` */
@@ -61,6 +62,9 @@ uint32_t mtl_count_reserve(const struct mintlintel_flash *flash);
 
 /* Mounts without the blocks that have failed. If there is no room without them, the device is only read from now on: 27. */
 uint32_t mtl_mount_again(struct mintlintel_durable *device);
+
+/* Whether an open learns of the blocks that were marked before. If not, it takes each one for good, and no page names one. */
+int mtl_keeps_marks(const struct mintlintel_flash *flash);
 
 /* Whether a mount reads a block. */
 int mtl_is_read(const struct mintlintel_flash *flash, uint32_t block);

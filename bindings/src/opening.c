@@ -116,12 +116,17 @@ static void number_all(struct mintlintel_flash *flash)
     flash->used = flash->good = flash->numbers.blocks;
 }
 
+int mtl_keeps_marks(const struct mintlintel_flash *flash)
+{
+    return flash->nand.is_bad && flash->nand.mark_bad;
+}
+
 int mtl_is_read(const struct mintlintel_flash *flash, uint32_t block)
 {
     return flash->state[flash->chip_block[block]] <= FAILED;
 }
 
-/* Notes the stamps of a block that is read. At an open its erases are those that its newest version tells: the copies in it tell those of
+/* Notes the stamps of a block that is read. At an open its erases are those that its newest version with erases tells: the copies in it tell those of
  * other blocks. The trims of an image may be dropped: its pages read the same each time, and a half-erased page of a chip may not. */
 static uint32_t note_block(struct mintlintel_durable *device, uint32_t block, struct opening *opening)
 {
@@ -132,7 +137,7 @@ static uint32_t note_block(struct mintlintel_durable *device, uint32_t block, st
         int reading = mtl_is_read(flash, block) ? mtl_stamps_reading(flash, block, page, &stamp) : 1;
         if (reading == 3)
             return MINTLINTEL_POWER_GONE;
-        if (reading == 0 && !mtl_stamp_is_of(&stamp, flash->numbers.sectors))
+        if (reading == 0 && !mtl_stamp_is_of(&stamp, flash->numbers.sectors, flash->numbers.blocks))
             return MINTLINTEL_OTHER_DEVICE;
         uint32_t kind = reading != 0 ? 0 : flash->reason && stamp.kind == STAMP_TRIM ? 2 : 1;
         uint32_t code = mintlintel_core_note(&device->core, kind, stamp.sector, stamp.count, stamp.number);
@@ -144,7 +149,7 @@ static uint32_t note_block(struct mintlintel_durable *device, uint32_t block, st
         flash->stranded = block < flash->used ? flash->stranded : 0;
         if (opening)
             opening->has_trace = 1;
-        if (opening && !flash->stamps.pages && stamp.number >= newest) {
+        if (opening && !flash->stamps.pages && stamp.number >= newest && !mtl_names(&stamp)) {
             newest = stamp.number;
             flash->erases[flash->chip_block[block]] = stamp.erases;
         }
@@ -219,16 +224,19 @@ static uint32_t mount_core(struct mintlintel_durable *device, struct opening *op
     return code == MINTLINTEL_DONE ? mtl_readers_fill(device) : code;
 }
 
-/* Mounts without the bad blocks and the reserve. Where no block of the others can be freed, other blocks are the reserve, or none. */
+/* Mounts without the bad blocks and the reserve. Where no block of the others can be freed, other blocks are the reserve, or none. If a stamp names a block
+ * that has failed, the mount begins again without it. */
 static uint32_t mount(struct mintlintel_durable *device, struct opening *opening)
 {
     struct mintlintel_flash *flash = device->flash;
-    uint32_t reserve = mtl_count_reserve(flash), code = MINTLINTEL_NO_BLOCK;
+    uint32_t failed = flash->failed, reserve = mtl_count_reserve(flash), code = MINTLINTEL_NO_BLOCK;
     for (int way = reserve > 0 ? 0 : 2; code == MINTLINTEL_NO_BLOCK && way < 3; way++) {
         code = number_blocks(flash, way < 2 ? reserve : 0, way);
         if (code == MINTLINTEL_DONE)
             code = mount_core(device, opening);
     }
+    if (flash->failed > failed && code != MINTLINTEL_POWER_GONE)
+        return mount(device, opening);
     return code == MINTLINTEL_NO_BLOCK && count_bad(flash) > 0 ? MINTLINTEL_NO_ROOM : code;
 }
 

@@ -3,7 +3,7 @@
 #include "crc.h"
 #include "mintlintel_durable.h"
 
-/* Where the fields stand, in little-endian order. */
+/* Where the fields stand, in little-endian order. The upper half of the kind's byte says what the erases are. */
 enum { AT_KIND = 0, AT_NUMBER = 1, AT_SECTOR = 8, AT_COUNT = 12, AT_ERASES = 15, AT_OWN_CHECK = 18, AT_PAGE_CHECK = 20 };
 
 static void put(uint8_t *at, uint64_t value, int bytes)
@@ -34,20 +34,21 @@ static uint32_t page_check(const uint8_t *bytes, uint32_t page_crc)
 
 struct stamp mtl_stamp_from(const uint8_t *bytes)
 {
-    struct stamp stamp = {bytes[AT_KIND], get(bytes + AT_NUMBER, 7), (uint32_t)get(bytes + AT_SECTOR, 4), (uint32_t)get(bytes + AT_COUNT, 3),
-                          (uint32_t)get(bytes + AT_ERASES, 3)};
+    struct stamp stamp = {bytes[AT_KIND] & 15, get(bytes + AT_NUMBER, 7), (uint32_t)get(bytes + AT_SECTOR, 4), (uint32_t)get(bytes + AT_COUNT, 3),
+                          (uint32_t)get(bytes + AT_ERASES, 3) | (uint32_t)(bytes[AT_KIND] >> 4) << 24};
     return stamp;
 }
 
-int mtl_stamp_is_of(const struct stamp *stamp, uint32_t sectors)
+int mtl_stamp_is_of(const struct stamp *stamp, uint32_t sectors, uint32_t blocks)
 {
     int is_known = stamp->kind == STAMP_VALUE ? stamp->count == 1 : (stamp->kind == STAMP_TRIM || stamp->kind == STAMP_LOST) && stamp->count > 0;
-    return is_known && stamp->sector < sectors && stamp->count <= sectors - stamp->sector;
+    int has_block = !mtl_names(stamp) || (stamp->erases >> 24 <= STAMP_BROKEN >> 24 && mtl_named(stamp) < blocks);
+    return is_known && has_block && stamp->sector < sectors && stamp->count <= sectors - stamp->sector;
 }
 
 void mtl_stamp_into(uint8_t *bytes, const struct stamp *stamp, uint32_t page_crc)
 {
-    put(bytes + AT_KIND, stamp->kind, 1);
+    put(bytes + AT_KIND, stamp->kind | stamp->erases >> 24 << 4, 1);
     put(bytes + AT_NUMBER, stamp->number, 7);
     put(bytes + AT_SECTOR, stamp->sector, 4);
     put(bytes + AT_COUNT, stamp->count, 3);

@@ -7,15 +7,30 @@
  * where the page is read whole: the last one of its block, each one of a block with a gap, one that the device can't have, and where two pages have
  * the newest version. */
 
-/* The same by the mount's number of a block. */
+/* Reads a page by the mount's number of its block. A good block that a page names, if it is whole, has failed and wasn't marked. */
 static int read_page(struct mintlintel_flash *flash, uint32_t block, uint32_t page, void *main, struct stamp *stamp)
 {
-    return mtl_read_page(flash, flash->chip_block[block], page, main, stamp);
+    int reading = mtl_read_page(flash, flash->chip_block[block], page, main, stamp);
+    uint32_t named = reading == 0 && mtl_keeps_marks(flash) && mtl_names(stamp) ? mtl_named(stamp) : flash->numbers.blocks;
+    if (named >= flash->numbers.blocks || flash->state[named] >= FAILED)
+        return reading;
+    struct stamp whole = *stamp;
+    int fits = main ? 0 : mtl_read_page(flash, flash->chip_block[block], page, flash->page, &whole);
+    if (fits == 0) {
+        flash->state[named] = stamp->erases < STAMP_BROKEN ? FAILED : BROKEN;
+        flash->failed++;
+    }
+    return fits == 3 ? 3 : reading;
 }
 
 static uint64_t number_of(const struct noted *noted)
 {
     return (uint64_t)noted->number_high << 32 | noted->number_low;
+}
+
+static int is_of(const struct mintlintel_flash *flash, const struct stamp *stamp)
+{
+    return mtl_stamp_is_of(stamp, flash->numbers.sectors, flash->numbers.blocks);
 }
 
 /* A page's stamp as it was noted: 0 with it, or 1, 2 or 3. One that is of several sectors is read again. */
@@ -26,7 +41,7 @@ static int noted_stamp(struct mintlintel_flash *flash, uint32_t block, const str
     if (noted->reading != 0 || !noted->is_of_several)
         return noted->reading;
     int reading = read_page(flash, block, page, NULL, stamp);
-    int is_same = reading == 0 && stamp->number == number_of(noted) && stamp->sector == noted->sector && mtl_stamp_is_of(stamp, flash->numbers.sectors);
+    int is_same = reading == 0 && stamp->number == number_of(noted) && stamp->sector == noted->sector && is_of(flash, stamp);
     return is_same || reading != 0 ? reading : 2;
 }
 
@@ -45,13 +60,13 @@ static uint32_t note_newest(struct mintlintel_flash *flash, uint32_t block, cons
     return MINTLINTEL_DONE;
 }
 
-/* By how many erases the newest version of a block tells that it was erased: an open knows it from there. */
+/* By how many erases the newest version of a block that tells them says that it was erased: an open knows it from there. */
 static uint32_t note_erases(struct mintlintel_flash *flash, uint32_t block, const struct noted *pages)
 {
     const struct noted *newest = NULL;
     struct stamp stamp;
     for (const struct noted *page = pages; page < pages + flash->numbers.pages; page++)
-        if (page->reading == 0 && (!newest || number_of(page) >= number_of(newest)))
+        if (page->reading == 0 && !page->names && (!newest || number_of(page) >= number_of(newest)))
             newest = page;
     if (!newest)
         return MINTLINTEL_DONE;
@@ -65,12 +80,13 @@ static uint32_t note_stamp(struct mintlintel_flash *flash, uint32_t block, struc
 {
     struct stamp stamp = {0, 0, 0, 0, 0};
     uint32_t page = (uint32_t)((size_t)(noted - flash->stamps.pages) % flash->numbers.pages);
-    int reading = read_page(flash, block, page, NULL, &stamp), is_foreign = reading == 0 && !mtl_stamp_is_of(&stamp, flash->numbers.sectors);
+    int reading = read_page(flash, block, page, NULL, &stamp), is_foreign = reading == 0 && !is_of(flash, &stamp);
     if (is_foreign)
         reading = read_page(flash, block, page, flash->page, &stamp);
     if (opening && reading == 0)
         opening->has_trace |= stamp.number > 0;
-    *noted = (struct noted){(uint32_t)stamp.number, stamp.sector, (uint32_t)(stamp.number >> 32) & 0xffffff, (unsigned)reading & 3, stamp.count > 1};
+    *noted = (struct noted){(uint32_t)stamp.number, stamp.sector, (uint32_t)(stamp.number >> 32) & 0xffffff, (unsigned)reading & 3, stamp.count > 1,
+                            mtl_names(&stamp)};
     return reading == 3 ? MINTLINTEL_POWER_GONE : is_foreign && reading == 0 ? MINTLINTEL_OTHER_DEVICE : MINTLINTEL_DONE;
 }
 
